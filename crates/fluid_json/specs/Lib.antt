@@ -1,0 +1,10 @@
+pub mod Tree
+pub mod Code
+pub mod View
+pub mod Falls
+pub mod Unless
+pub mod Spelled
+pub mod Printed
+pub mod Tokens
+pub mod Converted
+pub mod Laws
