@@ -1,0 +1,8 @@
+pub mod Options
+pub mod Told
+mod Writes
+mod Answered
+mod Collecting
+mod Firsts
+mod Fronts
+mod Pieces
