@@ -1,0 +1,2 @@
+pub mod EntryNames
+pub mod Ledgers

@@ -1,0 +1,11 @@
+pub mod Contents
+pub mod Fits
+pub mod Forms
+pub mod Ledger
+pub mod Messages
+pub mod Names
+pub mod Printed
+pub mod Records
+pub mod Spellings
+pub mod Texts
+pub mod Words

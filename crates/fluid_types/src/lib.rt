@@ -1,0 +1,24 @@
+// The names and records of the protocol, with public fields: what clients hand to a document, the
+// messages that it puts in order, and its refusals. Every other crate speaks of these.
+#![tactic(auto)]
+
+pub mod contents;
+pub mod entries;
+pub mod fault;
+pub mod messages;
+pub mod nacks;
+pub mod names;
+pub mod verdicts;
+pub mod words;
+
+pub use contents::body;
+pub use entries::{Offered, Raw, Scopes, Submission};
+pub use fault::{BlobFault, CodecFault, Field, What};
+pub use messages::{Kind, Message};
+pub use nacks::{Nack, NackKind, NackRule};
+pub use names::{Address, ClientId, DocName, NameFault};
+pub use verdicts::Verdict;
+pub use words::{RawKind, Word, of_word};
+
+#[cfg(test)]
+mod tests;
