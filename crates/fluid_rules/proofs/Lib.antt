@@ -1,0 +1,13 @@
+pub mod Clients
+pub mod Computed
+pub mod Steps
+pub mod Pushed
+pub mod Ids
+pub mod Legal
+pub mod Least
+pub mod Joined
+pub mod Minimum
+pub mod Verdicts
+pub mod Growth
+pub mod Refusals
+pub mod Settled

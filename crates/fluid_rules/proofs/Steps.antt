@@ -1,0 +1,90 @@
+-- What one entry more changes of what is said of a client.
+use Rattle.std.proofs.Common.{◌≡◌, ℕ, Bool, true, false, List, ◌∷◌, Option, Some, None, refl, bytes_eq}
+use Rattle.fluid_types.specs.declared.entries.Raw.TheVariants.{Join, Leave, Submit, Report}
+use Rattle.fluid_types.specs.declared.entries.Scopes.{Scopes}
+use Rattle.fluid_types.specs.declared.entries.Submission.{Submission}
+use Rattle.fluid_types.specs.declared.nacks.Nack.{Nack}
+use Rattle.fluid_types.specs.declared.messages.Message.{Message}
+use Rattle.fluid_types.specs.declared.verdicts.Verdict.TheVariants.{Sequenced, Nacked, Dropped}
+use Rattle.fluid_rules.specs.Past.{Entry, Past, membership, tail, last_number, is_nacked, reference_from, reference, entered_at, minimum, client, client_behind, latest, refused, is_below}
+
+-- a sequenced join
+join_step : (b : Bool) (past : Past) (id c : List ℕ) (scopes : Scopes) (detail : _) (moment : ℕ) (m : Message) →
+    bytes_eq id c ≡ b →
+    client ((Join id scopes detail moment, Sequenced m) ∷ past) c
+    ≡ client_behind (Join id scopes detail moment, Sequenced m) (minimum past) c (client past c)
+unfolding client membership tail last_number is_nacked reference_from reference entered_at
+join_step true past id c scopes detail moment m h = rw h refl
+join_step false past id c scopes detail moment m h = rw h refl
+
+leave_step : (b : Bool) (past : Past) (id c : List ℕ) (moment : ℕ) (m : Message) →
+    bytes_eq id c ≡ b →
+    client ((Leave id moment, Sequenced m) ∷ past) c
+    ≡ client_behind (Leave id moment, Sequenced m) (minimum past) c (client past c)
+unfolding client membership tail last_number is_nacked reference_from reference entered_at
+leave_step true past id c moment m h = rw h refl
+leave_step false past id c moment m h = rw h refl
+
+-- a sequenced submission of the client itself
+submit_own : (past : Past) (id c : List ℕ) (submission : Submission) (moment : ℕ) (m : Message) →
+    bytes_eq id c ≡ true → (held : Option Scopes) → membership past c ≡ held → (below : Option ℕ) → latest (refused c) (tail past c) ≡ below →
+    client ((Submit id submission moment, Sequenced m) ∷ past) c
+    ≡ client_behind (Submit id submission moment, Sequenced m) (minimum past) c (client past c)
+unfolding client membership tail last_number is_nacked reference_from reference entered_at
+submit_own past id c submission moment m h None held below refused = rw (h, held) refl
+submit_own past id c submission moment m h (Some scopes) held None refused = rw (h, held, refused) refl
+submit_own past id c submission moment m h (Some scopes) held (Some k) refused = rw (h, held, refused) refl
+
+submit_step : (b : Bool) (past : Past) (id c : List ℕ) (submission : Submission) (moment : ℕ) (m : Message) →
+    bytes_eq id c ≡ b →
+    client ((Submit id submission moment, Sequenced m) ∷ past) c
+    ≡ client_behind (Submit id submission moment, Sequenced m) (minimum past) c (client past c)
+unfolding client membership tail last_number is_nacked reference_from reference entered_at
+submit_step true past id c submission moment m h =
+    submit_own past id c submission moment m h (membership past c) refl (latest (refused c) (tail past c)) refl
+submit_step false past id c submission moment m h = rw h refl
+
+-- a nack of a submission
+nack_own : (past : Past) (id c : List ℕ) (submission : Submission) (moment : ℕ) (nack : Nack) →
+    bytes_eq id c ≡ true → (below : Bool) → is_below nack.rule ≡ below → (held : Option Scopes) → membership past c ≡ held →
+    client ((Submit id submission moment, Nacked nack) ∷ past) c
+    ≡ client_behind (Submit id submission moment, Nacked nack) (minimum past) c (client past c)
+unfolding client membership tail last_number is_nacked reference_from reference entered_at
+nack_own past id c submission moment nack h true below None held = rw (h, held) refl
+nack_own past id c submission moment nack h true below (Some scopes) held = rw (h, held, below) refl
+nack_own past id c submission moment nack h false below None held = rw (h, held) refl
+nack_own past id c submission moment nack h false below (Some scopes) held = rw (h, held, below) refl
+
+nack_step : (b : Bool) (past : Past) (id c : List ℕ) (submission : Submission) (moment : ℕ) (nack : Nack) →
+    bytes_eq id c ≡ b →
+    client ((Submit id submission moment, Nacked nack) ∷ past) c
+    ≡ client_behind (Submit id submission moment, Nacked nack) (minimum past) c (client past c)
+unfolding client membership tail last_number is_nacked reference_from reference entered_at
+nack_step true past id c submission moment nack h =
+    nack_own past id c submission moment nack h (is_below nack.rule) refl (membership past c) refl
+nack_step false past id c submission moment nack h = rw h refl
+
+drop_step : (b : Bool) (past : Past) (id c : List ℕ) (submission : Submission) (moment : ℕ) (held : Option Scopes) →
+    bytes_eq id c ≡ b → membership past c ≡ held →
+    client ((Submit id submission moment, Dropped) ∷ past) c
+    ≡ client_behind (Submit id submission moment, Dropped) (minimum past) c (client past c)
+unfolding client membership tail last_number is_nacked reference_from reference entered_at
+drop_step true past id c submission moment None h held = rw (h, held) refl
+drop_step true past id c submission moment (Some scopes) h held = rw (h, held) refl
+drop_step false past id c submission moment held h is = rw h refl
+
+-- what an entry makes of what is said of a client
+pub client_step : (entry : Entry) (past : Past) (c : List ℕ) → client (entry ∷ past) c ≡ client_behind entry (minimum past) c (client past c)
+unfolding client membership tail last_number is_nacked reference_from reference entered_at
+client_step (Join id scopes detail moment, Sequenced m) past c = join_step (bytes_eq id c) past id c scopes detail moment m refl
+client_step (Join id scopes detail moment, Nacked nack) past c = refl
+client_step (Join id scopes detail moment, Dropped) past c = refl
+client_step (Leave id moment, Sequenced m) past c = leave_step (bytes_eq id c) past id c moment m refl
+client_step (Leave id moment, Nacked nack) past c = refl
+client_step (Leave id moment, Dropped) past c = refl
+client_step (Submit id submission moment, Sequenced m) past c = submit_step (bytes_eq id c) past id c submission moment m refl
+client_step (Submit id submission moment, Nacked nack) past c = nack_step (bytes_eq id c) past id c submission moment nack refl
+client_step (Submit id submission moment, Dropped) past c = drop_step (bytes_eq id c) past id c submission moment (membership past c) refl refl
+client_step (Report summary found moment, Sequenced m) past c = refl
+client_step (Report summary found moment, Nacked nack) past c = refl
+client_step (Report summary found moment, Dropped) past c = refl

@@ -1,0 +1,122 @@
+-- What the verdict on a submission tells, read from its table of cases.
+use Rattle.std.proofs.Common.{◌≡◌, ℕ, ◌+◌, ◌≤◌, zero, suc, ℤ, pos, negsuc, Bool, true, false, not, ◌&&◌, List, [], ◌∷◌, refl, sym, ◌∙◌, ap, ◌⊎◌, inl, inr, arith, int_lt, if◌then◌else◌}
+use Rattle.std.proofs.lemmas.Bool.{ltb-false}
+use Rattle.fluid_types.specs.declared.entries.Raw.TheVariants.{Submit}
+use Rattle.fluid_types.specs.declared.entries.Submission.{Submission}
+use Rattle.fluid_types.specs.declared.nacks.Nack.{Nack}
+use Rattle.fluid_types.specs.declared.nacks.NackRule.{NackRule}
+use Rattle.fluid_types.specs.declared.nacks.NackRule.TheVariants.{Gap, Nonexistent, Below, Ahead, Scope}
+use Rattle.fluid_types.specs.declared.messages.Message.{Message}
+use Rattle.fluid_types.specs.declared.verdicts.Verdict.{Verdict}
+use Rattle.fluid_types.specs.declared.verdicts.Verdict.TheVariants.{Sequenced, Nacked, Dropped}
+use Rattle.fluid_types.specs.Ledger.{Ledger, seq}
+use Rattle.fluid_rules.specs.Past.{is_below, count_of}
+use Rattle.fluid_rules.specs.Rules.{first_case, leaves_reference, minimum, unsettled, message, nack, is_duplicate, leaves_gap, is_nonexistent, is_below_minimum, is_ahead, lacks_scope, submission_verdict}
+
+-- a sequenced submission: no case before the last fits
+abbrev Chain : Bool → Bool → Bool → Bool → Bool → Bool → Verdict → Verdict → Verdict → Verdict → Verdict → Verdict → Verdict
+Chain one two three four five six gap nonexistent below ahead scope last =
+    first_case ((one, Dropped) ∷ (two, gap) ∷ (three, nonexistent) ∷ (four, below) ∷ (five, ahead) ∷ (six, scope) ∷ []) last
+
+record NoCase (one two three four five six : Bool) : Type 0 where
+  pub one_not : one ≡ false
+  pub two_not : two ≡ false
+  pub three_not : three ≡ false
+  pub four_not : four ≡ false
+  pub five_not : five ≡ false
+  pub six_not : six ≡ false
+
+sequenced_case : (one two three four five six : Bool) (gap nonexistent below ahead scope : Nack) (last m : Message) →
+    Sequenced m ≡ Chain one two three four five six (Nacked gap) (Nacked nonexistent) (Nacked below) (Nacked ahead) (Nacked scope) (Sequenced last) →
+    (m ≡ last) × NoCase one two three four five six
+sequenced_case true two three four five six gap nonexistent below ahead scope last m h = absurd (cc)
+sequenced_case false true three four five six gap nonexistent below ahead scope last m h = absurd (cc)
+sequenced_case false false true four five six gap nonexistent below ahead scope last m h = absurd (cc)
+sequenced_case false false false true five six gap nonexistent below ahead scope last m h = absurd (cc)
+sequenced_case false false false false true six gap nonexistent below ahead scope last m h = absurd (cc)
+sequenced_case false false false false false true gap nonexistent below ahead scope last m h = absurd (cc)
+sequenced_case false false false false false false gap nonexistent below ahead scope last m h =
+    (cc, record { one_not = refl; two_not = refl; three_not = refl; four_not = refl; five_not = refl; six_not = refl })
+
+-- a nack: one of the five, and where it is below the minimum, the three cases before don't fit
+nacked_case : (one two three four five six : Bool) (gap nonexistent below ahead scope : Nack) (last : Message) (n : Nack) →
+    Nacked n ≡ Chain one two three four five six (Nacked gap) (Nacked nonexistent) (Nacked below) (Nacked ahead) (Nacked scope) (Sequenced last) →
+    (n ≡ gap) ⊎ ((n ≡ nonexistent) ⊎ (((n ≡ below) × (three ≡ false)) ⊎ ((n ≡ ahead) ⊎ (n ≡ scope))))
+nacked_case true two three four five six gap nonexistent below ahead scope last n h = absurd (cc)
+nacked_case false true three four five six gap nonexistent below ahead scope last n h = inl (cc)
+nacked_case false false true four five six gap nonexistent below ahead scope last n h = inr (inl (cc))
+nacked_case false false false true five six gap nonexistent below ahead scope last n h = inr (inr (inl (cc, refl)))
+nacked_case false false false false true six gap nonexistent below ahead scope last n h = inr (inr (inr (inl (cc))))
+nacked_case false false false false false true gap nonexistent below ahead scope last n h = inr (inr (inr (inr (cc))))
+nacked_case false false false false false false gap nonexistent below ahead scope last n h = absurd (cc)
+
+-- ---- the verdict on a submission
+
+pub record WasSequenced (ledger : Ledger) (c : List ℕ) (submission : Submission) (moment : ℕ) (m : Message) : Type 0 where
+  pub is_message : m ≡ message ledger (Submit c submission moment)
+  pub not_below : is_below_minimum ledger submission ≡ false
+  pub not_ahead : is_ahead ledger submission ≡ false
+
+pub sequenced-was : (ledger : Ledger) (c : List ℕ) (submission : Submission) (moment : ℕ) (m : Message) →
+    Sequenced m ≡ submission_verdict ledger c submission moment → WasSequenced ledger c submission moment m
+unfolding submission_verdict nack
+sequenced-was ledger c submission moment m h =
+    let found =
+    sequenced_case (is_duplicate ledger c submission) (leaves_gap ledger c submission) (is_nonexistent ledger c) (is_below_minimum ledger submission) (is_ahead ledger submission) (lacks_scope ledger c submission)
+    (nack ledger submission Gap) (nack ledger submission Nonexistent) (nack ledger submission Below) (nack ledger submission Ahead) (nack ledger submission Scope)
+    (message ledger (Submit c submission moment)) m h in
+    record { is_message = found.0; not_below = found.1.four_not; not_ahead = found.1.five_not }
+
+pub record WasNacked (ledger : Ledger) (c : List ℕ) (n : Nack) : Type 0 where
+  pub minimum_is : n.minimum ≡ pos (minimum ledger)
+  pub was_in_order : is_below n.rule ≡ true → is_nonexistent ledger c ≡ false
+
+nacked_of : (ledger : Ledger) (c : List ℕ) (submission : Submission) (rule : NackRule) (n : Nack) → is_below rule ≡ false →
+    n ≡ nack ledger submission rule → WasNacked ledger c n
+unfolding nack
+nacked_of ledger c submission rule n other h = record {
+  minimum_is = ap (λ n. n.minimum) h;
+  was_in_order = λ below. absurd (let no : true ≡ false = sym below ∙ ap (λ n. is_below n.rule) h ∙ other in cc);
+}
+
+pub nacked-was : (ledger : Ledger) (c : List ℕ) (submission : Submission) (moment : ℕ) (n : Nack) →
+    Nacked n ≡ submission_verdict ledger c submission moment → WasNacked ledger c n
+unfolding submission_verdict nack
+nacked-was ledger c submission moment n h =
+    elim
+    (nacked_case (is_duplicate ledger c submission) (leaves_gap ledger c submission) (is_nonexistent ledger c) (is_below_minimum ledger submission) (is_ahead ledger submission) (lacks_scope ledger c submission)
+    (nack ledger submission Gap) (nack ledger submission Nonexistent) (nack ledger submission Below) (nack ledger submission Ahead) (nack ledger submission Scope)
+    (message ledger (Submit c submission moment)) n h) [
+      | inl gap ↦ nacked_of ledger c submission Gap n refl gap
+      | inr more ↦ elim more [
+        | inl nonexistent ↦ nacked_of ledger c submission Nonexistent n refl nonexistent
+        | inr more ↦ elim more [
+          | inl below ↦ record { minimum_is = ap (λ n. n.minimum) below.0; was_in_order = λ _. below.1 }
+          | inr more ↦ elim more [
+            | inl ahead ↦ nacked_of ledger c submission Ahead n refl ahead
+            | inr scope ↦ nacked_of ledger c submission Scope n refl scope
+          ]
+        ]
+      ]
+    ]
+
+-- ---- the reference in the message of a sequenced submission
+
+referenced : (reference : ℤ) (least sequence number : ℕ) → least ≤ sequence → number ≡ sequence + 1 →
+    (not (leaves_reference reference) && int_lt reference (pos least)) ≡ false → int_lt (pos sequence) reference ≡ false →
+    (least ≤ count_of (if leaves_reference reference then pos number else reference))
+    × (count_of (if leaves_reference reference then pos number else reference) ≤ number)
+referenced (pos n) least sequence number h at below ahead =
+    let low : least ≤ n = ltb-false n least below in
+    let most : n ≤ sequence = ltb-false sequence n ahead in
+    (low, omega arith)
+referenced (negsuc zero) least sequence number h at below ahead = (omega arith, omega arith)
+referenced (negsuc (suc n)) least sequence number h at below ahead = absurd (cc)
+
+-- it isn't below the minimum, and at most the message's number
+pub reference-within : (ledger : Ledger) (c : List ℕ) (submission : Submission) (moment : ℕ) (m : Message) → minimum ledger ≤ seq ledger →
+    WasSequenced ledger c submission moment m → (minimum ledger ≤ count_of m.reference) × (count_of m.reference ≤ seq ledger + 1)
+unfolding message unsettled
+reference-within ledger c submission moment m h was =
+    let within = referenced submission.reference (minimum ledger) (seq ledger) (seq ledger + 1) h refl was.not_below was.not_ahead in
+    rw was.is_message within

@@ -1,0 +1,58 @@
+-- The laws of the sequencing rules, each about every ledger.
+use Rattle.std.specs.Prelude.{◌≡◌, ◌≤◌, ℕ, List, [], ◌∷◌, ◌++◌}
+use Rattle.fluid_types.specs.declared.entries.Raw.{Raw}
+use Rattle.fluid_types.specs.declared.nacks.Nack.{Nack}
+use Rattle.fluid_types.specs.declared.verdicts.Verdict.TheVariants.{Sequenced, Nacked}
+use Rattle.fluid_types.specs.Ledger.{Ledger, raws, seq}
+use Rattle.fluid_rules.specs.Past.{IsLeast, has_id, AreInOrder}
+use Rattle.fluid_rules.specs.Rules.{is_joined, client, refusals, joined, minimum, message, verdict, IsLegal, ledger}
+
+-- the minimum is the least reference of a joined client, and the last sequence number where nobody is joined
+abbrev pub MinimumIsLeast : Type 0
+MinimumIsLeast = (l : Ledger) → IsLeast (client l) (seq l) (minimum l)
+
+-- the minimum of a legal ledger is at most its last sequence number
+abbrev pub MinimumIsBounded : Type 0
+MinimumIsBounded = (l : Ledger) → IsLegal l → minimum l ≤ seq l
+
+-- the minimum never falls as a legal ledger grows
+abbrev pub MinimumNeverFalls : Type 0
+MinimumNeverFalls = (first second : Ledger) → IsLegal (first ++ second) → minimum first ≤ minimum (first ++ second)
+
+-- what a nack leaves as it is
+pub record LeavesOrder (before after : Ledger) : Type 0 where
+  pub same_minimum : minimum after ≡ minimum before
+  pub same_seq : seq after ≡ seq before
+
+-- a nack changes neither the minimum nor the last sequence number
+abbrev pub NackLeavesOrder : Type 0
+NackLeavesOrder = (l : Ledger) (raw : Raw) (nack : Nack) → IsLegal (l ++ (raw, Nacked nack) ∷ []) → LeavesOrder l (l ++ (raw, Nacked nack) ∷ [])
+
+-- in a legal ledger a client is refused as below the minimum at most once since it joined
+abbrev pub RefusedOnce : Type 0
+RefusedOnce = (l : Ledger) → IsLegal l → (c : List ℕ) → refusals l c ≤ 1
+
+-- a message carries the minimum that holds behind it
+abbrev pub MessageHasMinimum : Type 0
+MessageHasMinimum = (l : Ledger) (raw : Raw) → (message l raw).minimum ≡ minimum (l ++ (raw, Sequenced (message l raw)) ∷ [])
+
+-- the joined ids are those of the joined clients, in byte order
+pub record AreJoined (l : Ledger) : Type 0 where
+  pub members : (c : List ℕ) → has_id c (joined l) ≡ is_joined l c
+  pub in_order : AreInOrder (joined l)
+
+abbrev pub JoinedInOrder : Type 0
+JoinedInOrder = (l : Ledger) → AreJoined l
+
+-- the ledger of raw entries is a legal ledger of these entries, and the only one
+pub record IsOnlyLegal (entries : List Raw) : Type 0 where
+  pub legal : IsLegal (ledger entries)
+  pub entries_are : raws (ledger entries) ≡ entries
+  pub only : (l : Ledger) → IsLegal l → raws l ≡ entries → l ≡ ledger entries
+
+abbrev pub LedgerIsOnlyLegal : Type 0
+LedgerIsOnlyLegal = (entries : List Raw) → IsOnlyLegal entries
+
+-- one raw entry more gets its verdict over the ledger of those before it
+abbrev pub LedgerGrows : Type 0
+LedgerGrows = (entries : List Raw) (raw : Raw) → ledger (entries ++ raw ∷ []) ≡ ledger entries ++ (raw, verdict (ledger entries) raw) ∷ []

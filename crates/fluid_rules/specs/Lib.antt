@@ -1,0 +1,4 @@
+pub mod Past
+pub mod Rules
+pub mod Examples
+pub mod Laws

@@ -1,0 +1,47 @@
+// The laws of the sequencing rules. Each is the contract of a function that does nothing.
+ghost use Rattle.fluid_rules.specs.Laws.{MinimumIsLeast, MinimumIsBounded, MinimumNeverFalls, NackLeavesOrder, RefusedOnce, MessageHasMinimum, JoinedInOrder, LedgerIsOnlyLegal, LedgerGrows};
+
+/// The minimum is the least reference of a joined client, and the last sequence number where nobody is joined.
+pub fn minimum_is_least()
+    ensures { MinimumIsLeast }
+{}
+
+/// The minimum of a legal ledger is at most its last sequence number.
+pub fn minimum_is_bounded()
+    ensures { MinimumIsBounded }
+{}
+
+/// The minimum never falls as a legal ledger grows.
+pub fn minimum_never_falls()
+    ensures { MinimumNeverFalls }
+{}
+
+/// A nack changes neither the minimum nor the last sequence number.
+pub fn nack_leaves_order()
+    ensures { NackLeavesOrder }
+{}
+
+/// In a legal ledger a client is refused as below the minimum at most once since it joined.
+pub fn refused_once()
+    ensures { RefusedOnce }
+{}
+
+/// A message carries the minimum that holds behind it.
+pub fn message_has_minimum()
+    ensures { MessageHasMinimum }
+{}
+
+/// The joined ids are those of the joined clients, in byte order.
+pub fn joined_in_order()
+    ensures { JoinedInOrder }
+{}
+
+/// The ledger of raw entries is a legal ledger of these entries, and the only one.
+pub fn ledger_is_only_legal()
+    ensures { LedgerIsOnlyLegal }
+{}
+
+/// One raw entry more gets its verdict over the ledger of those before it.
+pub fn ledger_grows()
+    ensures { LedgerGrows }
+{}
