@@ -1,0 +1,4 @@
+mod Entries
+mod Maps
+mod Places
+pub mod Laws

@@ -1,0 +1,51 @@
+-- The table of joined clients: a finite map from their ids to their rows.
+use Rattle.std.specs.Prelude.{ℕ, Option, Some, None, List, map, min}
+use Rattle.std.specs.List.{reduce}
+use Rattle.std.specs.Ordering.{nat_cmp}
+use Rattle.std.specs.Cmp.Lexicographic.{slice_cmp}
+use Rattle.std.specs.declared.cmp.Ordering.{Ordering}
+use Rattle.std.specs.FinMap.{FinMap, from_sorted, values, code}
+use Rattle.std.specs.Coded.{Coded, code_by, coded×, coded_ℕ, coded_list, coded_bool}
+use Rattle.std.specs.Prelude.{Bool, refl}
+use Rattle.fluid_clients.specs.declared.table.Row.{Row}
+
+-- ids stand in the order of their bytes
+abbrev pub byte_order : List ℕ → List ℕ → Ordering
+byte_order = slice_cmp nat_cmp
+
+-- the row of each joined client under its id
+abbrev pub Rows : Type 0
+Rows = FinMap byte_order Row
+
+-- the map of entries that stand in the order of their ids
+abbrev pub rows_of : List (List ℕ × Row) → Rows
+rows_of = from_sorted
+
+-- the rows, and for how many more there is room already
+pub record Table : Type 0 where
+  pub rows : Rows
+  pub spare : ℕ
+
+-- the least reference among the rows; none where no client is joined
+abbrev pub least : Rows → Option ℕ
+least rows = reduce min (map (λ row. row.reference) (values rows))
+
+-- the lesser of two numbers, either of which may be missing
+abbrev pub lesser : Option ℕ → Option ℕ → Option ℕ
+lesser None other = other
+lesser (Some one) None = Some one
+lesser (Some one) (Some other) = Some (min one other)
+
+-- a row as the tuple of its fields
+abbrev pub row_code : Coded Row
+row_code =
+    code_by (ℕ × (ℕ × (Bool × (Bool × (Bool × Bool))))) (coded× coded_ℕ (coded× coded_ℕ (coded× coded_bool (coded× coded_bool (coded× coded_bool coded_bool)))))
+    (λ row. (row.last, (row.reference, (row.nacked, (row.scopes.read, (row.scopes.write, row.scopes.summary))))))
+    (λ fields. record { last = fields.0; reference = fields.1.0; nacked = fields.1.1.0; scopes = record { read = fields.1.1.1.0; write = fields.1.1.1.1.0; summary = fields.1.1.1.1.1 } })
+    (λ _. refl)
+
+-- a table as the pair of its parts
+abbrev pub table_code : Coded Table
+table_code =
+    code_by (Rows × ℕ) (coded× (code (coded_list coded_ℕ) row_code) coded_ℕ) (λ table. (table.rows, table.spare))
+    (λ parts. record { rows = parts.0; spare = parts.1 }) (λ _. refl)
