@@ -1,0 +1,4 @@
+use Rattle.fluid_turn.proofs.steps.arrive.Given as goal
+
+abbrev pub ghosts-recall : goal.ghosts-recall
+ghosts-recall g a = record { number = a.token.now.id }
