@@ -1,0 +1,345 @@
+-- What holds behind an entry that was prepared in a sound state.
+use Rattle.std.proofs.Common.{◌≡◌, ℕ, ◌+◌, ◌-◌, ◌^◌, ◌<◌, ◌≤◌, ℤ, pos, negsuc, Bool, true, false, cond, List, [], ◌∷◌, ◌++◌, length, Some, None, Option, is_some, bytes_eq, add-zero, refl, sym, ap, subst, ◌∙◌, arith}
+use Rattle.std.specs.Prelude.{int_lt}
+use Rattle.std.specs.Option.{unwrap_or, option_map}
+use Rattle.std.specs.Ordering.{eq_by_cmp}
+use Rattle.std.specs.FinMap.{get, get-insert, get-remove}
+use Rattle.std.proofs.lemmas.Bool.{false≢true, ltb-false}
+use Rattle.std.proofs.lemmas.Option.{none-some, same_Some}
+use Rattle.fluid_types.specs.declared.entries.Raw.{Raw}
+use Rattle.fluid_types.specs.declared.entries.Raw.TheVariants.{Join, Leave, Submit, Report}
+use Rattle.fluid_types.specs.declared.entries.Submission.{Submission}
+use Rattle.fluid_types.specs.declared.messages.Message.{Message}
+use Rattle.fluid_types.specs.declared.nacks.NackRule.{NackRule}
+use Rattle.fluid_types.specs.declared.nacks.NackRule.TheVariants.{Gap, Nonexistent, Below, Ahead, Scope, Unread, NotConnected, ForeignClient, ReadOnly, Full}
+use Rattle.fluid_types.specs.declared.verdicts.Verdict.{Verdict}
+use Rattle.fluid_types.specs.declared.verdicts.Verdict.TheVariants.{Sequenced, Nacked, Dropped}
+use Rattle.fluid_types.specs.Ledger.{Ledger, messages_of}
+use Rattle.fluid_rules.specs.Past.{is_below, count_of}
+use Rattle.fluid_rules.specs.Rules as rules
+use Rattle.fluid_rules.specs.Rules.{unsettled, leaves_reference}
+use Rattle.fluid_clients.specs.declared.table.Row.{Row}
+use Rattle.fluid_clients.specs.Table.{Rows, Table, byte_order, least}
+use Rattle.fluid_clients.proofs.Laws.{byte_order_total}
+use Rattle.fluid_ticket.specs.declared.ready.Change.{Change}
+use Rattle.fluid_ticket.specs.declared.ready.Change.TheVariants.{Nothing, Joins, Leaves, Accepts, Holds}
+use Rattle.fluid_ticket.specs.declared.outcome.Outcome.{Outcome}
+use Rattle.fluid_ticket.specs.declared.outcome.Outcome.TheVariants.{Duplicate, Refused, Admitted}
+use Rattle.fluid_ticket.specs.State.{State, minimum, change_of, changed, after, message_in, given_or, outcome, verdict_of, verdict_in, Prepared, prepared, CanApply, IsSoundRow, IsSound}
+use Rattle.fluid_ticket.specs.Ledger.{state_of, StandsFor}
+use Rattle.fluid_ticket.proofs.Outcomes.{admitted_row, below_row}
+use Rattle.fluid_ticket.proofs.Sound.{minimum-le-sequence, held_minimum}
+use Rattle.fluid_ticket.proofs.Prepares.{reference_is}
+use Rattle.fluid_ticket.proofs.Ledgers.{IsFollowed, get_changed, state_of-push, verdict-state_of}
+
+-- ---- the table has what the change speaks of
+
+refused_below : (rule : NackRule) → is_below rule ≡ true → rule ≡ Below
+refused_below Gap h = absurd (false≢true h)
+refused_below Nonexistent h = absurd (false≢true h)
+refused_below Below h = refl
+refused_below Ahead h = absurd (false≢true h)
+refused_below Scope h = absurd (false≢true h)
+refused_below (Unread fault) h = absurd (false≢true h)
+refused_below NotConnected h = absurd (false≢true h)
+refused_below ForeignClient h = absurd (false≢true h)
+refused_below ReadOnly h = absurd (false≢true h)
+refused_below Full h = absurd (false≢true h)
+
+module _ (s : State) (spare : ℕ) (room : 0 < spare) where
+  abbrev table : Table
+  table = record { rows = s.rows; spare = spare }
+
+  can_hold : (id : List ℕ) (submission : Submission) (rule : NackRule) (below : Bool) → is_below rule ≡ below → outcome s id submission ≡ Refused rule →
+      CanApply (cond below (Holds id submission.client_number (minimum s)) Nothing) table
+  can_hold id submission rule false h is = tt
+  can_hold id submission rule true h is =
+      let there = below_row s id submission (is ∙ ap Refused (refused_below rule h)) in
+      (ap is_some there.1, room)
+
+  can_submit : (id : List ℕ) (submission : Submission) (moment : ℕ) (o : Outcome) → outcome s id submission ≡ o →
+      CanApply (change_of s (Submit id submission moment) (verdict_of s id submission moment o)) table
+  unfolding change_of
+  can_submit id submission moment Duplicate is = tt
+  can_submit id submission moment (Refused rule) is = can_hold id submission rule (is_below rule) refl is
+  can_submit id submission moment Admitted is = (ap is_some (admitted_row s id submission is).1, room)
+
+  pub can_apply : (raw : Raw) → CanApply (prepared s raw).change table
+  unfolding prepared verdict_in change_of
+  can_apply (Join id scopes detail moment) =
+      elim (get s.rows id) as (λ o. get s.rows id ≡ o → CanApply (change_of s (Join id scopes detail moment) (cond (is_some o) Dropped (Sequenced (message_in s (Join id scopes detail moment))))) table) [
+        | None ↦ λ there. (there, room)
+        | Some row ↦ λ there. tt
+      ] refl
+  can_apply (Leave id moment) =
+      elim (is_some (get s.rows id)) as (λ b. CanApply (change_of s (Leave id moment) (cond b (Sequenced (message_in s (Leave id moment))) Dropped)) table) [ true ↦ tt | false ↦ tt ]
+  can_apply (Submit id submission moment) = can_submit id submission moment (outcome s id submission) refl
+  can_apply (Report summary found moment) = tt
+
+-- ---- what was sequenced is the message
+
+joined_message : (b : Bool) (x m : Message) → cond b Dropped (Sequenced x) ≡ Sequenced m → m ≡ x
+joined_message true x m is = cc
+joined_message false x m is = cc
+
+left_message : (b : Bool) (x m : Message) → cond b (Sequenced x) Dropped ≡ Sequenced m → m ≡ x
+left_message true x m is = cc
+left_message false x m is = cc
+
+submitted_message : (s : State) (id : List ℕ) (submission : Submission) (moment : ℕ) (o : Outcome) (m : Message) → verdict_of s id submission moment o ≡ Sequenced m → m ≡ message_in s (Submit id submission moment)
+submitted_message s id submission moment Duplicate m is = cc
+submitted_message s id submission moment (Refused rule) m is = cc
+submitted_message s id submission moment Admitted m is = cc
+
+pub is_message_in : (s : State) (raw : Raw) (m : Message) → verdict_in s raw ≡ Sequenced m → m ≡ message_in s raw
+unfolding verdict_in
+is_message_in s (Join id scopes detail moment) m is = joined_message (is_some (get s.rows id)) _ m is
+is_message_in s (Leave id moment) m is = left_message (is_some (get s.rows id)) _ m is
+is_message_in s (Submit id submission moment) m is = submitted_message s id submission moment (outcome s id submission) m is
+is_message_in s (Report summary found moment) m is = cc
+
+number_in : (s : State) (raw : Raw) → (message_in s raw).number ≡ s.sequence + 1
+unfolding message_in unsettled
+number_in s (Join id scopes detail moment) = refl
+number_in s (Leave id moment) = refl
+number_in s (Submit id submission moment) = refl
+number_in s (Report summary found moment) = refl
+
+-- the minimum in a message has no part in what it changes
+settled : (s : State) (raw : Raw) (m : Message) (n : ℕ) → after s raw (Sequenced (record m { minimum = n })) ≡ after s raw (Sequenced m)
+unfolding after change_of
+settled s (Join id scopes detail moment) m n = refl
+settled s (Leave id moment) m n = refl
+settled s (Submit id submission moment) m n = refl
+settled s (Report summary found moment) m n = refl
+
+minimum_in : (s : State) (raw : Raw) → (message_in s raw).minimum ≡ minimum (after s raw (Sequenced (message_in s raw)))
+unfolding message_in
+minimum_in s raw = ap minimum (sym (settled s raw (unsettled (s.sequence + 1) raw) _))
+
+-- ---- the state behind
+
+-- the parts of what was prepared
+pub record HasParts (s : State) (raw : Raw) (verdict : Verdict) (change : Change) : Type 0 where
+  pub verdict_is : verdict ≡ verdict_in s raw
+  pub change_is : change ≡ change_of s raw verdict
+
+pub parts_of : (s : State) (raw : Raw) (parts : Verdict × Change) (ready : Prepared) → parts ≡ (ready.verdict, ready.change) → ready ≡ prepared s raw → HasParts s raw parts.0 parts.1
+unfolding prepared
+parts_of s raw parts ready pair is =
+    let verdict = ap (λ (p : Verdict × Change). p.0) pair ∙ ap (λ (r : Prepared). r.verdict) is in
+    record {
+      verdict_is = verdict;
+      change_is = ap (λ (p : Verdict × Change). p.1) pair ∙ ap (λ (r : Prepared). r.change) is ∙ ap (change_of s raw) (sym verdict);
+    }
+
+same_state : (s t : State) → s.sequence ≡ t.sequence → s.rows ≡ t.rows → s ≡ t
+same_state s t sequence rows = λ i. record { sequence = sequence i; rows = rows i }
+
+module _ (s : State) (raw : Raw) (verdict : Verdict) (change : Change) (parts : HasParts s raw verdict change) (rows : Rows) (applied : rows ≡ changed change s.rows) where
+  rows_after : rows ≡ (after s raw verdict).rows
+  unfolding after
+  rows_after = applied ∙ ap (λ c. changed c s.rows) parts.change_is
+
+  pub after_sequenced : (m : Message) → verdict ≡ Sequenced m → record { sequence = m.number; rows = rows } ≡ after s raw verdict
+  unfolding after
+  after_sequenced m is =
+      same_state _ _
+      (ap (λ (x : Message). x.number) (is_message_in s raw m (sym parts.verdict_is ∙ is)) ∙ number_in s raw ∙ ap (λ v. s.sequence + length (messages_of v)) (sym is))
+      rows_after
+
+  pub after_other : ((m : Message) → verdict ≡ Sequenced m → ⊥) → record { sequence = s.sequence; rows = rows } ≡ after s raw verdict
+  unfolding after
+  after_other other = same_state _ _ (none verdict other) rows_after
+    where
+      none : (v : Verdict) → ((m : Message) → v ≡ Sequenced m → ⊥) → s.sequence ≡ s.sequence + length (messages_of v)
+      none (Sequenced m) other = absurd (other m refl)
+      none (Nacked nack) other = omega arith
+      none Dropped other = omega arith
+
+-- ---- it is sound
+
+rise : (m n : ℕ) (row : Row) → IsSoundRow m row → m ≤ n → IsSoundRow n row
+rise m n row sound le = record {
+  reference = let low = sound.reference in omega arith;
+  last = λ in_order. let low = sound.last in_order in omega arith;
+}
+
+-- the rows that a change brings are sound
+abbrev BringsSound : State → ℕ → Change → Type 0
+BringsSound s n Nothing = Unit {0}
+BringsSound s n (Joins id row) = IsSoundRow n row
+BringsSound s n (Leaves id) = Unit {0}
+BringsSound s n (Accepts id number reference) = (row : Row) → get s.rows id ≡ Some row → IsSoundRow n (record row { last = number; reference = reference })
+BringsSound s n (Holds id number least) = (row : Row) → get s.rows id ≡ Some row → IsSoundRow n (record row { last = number; reference = least; nacked = true })
+
+picked : (n : ℕ) (b : Bool) (row other : Row) (o : Option Row) → cond b (Some row) o ≡ Some other → IsSoundRow n row → (o ≡ Some other → IsSoundRow n other) → IsSoundRow n other
+picked n true row other o is sound rest = subst (IsSoundRow n) (same_Some _ _ is) sound
+picked n false row other o is sound rest = rest is
+
+kept_rows : (n : ℕ) (b : Bool) (other : Row) (o : Option Row) → cond b None o ≡ Some other → (o ≡ Some other → IsSoundRow n other) → IsSoundRow n other
+kept_rows n true other o is rest = absurd (none-some _ is)
+kept_rows n false other o is rest = rest is
+
+changed_row : (n : ℕ) (b : Bool) (f : Row → Row) (there o : Option Row) (other : Row) → cond b (option_map f there) o ≡ Some other →
+    ((row : Row) → there ≡ Some row → IsSoundRow n (f row)) → (o ≡ Some other → IsSoundRow n other) → IsSoundRow n other
+changed_row n false f there o other is sound rest = rest is
+changed_row n true f None o other is sound rest = absurd (none-some _ is)
+changed_row n true f (Some row) o other is sound rest = subst (IsSoundRow n) (same_Some _ _ is) (sound row refl)
+
+module _ (s : State) (n : ℕ) (sound : IsSound s) (le : s.sequence ≤ n) where
+  old : (q : List ℕ) (row : Row) → get s.rows q ≡ Some row → IsSoundRow n row
+  old q row there = rise s.sequence n row (sound.rows q row there) le
+
+  rows_sound : (change : Change) → BringsSound s n change → (q : List ℕ) (row : Row) → get (changed change s.rows) q ≡ Some row → IsSoundRow n row
+  rows_sound Nothing brings q row there = old q row there
+  rows_sound (Joins id new) brings q row there =
+      picked n (eq_by_cmp byte_order q id) new row (get s.rows q) (sym (get-insert byte_order_total s.rows id new q) ∙ there) brings (old q row)
+  rows_sound (Leaves id) brings q row there =
+      kept_rows n (eq_by_cmp byte_order q id) row (get s.rows q) (sym (get-remove byte_order_total s.rows id q) ∙ there) (old q row)
+  rows_sound (Accepts id number reference) brings q row there =
+      let f : Row → Row = λ row. record row { last = number; reference = reference } in
+      changed_row n (bytes_eq id q) f (get s.rows id) (get s.rows q) row (sym (get_changed s.rows id q f (get s.rows id) refl) ∙ there) brings (old q row)
+  rows_sound (Holds id number least) brings q row there =
+      let f : Row → Row = λ row. record row { last = number; reference = least; nacked = true } in
+      changed_row n (bytes_eq id q) f (get s.rows id) (get s.rows q) row (sym (get_changed s.rows id q f (get s.rows id) refl) ∙ there) brings (old q row)
+
+held_sound : (s : State) (n number : ℕ) (row : Row) → IsSound s → s.sequence ≤ n → IsSoundRow n (record row { last = number; reference = minimum s; nacked = true })
+held_sound s n number row sound le = record {
+  reference = let low = minimum-le-sequence s sound in omega arith;
+  last = λ in_order. absurd (false≢true (sym in_order));
+}
+
+-- an admitted reference is not ahead of the next number
+given_seen : (sequence : ℕ) (reference : ℤ) → int_lt (pos sequence) reference ≡ false → given_or (sequence + 1) reference ≤ sequence + 1
+given_seen sequence (pos n) seen = let low : n ≤ sequence = ltb-false _ _ seen in omega arith
+given_seen sequence (negsuc n) seen = omega arith
+
+accepted_sound : (s : State) (id : List ℕ) (submission : Submission) (moment : ℕ) → IsSound s → outcome s id submission ≡ Admitted →
+    BringsSound s (s.sequence + 1) (Accepts id submission.client_number (count_of (message_in s (Submit id submission moment)).reference))
+unfolding message_in unsettled
+accepted_sound s id submission moment sound is =
+    let admitted = admitted_row s id submission is in
+    λ row there.
+    let same : admitted.0 ≡ row = same_Some _ _ (sym admitted.1 ∙ there) in
+    let next : submission.client_number ≤ admitted.0.last + 1 = admitted.2.next in
+    let last : admitted.0.last ≤ s.sequence = (sound.rows id admitted.0 admitted.1).last admitted.2.in_order in
+    let seen : given_or (s.sequence + 1) submission.reference ≤ s.sequence + 1 = given_seen s.sequence submission.reference admitted.2.seen in
+    record {
+      reference = rw (reference_is (s.sequence + 1) (minimum s) submission.reference admitted.2.high) seen;
+      last = λ in_order. omega arith;
+    }
+
+module _ (s : State) (sound : IsSound s) where
+  refused_brings : (id : List ℕ) (submission : Submission) (below : Bool) → BringsSound s s.sequence (cond below (Holds id submission.client_number (minimum s)) Nothing)
+  refused_brings id submission true = λ row there. held_sound s s.sequence submission.client_number row sound (omega arith)
+  refused_brings id submission false = tt
+
+  brings : (raw : Raw) → BringsSound s (s.sequence + length (messages_of (verdict_in s raw))) (change_of s raw (verdict_in s raw))
+  unfolding verdict_in change_of
+  brings (Join id scopes detail moment) =
+      elim (is_some (get s.rows id)) as (λ b.
+      BringsSound s (s.sequence + length (messages_of (cond b Dropped (Sequenced (message_in s (Join id scopes detail moment))))))
+      (change_of s (Join id scopes detail moment) (cond b Dropped (Sequenced (message_in s (Join id scopes detail moment)))))) [
+        | true ↦ tt
+        | false ↦ record { reference = let low = minimum-le-sequence s sound in omega arith; last = λ in_order. omega arith }
+      ]
+  brings (Leave id moment) =
+      elim (is_some (get s.rows id)) as (λ b.
+      BringsSound s (s.sequence + length (messages_of (cond b (Sequenced (message_in s (Leave id moment))) Dropped)))
+      (change_of s (Leave id moment) (cond b (Sequenced (message_in s (Leave id moment))) Dropped))) [ true ↦ tt | false ↦ tt ]
+  brings (Submit id submission moment) =
+      elim (outcome s id submission) as (λ o. outcome s id submission ≡ o →
+      BringsSound s (s.sequence + length (messages_of (verdict_of s id submission moment o))) (change_of s (Submit id submission moment) (verdict_of s id submission moment o))) [
+        | Duplicate ↦ λ is. tt
+        | Refused rule ↦ λ is. subst (λ n. BringsSound s n (cond (is_below rule) (Holds id submission.client_number (minimum s)) Nothing)) (sym (add-zero s.sequence)) (refused_brings id submission (is_below rule))
+        | Admitted ↦ λ is. accepted_sound s id submission moment sound is
+      ] refl
+  brings (Report summary found moment) = tt
+
+  few_after : (v : Verdict) → s.sequence < 2 ^ 53 - 1 → s.sequence + length (messages_of v) ≤ 2 ^ 53 - 1
+  few_after (Sequenced m) few = omega arith
+  few_after (Nacked nack) few = omega arith
+  few_after Dropped few = omega arith
+
+  pub sound_after : (raw : Raw) (verdict : Verdict) → verdict ≡ verdict_in s raw → s.sequence < 2 ^ 53 - 1 → IsSound (after s raw verdict)
+  unfolding after
+  sound_after raw verdict is few = subst (λ v. IsSound (after s raw v)) (sym is) (record {
+    few = few_after (verdict_in s raw) few;
+    rows = rows_sound s (s.sequence + length (messages_of (verdict_in s raw))) sound (omega arith) (change_of s raw (verdict_in s raw)) (brings raw);
+  })
+
+-- ---- its minimum
+
+pub minimum_sequenced : (s : State) (raw : Raw) (verdict : Verdict) (m : Message) → verdict ≡ verdict_in s raw → verdict ≡ Sequenced m → m.minimum ≡ minimum (after s raw verdict)
+minimum_sequenced s raw verdict m by is =
+    let same = is_message_in s raw m (sym by ∙ is) in
+    ap (λ (x : Message). x.minimum) same ∙ minimum_in s raw ∙ ap (λ x. minimum (after s raw (Sequenced x))) (sym same) ∙ ap (λ v. minimum (after s raw v)) (sym is)
+
+stays : (s : State) → unwrap_or (least s.rows) (s.sequence + 0) ≡ minimum s
+stays s = ap (λ n. unwrap_or (least s.rows) n) (add-zero s.sequence)
+
+held_stays : (s : State) (id : List ℕ) (submission : Submission) (rule : NackRule) (below : Bool) → is_below rule ≡ below → outcome s id submission ≡ Refused rule →
+    unwrap_or (least (changed (cond below (Holds id submission.client_number (minimum s)) Nothing) s.rows)) (s.sequence + 0) ≡ minimum s
+held_stays s id submission rule false h is = stays s
+held_stays s id submission rule true h is =
+    let there = below_row s id submission (is ∙ ap Refused (refused_below rule h)) in
+    rw there.1 (held_minimum s id there.0 (record there.0 { last = submission.client_number; reference = minimum s; nacked = true }) (s.sequence + 0) there.1 refl)
+
+joined_stays : (s : State) (id : List ℕ) (raw : Raw) (b : Bool) (m : Message) → ((x : Message) → cond b Dropped (Sequenced m) ≡ Sequenced x → ⊥) → minimum (after s raw Dropped) ≡ minimum s → minimum (after s raw (cond b Dropped (Sequenced m))) ≡ minimum s
+joined_stays s id raw true m other is = is
+joined_stays s id raw false m other is = absurd (other m refl)
+
+left_stays : (s : State) (id : List ℕ) (raw : Raw) (b : Bool) (m : Message) → ((x : Message) → cond b (Sequenced m) Dropped ≡ Sequenced x → ⊥) → minimum (after s raw Dropped) ≡ minimum s → minimum (after s raw (cond b (Sequenced m) Dropped)) ≡ minimum s
+left_stays s id raw true m other is = absurd (other m refl)
+left_stays s id raw false m other is = is
+
+dropped_stays : (s : State) (raw : Raw) → minimum (after s raw Dropped) ≡ minimum s
+unfolding after change_of
+dropped_stays s (Join id scopes detail moment) = stays s
+dropped_stays s (Leave id moment) = stays s
+dropped_stays s (Submit id submission moment) = stays s
+dropped_stays s (Report summary found moment) = stays s
+
+submitted_stays : (s : State) (id : List ℕ) (submission : Submission) (moment : ℕ) (o : Outcome) → outcome s id submission ≡ o →
+    ((x : Message) → verdict_of s id submission moment o ≡ Sequenced x → ⊥) → minimum (after s (Submit id submission moment) (verdict_of s id submission moment o)) ≡ minimum s
+unfolding after change_of
+submitted_stays s id submission moment Duplicate is other = stays s
+submitted_stays s id submission moment (Refused rule) is other = held_stays s id submission rule (is_below rule) refl is
+submitted_stays s id submission moment Admitted is other = absurd (other _ refl)
+
+other_stays : (s : State) (raw : Raw) → ((m : Message) → verdict_in s raw ≡ Sequenced m → ⊥) → minimum (after s raw (verdict_in s raw)) ≡ minimum s
+unfolding verdict_in
+other_stays s (Join id scopes detail moment) other = joined_stays s id (Join id scopes detail moment) (is_some (get s.rows id)) _ other (dropped_stays s (Join id scopes detail moment))
+other_stays s (Leave id moment) other = left_stays s id (Leave id moment) (is_some (get s.rows id)) _ other (dropped_stays s (Leave id moment))
+other_stays s (Submit id submission moment) other = submitted_stays s id submission moment (outcome s id submission) refl other
+other_stays s (Report summary found moment) other = dropped_stays s (Report summary found moment)
+
+-- what is not sequenced leaves the minimum as it is
+pub minimum_other : (s : State) (raw : Raw) (verdict : Verdict) → verdict ≡ verdict_in s raw → ((m : Message) → verdict ≡ Sequenced m → ⊥) → minimum (after s raw verdict) ≡ minimum s
+minimum_other s raw verdict by other = ap (λ v. minimum (after s raw v)) by ∙ other_stays s raw (λ m is. other m (by ∙ is))
+
+-- ---- what it stands for
+
+followed_submission : (s : State) (id : List ℕ) (submission : Submission) (moment : ℕ) (o : Outcome) → outcome s id submission ≡ o → IsFollowed s (Submit id submission moment) (verdict_of s id submission moment o)
+followed_submission s id submission moment Duplicate is = tt
+followed_submission s id submission moment (Refused rule) is = tt
+followed_submission s id submission moment Admitted is =
+    let admitted = admitted_row s id submission is in
+    λ row there. subst (λ (r : Row). r.nacked ≡ false) (same_Some _ _ (sym admitted.1 ∙ there)) admitted.2.in_order
+
+followed : (s : State) (raw : Raw) → IsFollowed s raw (verdict_in s raw)
+unfolding verdict_in
+followed s (Join id scopes detail moment) = tt
+followed s (Leave id moment) = tt
+followed s (Submit id submission moment) = followed_submission s id submission moment (outcome s id submission) refl
+followed s (Report summary found moment) = tt
+
+-- a state that stood for a ledger stands, behind an entry, for the ledger with this entry
+pub stands_after : (s t : State) (raw : Raw) (verdict : Verdict) (ledger : Ledger) → verdict ≡ verdict_in s raw → t ≡ after s raw verdict → StandsFor s ledger →
+    (verdict ≡ rules.verdict ledger raw) × StandsFor t (ledger ++ (raw, verdict) ∷ [])
+stands_after s t raw verdict ledger by is stands =
+    let in_ledger : verdict ≡ verdict_in (state_of ledger) raw = by ∙ ap (λ u. verdict_in u raw) stands.is in (
+      in_ledger ∙ verdict-state_of ledger raw,
+      record { is = is ∙ ap (λ u. after u raw verdict) stands.is ∙ sym (state_of-push ledger raw verdict (subst (IsFollowed (state_of ledger) raw) (sym in_ledger) (followed (state_of ledger) raw))) },
+    )

@@ -1,0 +1,353 @@
+-- The state of a ledger: what it says of each client, what one entry more makes of it, and its verdicts.
+use Rattle.std.proofs.Common.{◌≡◌, ℕ, ◌+◌, ◌⊎◌, inl, inr, pos, Bool, true, false, cond, ◌||◌, List, [], ◌∷◌, ◌++◌, map, length, Some, None, Option, is_some, bytes_eq, refl, sym, ap, ◌∙◌}
+use Rattle.std.proofs.Common.{Result, Ok, Err, IfOk}
+use Rattle.fluid_json.specs.declared.memory.NoMemory.{NoMemory}
+use Rattle.std.specs.Option.{unwrap_or, option_map}
+use Rattle.std.specs.Ordering.{eq_by_cmp}
+use Rattle.std.specs.Cmp.{eq_by_cmp_equiv}
+use Rattle.std.specs.FinMap.{get, get-from_entries, get-insert, get-remove, same_map}
+use Rattle.std.specs.FinMap.Entries.{find}
+use Rattle.std.proofs.lemmas.Option.{none-some, same_Some}
+use Rattle.std.proofs.lemmas.Map.Text.{is_eq-slice_cmp}
+use Rattle.fluid_types.specs.declared.entries.Raw.{Raw}
+use Rattle.fluid_types.specs.declared.entries.Raw.TheVariants.{Join, Leave, Submit, Report}
+use Rattle.fluid_types.specs.declared.entries.Scopes.{Scopes}
+use Rattle.fluid_types.specs.declared.entries.Submission.{Submission}
+use Rattle.fluid_types.specs.declared.messages.Message.{Message}
+use Rattle.fluid_types.specs.declared.nacks.Nack.{Nack}
+use Rattle.fluid_types.specs.declared.nacks.NackRule.TheVariants.{Gap, Nonexistent, Below, Ahead, Scope}
+use Rattle.fluid_types.specs.declared.verdicts.Verdict.{Verdict}
+use Rattle.fluid_types.specs.declared.verdicts.Verdict.TheVariants.{Sequenced, Nacked, Dropped}
+use Rattle.fluid_types.specs.Ledger.{Ledger, messages_of, order, seq}
+use Rattle.fluid_types.proofs.Ledgers.{seq-push}
+use Rattle.fluid_rules.specs.Past as past
+use Rattle.fluid_rules.specs.Past.{Client, IsLeast, has_id, is_below, count_of, client_behind, client_submitting}
+use Rattle.fluid_rules.specs.Rules as rules
+use Rattle.fluid_rules.specs.Rules.{past_of, is_joined, last_number, is_nacked, reference, scopes, client, joined, unsettled, first_case}
+use Rattle.fluid_rules.proofs.Ids.{same_id}
+use Rattle.fluid_rules.proofs.Minimum.{joined-has, is_joined-client, minimum-is_least, least-unique}
+use Rattle.fluid_rules.proofs.Pushed.{client-push}
+use Rattle.fluid_clients.specs.declared.table.Row.{Row}
+use Rattle.fluid_clients.specs.Table.{Rows, byte_order, least}
+use Rattle.fluid_clients.proofs.Laws.{byte_order_total, byte_order-IsAntisymmetric, least-reached, least-none}
+use Rattle.fluid_ticket.specs.declared.ready.Change.TheVariants.{Nothing, Holds}
+use Rattle.fluid_ticket.specs.declared.outcome.Outcome.TheVariants.{Duplicate, Refused, Admitted}
+use Rattle.fluid_ticket.specs.State as state
+use Rattle.fluid_ticket.specs.State.{State, start, change_of, change_row, changed, after, message_in, first_fit, outcome_by, outcome_at, outcome, verdict_of, verdict_in, Prepared, prepared}
+use Rattle.fluid_ticket.specs.Ledger.{row_of, state_of, StandsFor}
+use Rattle.fluid_ticket.proofs.Sound.{minimum-le-reference}
+
+-- ---- what the state says of a client
+
+-- a row with what is said of its client
+abbrev pub rowed : Client → Row
+rowed c = record { last = c.last; reference = c.reference; nacked = c.nacked; scopes = c.scopes }
+
+-- ids that tie are equal
+ties : (q id : List ℕ) → eq_by_cmp byte_order q id ≡ bytes_eq q id
+ties q id = is_eq-slice_cmp q id
+
+found_at : (f : List ℕ → Row) (q id : List ℕ) (same : Bool) (rest : Option Row) (more : Bool) → bytes_eq q id ≡ same → rest ≡ cond more (Some (f q)) None →
+    cond same (Some (f id)) rest ≡ cond (same || more) (Some (f q)) None
+found_at f q id true rest more h is = ap (λ i. Some (f i)) (sym (same_id q id h))
+found_at f q id false rest more h is = is
+
+found_in : (f : List ℕ → Row) (q : List ℕ) (ids : List (List ℕ)) → find byte_order q (map (λ id. (id, f id)) ids) ≡ cond (has_id q ids) (Some (f q)) None
+found_in f q [] = refl
+found_in f q (id ∷ ids) = rw (ties q id) (found_at f q id (bytes_eq q id) _ (has_id q ids) refl (found_in f q ids))
+
+said_at : (ledger : Ledger) (q : List ℕ) (held : Option Scopes) → past.membership (past_of ledger) q ≡ held →
+    cond (is_joined ledger q) (Some (row_of ledger q)) None ≡ option_map rowed (client ledger q)
+unfolding is_joined last_number is_nacked reference scopes client past.client
+said_at ledger q None h = rw h
+said_at ledger q (Some held) h = rw h
+
+-- the row of a client has what the ledger says of it
+pub get-state_of : (ledger : Ledger) (q : List ℕ) → get (state_of ledger).rows q ≡ option_map rowed (client ledger q)
+unfolding state_of
+get-state_of ledger q =
+    get-from_entries byte_order_total (map (λ id. (id, row_of ledger id)) (joined ledger)) q
+    ∙ found_in (row_of ledger) q (joined ledger)
+    ∙ ap (λ b. cond b (Some (row_of ledger q)) None) (joined-has ledger q)
+    ∙ said_at ledger q (past.membership (past_of ledger) q) refl
+
+sequence-state_of : (ledger : Ledger) → (state_of ledger).sequence ≡ seq ledger
+unfolding state_of
+sequence-state_of ledger = refl
+
+-- ---- the minimum
+
+record SaidOf (o : Option Client) (row : Row) : Type 0 where
+  said : Client
+  is : o ≡ Some said
+  has : rowed said ≡ row
+
+said_of : (o : Option Client) (row : Row) → option_map rowed o ≡ Some row → SaidOf o row
+said_of None row is = absurd (none-some row is)
+said_of (Some c) row is = record { said = c; is = refl; has = same_Some _ _ is }
+
+nothing_of : (o : Option Client) → option_map rowed o ≡ None → o ≡ None
+nothing_of None is = refl
+nothing_of (Some c) is = absurd (none-some _ (sym is))
+
+reached : (ledger : Ledger) (o : Option ℕ) → least (state_of ledger).rows ≡ o →
+    ((c : List ℕ) × ((said : Client) × ((client ledger c ≡ Some said) × (unwrap_or o (seq ledger) ≡ said.reference))))
+    ⊎ (((c : List ℕ) → client ledger c ≡ None) × (unwrap_or o (seq ledger) ≡ seq ledger))
+reached ledger None is = inr (λ c. nothing_of _ (sym (get-state_of ledger c) ∙ least-none (state_of ledger).rows c is), refl)
+reached ledger (Some m) is =
+    let found = least-reached (state_of ledger).rows m is in
+    let said = said_of (client ledger found.id) found.row (sym (get-state_of ledger found.id) ∙ found.there) in
+    inl (found.id, (said.said, (said.is, found.is ∙ ap (λ (row : Row). row.reference) (sym said.has))))
+
+state_least : (ledger : Ledger) → IsLeast (client ledger) (seq ledger) (state.minimum (state_of ledger))
+unfolding state_of
+state_least ledger = record {
+  below = λ c said is. minimum-le-reference (state_of ledger) c (rowed said) (get-state_of ledger c ∙ ap (option_map rowed) is);
+  reached = reached ledger (least (state_of ledger).rows) refl;
+}
+
+-- the minimum of its state is that of the ledger
+pub minimum-state_of : (ledger : Ledger) → state.minimum (state_of ledger) ≡ rules.minimum ledger
+minimum-state_of ledger = least-unique (client ledger) (seq ledger) _ _ (state_least ledger) (minimum-is_least ledger)
+
+-- ---- one entry more
+
+-- a submission that is sequenced is one of a client in order
+abbrev pub IsFollowed : State → Raw → Verdict → Type 0
+IsFollowed s (Submit id submission moment) (Sequenced message) = (row : Row) → get s.rows id ≡ Some row → row.nacked ≡ false
+IsFollowed s raw verdict = Unit {0}
+
+pub tied_back : (q id : List ℕ) → eq_by_cmp byte_order q id ≡ bytes_eq id q
+tied_back q id = (eq_by_cmp_equiv byte_order_total).symm q id ∙ ties id q
+
+nothing_at : (rows : Rows) (id q : List ℕ) (same : Bool) → bytes_eq id q ≡ same → get rows id ≡ None → get rows q ≡ cond same None (get rows q)
+nothing_at rows id q true h none = ap (get rows) (sym (same_id id q h)) ∙ none
+nothing_at rows id q false h none = refl
+
+-- what is in the table under an id behind a change of the row under another
+pub get_changed : (rows : Rows) (id q : List ℕ) (f : Row → Row) (o : Option Row) → get rows id ≡ o →
+    get (change_row id f rows) q ≡ cond (bytes_eq id q) (option_map f o) (get rows q)
+get_changed rows id q f None is = rw is (nothing_at rows id q (bytes_eq id q) refl is)
+get_changed rows id q f (Some row) is = rw is (get-insert byte_order_total rows id (f row) q ∙ ap (λ b. cond b (Some (f row)) (get rows q)) (tied_back q id))
+
+-- a choice between what is said is the choice between the rows
+chosen : (b : Bool) (said other : Option Client) (o : Option Row) → o ≡ option_map rowed other → cond b (option_map rowed said) o ≡ option_map rowed (cond b said other)
+chosen true said other o is = refl
+chosen false said other o is = is
+
+-- a change of a row is a change of what is said, where both agree on what was said
+changed_at : (rows : Rows) (id q : List ℕ) (f : Row → Row) (g : Client → Client) (k : Option Client) (same : Bool) → bytes_eq id q ≡ same →
+    get rows q ≡ option_map rowed k → ((c : Client) → get rows id ≡ Some (rowed c) → f (rowed c) ≡ rowed (g c)) →
+    cond same (option_map f (get rows id)) (get rows q) ≡ option_map rowed (cond same (option_map g k) k)
+changed_at rows id q f g k false h is agree = is
+changed_at rows id q f g None true h is agree = ap (option_map f) (ap (get rows) (same_id id q h) ∙ is)
+changed_at rows id q f g (Some c) true h is agree =
+    let there : get rows id ≡ Some (rowed c) = ap (get rows) (same_id id q h) ∙ is in
+    ap (option_map f) there ∙ ap Some (agree c there)
+
+-- what stays is said as before
+same_said : (b : Bool) (g : Client → Client) (k : Option Client) → ((c : Client) → g c ≡ c) → cond b (option_map g k) k ≡ k
+same_said false g k same = refl
+same_said true g None same = refl
+same_said true g (Some c) same = ap Some (same c)
+
+unheld : (submission : Submission) (nack : Nack) (c : Client) → is_below nack.rule ≡ false → client_submitting submission (Nacked nack) c ≡ c
+unheld submission nack c h = rw h
+
+held : (submission : Submission) (nack : Nack) (c : Client) → is_below nack.rule ≡ true →
+    rowed (client_submitting submission (Nacked nack) c) ≡ record (rowed c) { last = submission.client_number; reference = count_of nack.minimum; nacked = true }
+held submission nack c h = rw h
+
+nacked_get : (s : State) (id : List ℕ) (submission : Submission) (nack : Nack) (q : List ℕ) (k : Option Client) (below : Bool) → is_below nack.rule ≡ below → get s.rows q ≡ option_map rowed k →
+    get (changed (cond below (Holds id submission.client_number (count_of nack.minimum)) Nothing) s.rows) q
+    ≡ option_map rowed (cond (bytes_eq id q) (option_map (client_submitting submission (Nacked nack)) k) k)
+nacked_get s id submission nack q k true h is =
+    get_changed s.rows id q (λ row. record row { last = submission.client_number; reference = count_of nack.minimum; nacked = true }) (get s.rows id) refl
+    ∙ changed_at s.rows id q _ (client_submitting submission (Nacked nack)) k (bytes_eq id q) refl is (λ c there. sym (held submission nack c h))
+nacked_get s id submission nack q k false h is =
+    is ∙ ap (option_map rowed) (sym (same_said (bytes_eq id q) (client_submitting submission (Nacked nack)) k (λ c. unheld submission nack c h)))
+
+in_order : (submission : Submission) (message : Message) (c : Client) → c.nacked ≡ false →
+    record (rowed c) { last = submission.client_number; reference = count_of message.reference } ≡ rowed (client_submitting submission (Sequenced message) c)
+in_order submission message c h = rw h
+
+-- the rows behind an entry have what is then said of each client
+after_get : (s : State) (raw : Raw) (verdict : Verdict) (q : List ℕ) (k : Option Client) → get s.rows q ≡ option_map rowed k → IsFollowed s raw verdict →
+    get (after s raw verdict).rows q ≡ option_map rowed (client_behind (raw, verdict) (state.minimum s) q k)
+unfolding after change_of
+after_get s (Join id scopes detail moment) (Sequenced message) q k is followed =
+    let row : Row = record { last = 0; reference = state.minimum s; nacked = false; scopes = scopes } in
+    get-insert byte_order_total s.rows id row q
+    ∙ ap (λ b. cond b (Some row) (get s.rows q)) (tied_back q id)
+    ∙ chosen (bytes_eq id q) (Some (record { last = 0; reference = state.minimum s; nacked = false; scopes = scopes })) k (get s.rows q) is
+after_get s (Join id scopes detail moment) (Nacked nack) q k is followed = is
+after_get s (Join id scopes detail moment) Dropped q k is followed = is
+after_get s (Leave id moment) (Sequenced message) q k is followed =
+    get-remove byte_order_total s.rows id q
+    ∙ ap (λ b. cond b None (get s.rows q)) (tied_back q id)
+    ∙ chosen (bytes_eq id q) None k (get s.rows q) is
+after_get s (Leave id moment) (Nacked nack) q k is followed = is
+after_get s (Leave id moment) Dropped q k is followed = is
+after_get s (Submit id submission moment) (Sequenced message) q k is followed =
+    get_changed s.rows id q (λ row. record row { last = submission.client_number; reference = count_of message.reference }) (get s.rows id) refl
+    ∙ changed_at s.rows id q _ (client_submitting submission (Sequenced message)) k (bytes_eq id q) refl is
+    (λ c there. in_order submission message c (followed (rowed c) there))
+after_get s (Submit id submission moment) (Nacked nack) q k is followed = nacked_get s id submission nack q k (is_below nack.rule) refl is
+after_get s (Submit id submission moment) Dropped q k is followed =
+    is ∙ ap (option_map rowed) (sym (same_said (bytes_eq id q) (client_submitting submission Dropped) k (λ c. refl)))
+after_get s (Report summary found moment) (Sequenced message) q k is followed = is
+after_get s (Report summary found moment) (Nacked nack) q k is followed = is
+after_get s (Report summary found moment) Dropped q k is followed = is
+
+-- an entry brings one number at most
+pub after-sequence : (s : State) (raw : Raw) (verdict : Verdict) → (after s raw verdict).sequence ≡ s.sequence + length (messages_of verdict)
+unfolding after
+after-sequence s raw verdict = refl
+
+same_state : (s t : State) → s.sequence ≡ t.sequence → s.rows ≡ t.rows → s ≡ t
+same_state s t sequence rows = λ i. record { sequence = sequence i; rows = rows i }
+
+-- the state of a ledger with one entry more
+pub state_of-push : (ledger : Ledger) (raw : Raw) (verdict : Verdict) → IsFollowed (state_of ledger) raw verdict →
+    state_of (ledger ++ (raw, verdict) ∷ []) ≡ after (state_of ledger) raw verdict
+state_of-push ledger raw verdict followed =
+    same_state _ _
+    (sequence-state_of (ledger ++ (raw, verdict) ∷ []) ∙ seq-push ledger (raw, verdict) ∙ ap (λ n. n + length (messages_of verdict)) (sym (sequence-state_of ledger)) ∙ sym (after-sequence (state_of ledger) raw verdict))
+    (same_map byte_order_total byte_order-IsAntisymmetric _ _ (λ q.
+    get-state_of (ledger ++ (raw, verdict) ∷ []) q
+    ∙ ap (option_map rowed) (client-push ledger (raw, verdict) q)
+    ∙ ap (λ m. option_map rowed (client_behind (raw, verdict) m q (client ledger q))) (sym (minimum-state_of ledger))
+    ∙ sym (after_get (state_of ledger) raw verdict q (client ledger q) (get-state_of ledger q) followed)))
+
+-- ---- the verdict
+
+-- the message of an entry
+message-state_of : (ledger : Ledger) (raw : Raw) → IsFollowed (state_of ledger) raw (Sequenced (unsettled (seq ledger + 1) raw)) →
+    message_in (state_of ledger) raw ≡ rules.message ledger raw
+unfolding rules.message message_in state_of
+message-state_of ledger raw followed =
+    let m = unsettled (seq ledger + 1) raw in
+    ap (λ (n : ℕ). record m { minimum = n }) (sym (sym (minimum-state_of (ledger ++ (raw, Sequenced m) ∷ [])) ∙ ap state.minimum (state_of-push ledger raw (Sequenced m) followed)))
+
+nack-state_of : (ledger : Ledger) (submission : Submission) (rule : _) →
+    Nacked (record { rule = rule; operation = Some submission; minimum = pos (state.minimum (state_of ledger)) }) ≡ Nacked (rules.nack ledger submission rule)
+unfolding rules.nack
+nack-state_of ledger submission rule = ap (λ (m : ℕ). Nacked (record { rule = rule; operation = Some submission; minimum = pos m })) (minimum-state_of ledger)
+
+some_rowed : (o : Option Client) → is_some (option_map rowed o) ≡ is_some o
+some_rowed None = refl
+some_rowed (Some c) = refl
+
+-- a client has a row exactly where it is joined
+pub joined-state_of : (ledger : Ledger) (c : List ℕ) → is_some (get (state_of ledger).rows c) ≡ is_joined ledger c
+joined-state_of ledger c = ap is_some (get-state_of ledger c) ∙ some_rowed (client ledger c) ∙ sym (is_joined-client ledger c)
+
+-- what is said of a joined client, part by part
+record HasParts (ledger : Ledger) (c : List ℕ) (said : Client) : Type 0 where
+  joined : is_joined ledger c ≡ true
+  last : last_number ledger c ≡ said.last
+  nacked : is_nacked ledger c ≡ said.nacked
+  scopes : scopes ledger c ≡ said.scopes
+
+parts_of : (ledger : Ledger) (c : List ℕ) (said : Client) (held : Option Scopes) → past.membership (past_of ledger) c ≡ held → client ledger c ≡ Some said → HasParts ledger c said
+unfolding is_joined last_number is_nacked scopes client past.client
+parts_of ledger c said None h is = absurd (none-some said (rw h at is))
+parts_of ledger c said (Some held) h is =
+    let same = same_Some _ said (rw h at is) in
+    record {
+      joined = rw h refl;
+      last = ap (λ (r : Client). r.last) same;
+      nacked = ap (λ (r : Client). r.nacked) same;
+      scopes = rw h (ap (λ (r : Client). r.scopes) same);
+    }
+
+module _ (ledger : Ledger) (c : List ℕ) (submission : Submission) (moment : ℕ) where
+  -- the two tables, test by test
+  same_case : (a b n l h x : Bool) → (n ≡ false → message_in (state_of ledger) (Submit c submission moment) ≡ rules.message ledger (Submit c submission moment)) →
+      verdict_of (state_of ledger) c submission moment
+      (first_fit ((a, Duplicate) ∷ (b, Refused Gap) ∷ (n, Refused Nonexistent) ∷ (l, Refused Below) ∷ (h, Refused Ahead) ∷ (x, Refused Scope) ∷ []) Admitted)
+      ≡ first_case
+      ((a, Dropped)
+      ∷ (b, Nacked (rules.nack ledger submission Gap))
+      ∷ (n, Nacked (rules.nack ledger submission Nonexistent))
+      ∷ (l, Nacked (rules.nack ledger submission Below))
+      ∷ (h, Nacked (rules.nack ledger submission Ahead))
+      ∷ (x, Nacked (rules.nack ledger submission Scope))
+      ∷ [])
+      (Sequenced (rules.message ledger (Submit c submission moment)))
+  same_case true b n l h x message = refl
+  same_case false true n l h x message = nack-state_of ledger submission Gap
+  same_case false false true l h x message = nack-state_of ledger submission Nonexistent
+  same_case false false false true h x message = nack-state_of ledger submission Below
+  same_case false false false false true x message = nack-state_of ledger submission Ahead
+  same_case false false false false false true message = nack-state_of ledger submission Scope
+  same_case false false false false false false message = ap Sequenced (message refl)
+
+  by_table : (said : Client) → client ledger c ≡ Some said → HasParts ledger c said →
+      verdict_of (state_of ledger) c submission moment (outcome_by (seq ledger) (rules.minimum ledger) (rowed said) submission) ≡ rules.submission_verdict ledger c submission moment
+  unfolding outcome_by rules.submission_verdict
+  by_table said is parts =
+      rw (parts.joined, parts.last, parts.nacked, parts.scopes)
+      (same_case _ _ said.nacked _ _ _ (λ in_order.
+      message-state_of ledger (Submit c submission moment) (λ row there.
+      ap (λ (r : Row). r.nacked) (same_Some _ _ (sym there ∙ get-state_of ledger c ∙ ap (option_map rowed) is)) ∙ in_order)))
+
+  of_joined : (said : Client) → client ledger c ≡ Some said →
+      verdict_of (state_of ledger) c submission moment (outcome (state_of ledger) c submission) ≡ rules.submission_verdict ledger c submission moment
+  of_joined said is =
+      ap (λ o. verdict_of (state_of ledger) c submission moment (outcome_at (state_of ledger) o submission)) (get-state_of ledger c ∙ ap (option_map rowed) is)
+      ∙ ap (λ m. verdict_of (state_of ledger) c submission moment (outcome_by (state_of ledger).sequence m (rowed said) submission)) (minimum-state_of ledger)
+      ∙ ap (λ n. verdict_of (state_of ledger) c submission moment (outcome_by n (rules.minimum ledger) (rowed said) submission)) (sequence-state_of ledger)
+      ∙ by_table said is (parts_of ledger c said (past.membership (past_of ledger) c) refl is)
+
+  of_absent : client ledger c ≡ None →
+      verdict_of (state_of ledger) c submission moment (outcome (state_of ledger) c submission) ≡ rules.submission_verdict ledger c submission moment
+  unfolding rules.submission_verdict
+  of_absent is =
+      let absent : is_joined ledger c ≡ false = is_joined-client ledger c ∙ ap is_some is in
+      ap (λ o. verdict_of (state_of ledger) c submission moment (outcome_at (state_of ledger) o submission)) (get-state_of ledger c ∙ ap (option_map rowed) is)
+      ∙ rw absent (nack-state_of ledger submission Nonexistent)
+
+  submission-state_of : verdict_of (state_of ledger) c submission moment (outcome (state_of ledger) c submission) ≡ rules.submission_verdict ledger c submission moment
+  submission-state_of =
+      elim (client ledger c) as (λ o. client ledger c ≡ o → verdict_of (state_of ledger) c submission moment (outcome (state_of ledger) c submission) ≡ rules.submission_verdict ledger c submission moment) [
+        | None ↦ λ is. of_absent is
+        | Some said ↦ λ is. of_joined said is
+      ] refl
+
+-- the verdict in the state of a ledger is that of the rules
+pub verdict-state_of : (ledger : Ledger) (raw : Raw) → verdict_in (state_of ledger) raw ≡ rules.verdict ledger raw
+unfolding verdict_in rules.verdict
+verdict-state_of ledger (Join id scopes detail moment) =
+    rw (joined-state_of ledger id, message-state_of ledger (Join id scopes detail moment) tt)
+verdict-state_of ledger (Leave id moment) =
+    rw (joined-state_of ledger id, message-state_of ledger (Leave id moment) tt)
+verdict-state_of ledger (Submit id submission moment) = submission-state_of ledger id submission moment
+verdict-state_of ledger (Report summary found moment) = refl
+
+prepared-verdict : (s : State) (raw : Raw) → (prepared s raw).verdict ≡ verdict_in s raw
+unfolding prepared
+prepared-verdict s raw = refl
+
+-- the verdict of what was prepared in a state that stands for a ledger
+pub verdict_of_prepared : (ready : Prepared) (s : State) (raw : Raw) (ledger : Ledger) → ready ≡ prepared s raw → StandsFor s ledger → ready.verdict ≡ rules.verdict ledger raw
+verdict_of_prepared ready s raw ledger is stands =
+    ap (λ (r : Prepared). r.verdict) is ∙ prepared-verdict s raw ∙ ap (λ t. verdict_in t raw) stands.is ∙ verdict-state_of ledger raw
+
+pub verdict_of_ready : (result : Result Prepared NoMemory) (s t : State) (raw other : Raw) (ledger : Ledger) → IfOk result (λ ready. ready ≡ prepared s raw) → s ≡ t → other ≡ raw → StandsFor t ledger →
+    IfOk result (λ ready. ready.verdict ≡ rules.verdict ledger other)
+verdict_of_ready (Ok ready) s t raw other ledger is same entry stands =
+    verdict_of_prepared ready t other ledger (is ∙ ap (λ u. prepared u raw) same ∙ ap (prepared t) (sym entry)) stands
+verdict_of_ready (Err fault) s t raw other ledger is same entry stands = tt
+
+-- ---- what it stands for
+
+pub number_of : (s : State) (ledger : Ledger) → StandsFor s ledger → s.sequence ≡ seq ledger
+number_of s ledger stands = ap (λ (t : State). t.sequence) stands.is ∙ sequence-state_of ledger
+
+pub minimum_of : (s : State) (ledger : Ledger) → StandsFor s ledger → state.minimum s ≡ rules.minimum ledger
+minimum_of s ledger stands = ap state.minimum stands.is ∙ minimum-state_of ledger
+
+pub start-stands : StandsFor start []
+unfolding state_of seq order joined past_of past.joined past.ever_joined
+start-stands = record { is = refl }

@@ -1,0 +1,5 @@
+mod Outcomes
+mod Sound
+mod Prepares
+pub mod Ledgers
+mod Commits

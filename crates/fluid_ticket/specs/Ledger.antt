@@ -1,0 +1,22 @@
+-- The state of a ledger.
+use Rattle.std.specs.Prelude.{◌≡◌, ℕ, List, map}
+use Rattle.std.specs.FinMap.{from_entries}
+use Rattle.fluid_types.specs.Ledger.{Ledger, seq}
+use Rattle.fluid_rules.specs.Rules.{last_number, reference, is_nacked, scopes, joined}
+use Rattle.fluid_clients.specs.declared.table.Row.{Row}
+use Rattle.fluid_ticket.specs.State.{State}
+
+-- what a ledger says of a joined client
+abbrev pub row_of : Ledger → List ℕ → Row
+row_of ledger id = record { last = last_number ledger id; reference = reference ledger id; nacked = is_nacked ledger id; scopes = scopes ledger id }
+
+-- the last sequence number, and one row for each joined client
+unfoldable pub state_of : Ledger → State
+state_of ledger = record {
+  sequence = seq ledger;
+  rows = from_entries (map (λ id. (id, row_of ledger id)) (joined ledger));
+}
+
+-- a state stands for a ledger where it is what the ledger says
+pub record StandsFor (s : State) (ledger : Ledger) : Type 0 where
+  pub is : s ≡ state_of ledger

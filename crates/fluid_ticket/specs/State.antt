@@ -1,0 +1,180 @@
+-- What is kept of the entries so far, the verdict of the next one in it, and what that verdict makes of it.
+use Rattle.std.specs.Prelude.{◌≡◌, ℕ, ◌+◌, ◌-◌, ◌^◌, ◌<◌, ◌≤◌, ℤ, pos, negsuc, nat_lt, nat_le, int_lt, Bool, true, false, not, ◌&&◌, if◌then◌else◌, List, [], ◌∷◌, length, Option, Some, None, is_some, IsSome, unwrap_or, refl}
+use Rattle.std.specs.Option.{option_map_or}
+use Rattle.std.specs.Coded.{Coded, code_by, coded×, coded_ℕ, coded_list}
+use Rattle.std.specs.FinMap.{empty, get, insert, remove, code}
+use Rattle.fluid_types.specs.declared.entries.Raw.{Raw}
+use Rattle.fluid_types.specs.declared.entries.Raw.TheVariants.{Join, Leave, Submit, Report}
+use Rattle.fluid_types.specs.declared.entries.Submission.{Submission}
+use Rattle.fluid_types.specs.declared.messages.Message.{Message}
+use Rattle.fluid_types.specs.declared.nacks.NackRule.TheVariants.{Gap, Nonexistent, Below, Ahead, Scope}
+use Rattle.fluid_types.specs.declared.verdicts.Verdict.{Verdict}
+use Rattle.fluid_types.specs.declared.verdicts.Verdict.TheVariants.{Sequenced, Nacked, Dropped}
+use Rattle.fluid_types.specs.Ledger.{messages_of}
+use Rattle.fluid_rules.specs.Past.{is_below, count_of}
+use Rattle.fluid_rules.specs.Rules.{leaves_reference, is_summarize, unsettled}
+use Rattle.fluid_clients.specs.declared.table.Row.{Row}
+use Rattle.fluid_clients.specs.Table.{Rows, Table, least, row_code}
+use Rattle.fluid_ticket.specs.declared.ready.Change.{Change}
+use Rattle.fluid_ticket.specs.declared.ready.Change.TheVariants.{Nothing, Joins, Leaves, Accepts, Holds}
+use Rattle.fluid_ticket.specs.declared.outcome.Outcome.{Outcome}
+use Rattle.fluid_ticket.specs.declared.outcome.Outcome.TheVariants.{Duplicate, Refused, Admitted}
+
+-- the last sequence number, and the row of each joined client under its id
+pub record State : Type 0 where
+  pub sequence : ℕ
+  pub rows : Rows
+
+-- nothing was sequenced and nobody is joined
+abbrev pub start : State
+start = record { sequence = 0; rows = empty }
+
+-- the least reference of the joined clients, and the last sequence number where nobody is joined
+abbrev pub minimum : State → ℕ
+minimum s = unwrap_or (least s.rows) s.sequence
+
+-- ---- what an entry with its verdict changes
+
+-- a client that joins enters with number 0 at the minimum; a submission that was sequenced brings its number and
+-- its reference; one that was refused as below the minimum brings its number and holds its client at the minimum
+unfoldable pub change_of : State → Raw → Verdict → Change
+change_of s (Join id scopes detail moment) (Sequenced message) =
+    Joins id (record { last = 0; reference = minimum s; nacked = false; scopes = scopes })
+change_of s (Leave id moment) (Sequenced message) = Leaves id
+change_of s (Submit id submission moment) (Sequenced message) = Accepts id submission.client_number (count_of message.reference)
+change_of s (Submit id submission moment) (Nacked nack) =
+    if is_below nack.rule then Holds id submission.client_number (count_of nack.minimum) else Nothing
+change_of s raw verdict = Nothing
+
+-- the rows with the one under an id changed; as they are where there is none
+abbrev pub change_row : List ℕ → (Row → Row) → Rows → Rows
+change_row id f rows = option_map_or (λ row. insert rows id (f row)) (get rows id) rows
+
+abbrev pub changed : Change → Rows → Rows
+changed Nothing rows = rows
+changed (Joins id row) rows = insert rows id row
+changed (Leaves id) rows = remove rows id
+changed (Accepts id number reference) rows = change_row id (λ row. record row { last = number; reference = reference }) rows
+changed (Holds id number minimum) rows = change_row id (λ row. record row { last = number; reference = minimum; nacked = true }) rows
+
+-- the state behind an entry that got this verdict
+unfoldable pub after : State → Raw → Verdict → State
+after s raw verdict = record {
+  sequence = s.sequence + length (messages_of verdict);
+  rows = changed (change_of s raw verdict) s.rows;
+}
+
+-- ---- the verdict
+
+-- the message of an entry that is sequenced next: it has the next number, and the minimum that holds behind it
+unfoldable pub message_in : State → Raw → Message
+message_in s raw =
+    let m = unsettled (s.sequence + 1) raw in
+    record m { minimum = minimum (after s raw (Sequenced m)) }
+
+-- the first case that fits
+abbrev pub first_fit : {X : Type 0} → List (Bool × X) → X → X
+first_fit [] otherwise = otherwise
+first_fit (row ∷ rows) otherwise = if row.0 then row.1 else first_fit rows otherwise
+
+-- a reference that isn't left to the service and is below the minimum
+abbrev pub is_below_minimum : ℕ → ℤ → Bool
+is_below_minimum minimum reference = not (leaves_reference reference) && int_lt reference (pos minimum)
+
+-- a summarize of a client that may not summarize
+abbrev pub lacks_scope : Submission → Row → Bool
+lacks_scope submission row = is_summarize submission.kind && not row.scopes.summary
+
+-- a number that isn't negative, and another one in place of a negative number
+abbrev pub given_or : ℕ → ℤ → ℕ
+given_or number (pos n) = n
+given_or number (negsuc n) = number
+
+-- what becomes of a submission of the client with this row, by the last sequence number and the minimum: one that
+-- was counted already is a duplicate, and one may be refused by the first rule that it breaks
+unfoldable pub outcome_by : ℕ → ℕ → Row → Submission → Outcome
+outcome_by sequence minimum row submission =
+    first_fit
+    ((nat_le submission.client_number row.last, Duplicate)
+    ∷ (nat_lt (row.last + 1) submission.client_number, Refused Gap)
+    ∷ (row.nacked, Refused Nonexistent)
+    ∷ (is_below_minimum minimum submission.reference, Refused Below)
+    ∷ (int_lt (pos sequence) submission.reference, Refused Ahead)
+    ∷ (lacks_scope submission row, Refused Scope)
+    ∷ [])
+    Admitted
+
+-- a client that isn't joined has no row
+abbrev pub outcome_at : State → Option Row → Submission → Outcome
+outcome_at s None submission = Refused Nonexistent
+outcome_at s (Some row) submission = outcome_by s.sequence (minimum s) row submission
+
+abbrev pub outcome : State → List ℕ → Submission → Outcome
+outcome s id submission = outcome_at s (get s.rows id) submission
+
+-- a nack carries the submission and the minimum
+abbrev pub verdict_of : State → List ℕ → Submission → ℕ → Outcome → Verdict
+verdict_of s id submission moment Duplicate = Dropped
+verdict_of s id submission moment (Refused rule) = Nacked (record { rule = rule; operation = Some submission; minimum = pos (minimum s) })
+verdict_of s id submission moment Admitted = Sequenced (message_in s (Submit id submission moment))
+
+-- a join of a joined client and a leave of one that isn't joined are dropped, and so is a report
+unfoldable pub verdict_in : State → Raw → Verdict
+verdict_in s (Join id scopes detail moment) = if is_some (get s.rows id) then Dropped else Sequenced (message_in s (Join id scopes detail moment))
+verdict_in s (Leave id moment) = if is_some (get s.rows id) then Sequenced (message_in s (Leave id moment)) else Dropped
+verdict_in s (Submit id submission moment) = verdict_of s id submission moment (outcome s id submission)
+verdict_in s (Report summary found moment) = Dropped
+
+-- ---- an entry that is prepared
+
+-- a verdict with the change that it makes
+pub record Prepared : Type 0 where
+  pub verdict : Verdict
+  pub change : Change
+
+-- what an entry is prepared as
+unfoldable pub prepared : State → Raw → Prepared
+prepared s raw = record { verdict = verdict_in s raw; change = change_of s raw (verdict_in s raw) }
+
+-- ---- a sequencer
+
+-- its state, and for how many more clients there is room already
+pub record Sequencing : Type 0 where
+  pub state : State
+  pub spare : ℕ
+
+abbrev pub sequencing_code : Coded Sequencing
+sequencing_code =
+    code_by (ℕ × (Rows × ℕ)) (coded× coded_ℕ (coded× (code (coded_list coded_ℕ) row_code) coded_ℕ)) (λ q. (q.state.sequence, (q.state.rows, q.spare)))
+    (λ parts. record { state = record { sequence = parts.0; rows = parts.1.0 }; spare = parts.1.1 }) (λ _. refl)
+
+-- the ready is that of an entry in the state that the sequencer is in, with the room that it may need
+pub record IsPreparedIn (q : Sequencing) (ready : Prepared) : Type 0 where
+  pub raw : Raw
+  pub is : ready ≡ prepared q.state raw
+  pub numbered : q.state.sequence < 2 ^ 53 - 1
+  pub room : 0 < q.spare
+
+-- the table has what a change speaks of, and room for it
+abbrev pub CanApply : Change → Table → Type 0
+CanApply Nothing table = Unit {0}
+CanApply (Joins id row) table = (get table.rows id ≡ None) × (0 < table.spare)
+CanApply (Leaves id) table = Unit {0}
+CanApply (Accepts id number reference) table = IsSome (get table.rows id) × (0 < table.spare)
+CanApply (Holds id number minimum) table = IsSome (get table.rows id) × (0 < table.spare)
+
+-- ---- what holds of every sequencer
+
+-- no reference is ahead of the order, and neither is the number of a client that is in order
+pub record IsSoundRow (sequence : ℕ) (row : Row) : Type 0 where
+  pub reference : row.reference ≤ sequence
+  pub last : row.nacked ≡ false → row.last ≤ sequence
+
+pub record IsSound (s : State) : Type 0 where
+  pub few : s.sequence ≤ 2 ^ 53 - 1
+  pub rows : (id : List ℕ) (row : Row) → get s.rows id ≡ Some row → IsSoundRow s.sequence row
+
+-- a sound state with its minimum
+pub record IsKept (s : State) (least : ℕ) : Type 0 where
+  pub sound : IsSound s
+  pub is_minimum : least ≡ minimum s

@@ -1,0 +1,276 @@
+// The sequencer.
+ghost use Rattle.std.specs.Prelude.{◌≡◌, ◌-◌, ◌^◌, ◌<◌, ◌≤◌, ◌++◌, ◌∷◌, [], IfOk, if◌then◌else◌};
+ghost use Rattle.fluid_rules.specs.Past.{is_below};
+ghost use Rattle.fluid_types.specs.Ledger.{Ledger, seq as last_sequence};
+ghost use Rattle.fluid_rules.specs.Rules.{minimum as minimum_by_rules, verdict as verdict_by_rules};
+ghost use Rattle.fluid_ticket.specs.State.{start, minimum, outcome, after, changed, prepared, IsPreparedIn, CanApply};
+ghost use Rattle.fluid_ticket.specs.Ledger.{StandsFor};
+
+use crate::messages::{given_or, join_data, leave_data, nack, submitted, system_message};
+use crate::outcome::{Outcome, outcome_by};
+use crate::ready::{Change, Ready};
+use fluid_clients::{Clients, Row};
+use fluid_json::{Json, NoMemory};
+use fluid_types::{ClientId, Kind, NackRule, Raw, Scopes, Submission, Verdict};
+use std::alloc::Global;
+use std::marker::Model;
+
+/// The sequencer of one document.
+#[derive(Drop)]
+pub struct Sequencer {
+    sequence: u64,
+    minimum: u64,
+    clients: Clients,
+}
+
+impl Model for Sequencer {
+    ghost use Rattle.std.specs.Prelude.{◌≡◌};
+    ghost use Rattle.fluid_ticket.specs.State.{Sequencing, sequencing_code, IsKept};
+
+    ghost Value = { Sequencing };
+
+    ghost coded = { sequencing_code };
+
+    ghost view = { λ s. record { state = record { sequence = s.sequence; rows = s.clients.rows }; spare = s.clients.spare } };
+
+    ghost invariant = { λ s. IsKept (record { sequence = s.sequence; rows = s.clients.rows }) s.minimum };
+}
+
+impl Sequencer {
+    /// The sequencer of a document without entries. Takes no memory.
+    pub fn new(alloc: Global) -> Sequencer
+        ensures start { result.state ≡ start }
+        ensures stands { StandsFor result.state [] }
+    {
+        Sequencer {
+            sequence: 0,
+            minimum: 0,
+            clients: Clients::new(alloc),
+        }
+    }
+
+    /// The last sequence number, 0 before the first message.
+    pub fn seq(&self) -> u64
+        ensures is { result ≡ self.now.state.sequence }
+        ensures stands { (ledger : Ledger) → StandsFor self.now.state ledger → result ≡ last_sequence ledger }
+    {
+        self.sequence
+    }
+
+    /// The minimum sequence number.
+    pub fn min(&self) -> u64
+        ensures is { result ≡ minimum self.now.state }
+        ensures stands { (ledger : Ledger) → StandsFor self.now.state ledger → result ≡ minimum_by_rules ledger }
+    {
+        self.minimum
+    }
+
+    /// The joined clients.
+    pub fn clients(&self) -> &Clients
+        ensures { result.now.rows ≡ self.now.state.rows }
+    {
+        &self.clients
+    }
+
+    /// Gives an entry its verdict and makes every growth that this verdict needs. The state stays.
+    pub fn prepare(&mut self, alloc: Global, raw: &Raw) -> Result<Ready, NoMemory>
+        requires { self.old.state.sequence < 2 ^ 53 - 1 }
+        ensures same { self.new.state ≡ self.old.state }
+        ensures ready { IfOk result (λ ready. ready ≡ prepared self.old.state raw.now) }
+        ensures committable { IfOk result (IsPreparedIn self.new) }
+        ensures verdict { (ledger : Ledger) → StandsFor self.old.state ledger →
+            IfOk result (λ ready. ready.verdict ≡ verdict_by_rules ledger raw.now) }
+    {
+        self.clients.reserve()?;
+        match raw {
+            Raw::Join {
+                id,
+                scopes,
+                detail,
+                moment,
+            } => self.prepare_join(alloc, id, *scopes, detail, *moment),
+            Raw::Leave { id, moment } => self.prepare_leave(alloc, id, *moment),
+            Raw::Submit {
+                id,
+                submission,
+                moment,
+            } => self.prepare_submission(alloc, id, submission, *moment),
+            Raw::Report { .. } => Ok(Ready::new(Verdict::Dropped, Change::Nothing)),
+        }
+    }
+
+    /// Enters what was prepared, and gives its verdict. Takes no memory.
+    pub fn commit(&mut self, ready: Ready) -> Verdict
+        requires { IsPreparedIn self.old ready }
+        ensures verdict { result ≡ ready.verdict }
+        ensures after { (raw : Raw) → ready ≡ prepared self.old.state raw → self.new.state ≡ after self.old.state raw result }
+        ensures stands { (ledger : Ledger) (raw : Raw) → ready ≡ prepared self.old.state raw → StandsFor self.old.state ledger →
+            (result ≡ verdict_by_rules ledger raw) × StandsFor self.new.state (ledger ++ (raw, result) ∷ []) }
+    {
+        let (verdict, change) = ready.into_parts();
+        apply(&mut self.clients, change);
+        if let Verdict::Sequenced(message) = &verdict {
+            self.sequence = message.number;
+            self.minimum = message.minimum;
+        }
+        verdict
+    }
+
+    fn prepare_join(
+        &self,
+        alloc: Global,
+        id: &ClientId,
+        scopes: Scopes,
+        detail: &Json,
+        moment: u64,
+    ) -> Result<Ready, NoMemory>
+        requires { self.now.state.sequence < 2 ^ 53 - 1 }
+        ensures { IfOk result (λ ready. ready ≡ prepared self.now.state (Raw.Join id.now scopes detail.now moment)) }
+    {
+        if self.clients.row(id).is_some() {
+            return Ok(Ready::new(Verdict::Dropped, Change::Nothing));
+        }
+        let data = join_data(alloc, id, detail)?;
+        // Who joins at the minimum doesn't change it.
+        let message = system_message(Kind::Join, self.sequence + 1, self.minimum, data, moment);
+        let id = id.copy(alloc)?;
+        let row = Row {
+            last: 0,
+            reference: self.minimum,
+            nacked: false,
+            scopes,
+        };
+        Ok(Ready::new(Verdict::Sequenced(message), Change::Joins { id, row }))
+    }
+
+    fn prepare_leave(&self, alloc: Global, id: &ClientId, moment: u64) -> Result<Ready, NoMemory>
+        requires { self.now.state.sequence < 2 ^ 53 - 1 }
+        ensures { IfOk result (λ ready. ready ≡ prepared self.now.state (Raw.Leave id.now moment)) }
+    {
+        if self.clients.row(id).is_none() {
+            return Ok(Ready::new(Verdict::Dropped, Change::Nothing));
+        }
+        let data = leave_data(alloc, id)?;
+        let number = self.sequence + 1;
+        let minimum = self.clients.min_without(id).unwrap_or(number);
+        let message = system_message(Kind::Leave, number, minimum, data, moment);
+        let id = id.copy(alloc)?;
+        Ok(Ready::new(Verdict::Sequenced(message), Change::Leaves { id }))
+    }
+
+    fn prepare_submission(
+        &self,
+        alloc: Global,
+        id: &ClientId,
+        submission: &Submission,
+        moment: u64,
+    ) -> Result<Ready, NoMemory>
+        requires { self.now.state.sequence < 2 ^ 53 - 1 }
+        ensures { IfOk result (λ ready. ready ≡ prepared self.now.state (Raw.Submit id.now submission.now moment)) }
+    {
+        match self.outcome(id, submission) {
+            Outcome::Duplicate => Ok(Ready::new(Verdict::Dropped, Change::Nothing)),
+            Outcome::Refused(rule) => self.refuse(alloc, rule, id, submission, moment),
+            Outcome::Admitted => self.admit(alloc, id, submission, moment),
+        }
+    }
+
+    fn outcome(&self, id: &ClientId, submission: &Submission) -> Outcome
+        ensures { result ≡ outcome self.now.state id.now submission.now }
+    {
+        match self.clients.row(id) {
+            Some(row) => outcome_by(row, submission, self.sequence, self.minimum),
+            None => Outcome::Refused(NackRule::Nonexistent),
+        }
+    }
+
+    fn refuse(
+        &self,
+        alloc: Global,
+        rule: NackRule,
+        id: &ClientId,
+        submission: &Submission,
+        moment: u64,
+    ) -> Result<Ready, NoMemory>
+        requires { outcome self.now.state id.now submission.now ≡ Outcome.Refused rule }
+        ensures { IfOk result (λ ready. ready ≡ prepared self.now.state (Raw.Submit id.now submission.now moment)) }
+    {
+        let operation = submission.copy(alloc)?;
+        let refusal = nack(rule, operation, self.minimum);
+        let change = change_refused(alloc, rule, id, submission.client_number, self.minimum)?;
+        Ok(Ready::new(Verdict::Nacked(refusal), change))
+    }
+
+    fn admit(
+        &self,
+        alloc: Global,
+        id: &ClientId,
+        submission: &Submission,
+        moment: u64,
+    ) -> Result<Ready, NoMemory>
+        requires numbered { self.now.state.sequence < 2 ^ 53 - 1 }
+        requires admitted { outcome self.now.state id.now submission.now ≡ Outcome.Admitted }
+        ensures { IfOk result (λ ready. ready ≡ prepared self.now.state (Raw.Submit id.now submission.now moment)) }
+    {
+        let number = self.sequence + 1;
+        // Of the negative references only -1 is admitted.
+        let reference = given_or(submission.reference, number);
+        let others = self.clients.min_without(id).unwrap_or(reference);
+        let minimum = reference.min(others);
+        let message = submitted(alloc, id, submission, number, minimum, moment)?;
+        let id = id.copy(alloc)?;
+        let change = Change::Accepts {
+            id,
+            number: submission.client_number,
+            reference,
+        };
+        Ok(Ready::new(Verdict::Sequenced(message), change))
+    }
+}
+
+// A refusal below the minimum holds its client there; no other one changes a row.
+fn change_refused(
+    alloc: Global,
+    rule: NackRule,
+    id: &ClientId,
+    number: u64,
+    minimum: u64,
+) -> Result<Change, NoMemory>
+    ensures { IfOk result (λ change. change ≡ (if is_below rule then Change.Holds id.now number minimum else Change.Nothing)) }
+{
+    match rule {
+        NackRule::Below => {
+            let id = id.copy(alloc)?;
+            Ok(Change::Holds {
+                id,
+                number,
+                minimum,
+            })
+        }
+        _ => Ok(Change::Nothing),
+    }
+}
+
+// Makes a change of the table for which there is room.
+fn apply(clients: &mut Clients, change: Change)
+    requires fits { CanApply change clients.old }
+    ensures { clients.new.rows ≡ changed change clients.old.rows }
+{
+    match change {
+        Change::Nothing => {}
+        Change::Joins { id, row } => clients.join(id, row).unwrap(),
+        Change::Leaves { id } => {
+            clients.leave(&id);
+        }
+        Change::Accepts {
+            id,
+            number,
+            reference,
+        } => clients.accept(&id, number, reference),
+        Change::Holds {
+            id,
+            number,
+            minimum,
+        } => clients.mark(&id, number, minimum),
+    }
+}
