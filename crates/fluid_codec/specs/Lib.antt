@@ -1,0 +1,13 @@
+pub mod Behind
+pub mod Events
+pub mod EventWords
+pub mod Items
+pub mod Laws
+pub mod Parts
+pub mod Replies
+pub mod Rows
+pub mod Scopes
+pub use Rattle.fluid_json.specs.Unless
+pub use Rattle.fluid_types.specs.Records
+pub use Rattle.fluid_types.specs.Messages
+pub use Rattle.fluid_types.specs.Printed
