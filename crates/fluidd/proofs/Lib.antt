@@ -1,0 +1,6 @@
+mod Grown
+mod Answers
+mod Clients
+mod Advances
+mod Endings
+mod Statuses

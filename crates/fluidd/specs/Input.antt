@@ -1,0 +1,101 @@
+-- Which line of an input is refused, and which raw entries the other lines spell.
+use Rattle.std.specs.Prelude.{◌≡◌, ℕ, ◌+◌, ◌==◌, ◌&&◌, nat_le, nat_lt, Bool, true, false, not, List, [], ◌∷◌, ◌++◌, length, count_by, Option, Some, None, Result, Ok, Err, if◌then◌else◌}
+use Rattle.std.specs.List.{filter_map}
+use Rattle.std.specs.Str.{is_utf8}
+use Rattle.fluid_types.specs.Ledger.{Ledger}
+use Rattle.fluid_types.specs.declared.entries.Raw.{Raw}
+use Rattle.fluid_types.specs.declared.entries.Raw.TheVariants.{Join, Leave, Submit, Report}
+use Rattle.fluid_types.specs.declared.fault.CodecFault.{CodecFault}
+use Rattle.fluid_types.specs.Records.{raw_spelled}
+use Rattle.fluid_rules.specs.Rules.{is_joined, joined, ledger}
+use Rattle.fluidd.specs.declared.limits.Limits.{Limits}
+use Rattle.fluidd.specs.declared.refusal.Refusal.{Refusal}
+use Rattle.fluidd.specs.declared.refusal.Refusal.TheVariants.{TooLong, NotUtf8, TooManyLines, Unreadable, NotARecord, DocumentFull, TooManyClients}
+
+-- ---- what the lines spell
+
+abbrev pub raw_of : Result Raw CodecFault → Option Raw
+raw_of (Ok raw) = Some raw
+raw_of (Err fault) = None
+
+-- the raw entry that a line spells; an empty line is passed over
+unfoldable pub entry_of : List ℕ → Option Raw
+entry_of line = if length line == 0 then None else raw_of (raw_spelled line)
+
+-- the raw entries that these lines spell, in order
+unfoldable pub records : List (List ℕ) → List Raw
+records lines = filter_map entry_of lines
+
+-- ---- the limits of a document
+
+-- the limits of the program: 4,194,304 joins and submissions, and 1,024 clients joined at once
+abbrev pub full : Limits
+full = record { entries = 4194304; clients = 1024 }
+
+-- joins and submissions count, whatever their verdict; leaves and reports don't
+abbrev pub is_counted : Raw → Bool
+is_counted (Join id scopes detail moment) = true
+is_counted (Leave id moment) = false
+is_counted (Submit id submission moment) = true
+is_counted (Report summary found moment) = false
+
+-- how many entries of a ledger count
+unfoldable pub counted : Ledger → ℕ
+counted l = count_by (λ entry. is_counted entry.0) l
+
+-- a join of an id that isn't joined
+abbrev pub is_new_client : Ledger → Raw → Bool
+is_new_client l (Join id scopes detail moment) = not (is_joined l id)
+is_new_client l (Leave id moment) = false
+is_new_client l (Submit id submission moment) = false
+is_new_client l (Report summary found moment) = false
+
+-- the document is full where this entry counts and as many as may be are counted; there are too many clients where
+-- this is a new one and as many as may be are joined
+abbrev pub limit_refusal_by : (counts : Bool) (entries counted : ℕ) (new : Bool) (clients joined : ℕ) → Option Refusal
+limit_refusal_by counts entries counted new clients joined =
+    if counts && nat_le entries counted then Some DocumentFull
+    else (if new && nat_le clients joined then Some TooManyClients else None)
+
+unfoldable pub limit_refusal : Limits → Ledger → Raw → Option Refusal
+limit_refusal limits l raw =
+    limit_refusal_by (is_counted raw) limits.entries (counted l) (is_new_client l raw) limits.clients (length (joined l))
+
+-- ---- which line is refused
+
+abbrev pub is_report : Raw → Bool
+is_report (Join id scopes detail moment) = false
+is_report (Leave id moment) = false
+is_report (Submit id submission moment) = false
+is_report (Report summary found moment) = true
+
+-- reports aren't taken
+abbrev pub entry_refusal : Limits → Ledger → Raw → Option Refusal
+entry_refusal limits l raw = if is_report raw then Some NotARecord else limit_refusal limits l raw
+
+abbrev pub record_refusal : Limits → Ledger → Result Raw CodecFault → Option Refusal
+record_refusal limits l (Ok raw) = entry_refusal limits l raw
+record_refusal limits l (Err fault) = Some (Unreadable fault)
+
+-- why a text is refused behind the entries of this ledger; an empty one isn't
+unfoldable pub text_refusal : Limits → Ledger → List ℕ → Option Refusal
+text_refusal limits l text = if length text == 0 then None else record_refusal limits l (raw_spelled text)
+
+-- a line of more than 1,048,576 bytes, one that isn't UTF-8, and the line 16,777,217 are refused for that
+abbrev pub line_refusal : (number : ℕ) → List ℕ → Option Refusal
+line_refusal number line =
+    if nat_lt 1048576 (length line) then Some TooLong
+    else (if is_utf8 line then (if nat_lt 16777216 number then Some TooManyLines else None) else Some NotUtf8)
+
+abbrev pub first_of : Option Refusal → Option Refusal → Option Refusal
+first_of None second = second
+first_of (Some first) second = Some first
+
+-- why a line is refused behind these lines, if it is: for what it is as a line, and else for its text
+unfoldable pub refusal : Limits → List (List ℕ) → List ℕ → Option Refusal
+refusal limits before line = first_of (line_refusal (length before + 1) line) (text_refusal limits (ledger (records before)) line)
+
+-- each of these lines is accepted behind those before it
+abbrev pub Accepts : Limits → List (List ℕ) → List (List ℕ) → Type 0
+Accepts limits before [] = Unit {0}
+Accepts limits before (line ∷ lines) = (refusal limits before line ≡ None) × Accepts limits (before ++ line ∷ []) lines

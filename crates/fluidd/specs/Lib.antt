@@ -1,0 +1,4 @@
+pub mod Input
+pub mod Refusals
+pub mod Output
+pub mod Progress

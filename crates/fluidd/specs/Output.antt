@@ -1,0 +1,142 @@
+-- What is written for an input.
+use Rattle.std.specs.Prelude.{◌≡◌, ◌⊎◌, ℕ, ◌+◌, List, [], ◌∷◌, ◌++◌, length, Option, Some, None}
+use Rattle.std.specs.List.{flat_map}
+use Rattle.std.specs.Str.Lines.{lines}
+use Rattle.std.specs.Prelude.{Bool, false, codes, bytes_eq}
+use Rattle.fluid_io.specs.Causes.{Rose, Tells}
+use Rattle.fluid_io.specs.Streams.{Reading, Writing, Appends, AppendsFront}
+use Rattle.fluid_types.specs.Ledger.{Ledger}
+use Rattle.fluid_types.specs.Printed.{verdict_line}
+use Rattle.fluid_types.specs.declared.entries.Raw.{Raw}
+use Rattle.fluid_types.specs.declared.verdicts.Verdict.{Verdict}
+use Rattle.fluid_rules.specs.Rules.{ledger}
+use Rattle.fluidd.specs.declared.limits.Limits.{Limits}
+use Rattle.fluidd.specs.declared.refusal.Refusal.{Refusal}
+use Rattle.fluidd.specs.declared.status.Status.{Status}
+use Rattle.fluidd.specs.declared.status.Status.TheVariants as status
+use Rattle.fluidd.specs.Input.{records, refusal, Accepts}
+use Rattle.fluidd.specs.Refusals.{bad_line}
+
+-- the line of an entry's verdict, with its end
+abbrev pub entry_line : Raw × Verdict → List ℕ
+entry_line entry = verdict_line entry.0 entry.1 ++ 10 ∷ []
+
+-- the verdict lines of a ledger
+unfoldable pub verdict_lines : Ledger → List ℕ
+verdict_lines l = flat_map entry_line l
+
+-- the verdict lines for the raw entries that these lines spell
+abbrev pub lines_for : List (List ℕ) → List ℕ
+lines_for ls = verdict_lines (ledger (records ls))
+
+-- no line of the input is refused, and the output is the verdict lines for all of them
+pub record IsWhole (limits : Limits) (input output : List ℕ) : Type 0 where
+  pub accepted : Accepts limits [] (lines input)
+  pub text : output ≡ lines_for (lines input)
+
+-- the first line that is refused stands behind these; the output is their verdict lines, and then the line of its fault
+pub record IsRefused (limits : Limits) (input output : List ℕ) : Type 0 where
+  pub before : List (List ℕ)
+  pub line : List ℕ
+  pub behind : List (List ℕ)
+  pub why : Refusal
+  pub split : lines input ≡ before ++ line ∷ behind
+  pub accepted : Accepts limits [] before
+  pub refused : refusal limits before line ≡ Some why
+  pub text : output ≡ lines_for before ++ bad_line (length before + 1) why
+
+-- the output is the verdict lines for the first lines of the input, none of which is refused
+pub record IsBegun (limits : Limits) (input output : List ℕ) : Type 0 where
+  pub before : List (List ℕ)
+  pub behind : List (List ℕ)
+  pub split : lines input ≡ before ++ behind
+  pub accepted : Accepts limits [] before
+  pub text : output ≡ lines_for before
+
+-- the output is a beginning of one of those
+pub record IsCut (limits : Limits) (input output : List ℕ) : Type 0 where
+  pub rest : List ℕ
+  pub goes_on : IsBegun limits input (output ++ rest) ⊎ IsRefused limits input (output ++ rest)
+
+-- what was written between two moments of a sink is of this sort for the input, where the source tells its bytes
+abbrev pub Wrote : (List ℕ → List ℕ → Type 0) → Option (List ℕ) → Option (List ℕ) → Option (List ℕ) → Type 0
+Wrote Sort None old new = Unit {0}
+Wrote Sort (Some input) old new = (output : List ℕ) × Appends output old new × Sort input output
+
+-- ---- the whole of a run
+
+-- what a run with `sequence` did, by its status: at 0 all was read and written; at 3 a line was refused; at 4 the source's
+-- and at 5 the sink's count of faults rose; at 6 memory was wanting. At all but 5 the output ends at a line's end
+abbrev pub Finished : Limits → Reading → Writing → Reading → Writing → Status → Type 0
+Finished limits input output source sink status.Done =
+    Wrote (IsWhole limits) input.left output.written sink.written × Tells source.left (λ bytes. bytes ≡ [])
+Finished limits input output source sink status.Usage = ⊥
+Finished limits input output source sink status.Refused = Wrote (IsRefused limits) input.left output.written sink.written
+Finished limits input output source sink status.ReadFault =
+    Rose input.faults source.faults × Wrote (IsBegun limits) input.left output.written sink.written
+Finished limits input output source sink status.WriteFault =
+    Rose output.faults sink.faults × Wrote (IsCut limits) input.left output.written sink.written
+Finished limits input output source sink status.NoMemory = Wrote (IsBegun limits) input.left output.written sink.written
+
+-- the number of a status
+abbrev pub code_of : Status → ℕ
+code_of status.Done = 0
+code_of status.Usage = 2
+code_of status.Refused = 3
+code_of status.ReadFault = 4
+code_of status.WriteFault = 5
+code_of status.NoMemory = 6
+
+-- the words are the one command that there is
+abbrev pub is_sequence : List (List ℕ) → Bool
+is_sequence [] = false
+is_sequence (word ∷ []) = bytes_eq word (codes "sequence")
+is_sequence (word ∷ second ∷ words) = false
+
+-- the count of faults of something didn't rise
+abbrev pub IsQuiet : ℕ → ℕ → Type 0
+IsQuiet before now = Rose before now → ⊥
+
+-- a line of the input is refused
+pub record HasRefused (limits : Limits) (input : List ℕ) : Type 0 where
+  pub before : List (List ℕ)
+  pub line : List ℕ
+  pub behind : List (List ℕ)
+  pub why : Refusal
+  pub split : lines input ≡ before ++ line ∷ behind
+  pub refused : refusal limits before line ≡ Some why
+
+-- what the exit status of `sequence` says, of a run that began with this source and this sink and left them so
+pub record Sequences (limits : Limits) (input : Reading) (output : Writing) (source : Reading) (sink : Writing) (status : ℕ) : Type 0 where
+  -- 0: no line is refused, and the output is the verdict lines for all of them
+  pub whole : status ≡ 0 → Wrote (IsWhole limits) input.left output.written sink.written
+  -- and nothing of the input is left
+  pub read : status ≡ 0 → Tells source.left (λ bytes. bytes ≡ [])
+  -- 3: the output is the verdict lines for the lines before the first refused one, and then the line of its fault
+  pub refused : status ≡ 3 → Wrote (IsRefused limits) input.left output.written sink.written
+  -- 4: the source failed; 5: the sink failed
+  pub read_fault : status ≡ 4 → Rose input.faults source.faults
+  pub write_fault : status ≡ 5 → Rose output.faults sink.faults
+  -- 4 and 6: the output is a beginning of the whole that ends at a line's end
+  pub begun : (status ≡ 4) ⊎ (status ≡ 6) → Wrote (IsBegun limits) input.left output.written sink.written
+  -- 5: it is a beginning of the whole
+  pub cut : status ≡ 5 → Wrote (IsCut limits) input.left output.written sink.written
+  -- there is no other status
+  pub known : (status ≡ 0) ⊎ ((status ≡ 3) ⊎ ((status ≡ 4) ⊎ ((status ≡ 5) ⊎ (status ≡ 6))))
+  -- where no line is refused and nothing failed, only memory can be wanting
+  pub complete : (bytes : List ℕ) → input.left ≡ Some bytes → Accepts limits [] (lines bytes) →
+      IsQuiet input.faults source.faults → IsQuiet output.faults sink.faults → (status ≡ 0) ⊎ (status ≡ 6)
+  -- where a line is refused and nothing failed, that is told, unless memory is wanting
+  pub refuses : (bytes : List ℕ) → input.left ≡ Some bytes → HasRefused limits bytes →
+      IsQuiet input.faults source.faults → IsQuiet output.faults sink.faults → (status ≡ 3) ⊎ (status ≡ 6)
+
+-- what is written where the words are no command
+abbrev pub usage_line : List ℕ
+usage_line = codes "usage: fluidd sequence | script | load DOC | workload N [--clients C] [--ops K] | serve PORT [--connections N] [--lines]\n"
+
+-- what the exit status says where the words are no command: 2, and the usage line was written, or 5, and the sink failed
+pub record ShowsUsage (output sink : Writing) (status : ℕ) : Type 0 where
+  pub known : (status ≡ 2) ⊎ (status ≡ 5)
+  pub written : status ≡ 2 → Appends usage_line output.written sink.written
+  pub write_fault : status ≡ 5 → Rose output.faults sink.faults
+  pub cut : status ≡ 5 → AppendsFront usage_line output.written sink.written

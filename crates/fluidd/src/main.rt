@@ -1,0 +1,40 @@
+//! The ordering service of collaborative documents, as a program.
+//! `run` has the top call, `sequence` the command of that name, `document` what it keeps between two lines of its
+//! input, `refusal` why a line is refused, `status` how a run ends, `limits` how much a document may take, and `sink` how
+//! output is handed on.
+#![tactic(auto)]
+
+mod document;
+pub mod limits;
+pub mod refusal;
+pub mod run;
+pub mod sequence;
+mod sink;
+pub mod status;
+#[cfg(test)]
+mod tests;
+
+use fluid_io::{StdSink, StdSource};
+use fluid_json::Text;
+use run::run;
+use std::process::ExitCode;
+use std::{env, io};
+
+fn main(rt: HostRuntime) -> ExitCode {
+    let alloc = rt.alloc();
+    // Arguments that aren't text are no command, and neither are no words.
+    let words = read_words(&rt).unwrap_or(Vec::new(alloc));
+    let mut input = StdSource::new(rt.stdin());
+    let mut output = StdSink::new(rt.stdout());
+    let status = run(&rt, alloc, &words, &mut input, &mut output);
+    ExitCode::from(status)
+}
+
+// The words behind the program's name.
+fn read_words(rt: &HostRuntime) -> io::Result<Vec<Text>> {
+    let mut words = Vec::new(rt.alloc());
+    for word in env::args(rt)?.skip(1) {
+        words.push(Text::new(word))?;
+    }
+    Ok(words)
+}

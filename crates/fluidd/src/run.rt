@@ -1,0 +1,83 @@
+//! The top call of the program.
+ghost use Rattle.std.specs.Prelude.{◌≡◌, true, false};
+ghost use Rattle.fluidd.specs.Input.{full};
+ghost use Rattle.fluidd.specs.Output.{IsWhole, IsRefused, Wrote, Sequences, ShowsUsage, is_sequence, usage_line};
+
+use crate::limits::Limits;
+use crate::sequence::sequence;
+use crate::sink::write_out;
+use crate::status::Status;
+use fluid_io::{Failed, Sink, Source};
+use fluid_json::Text;
+use std::alloc::Global;
+
+/// What is written where the words are no command.
+const USAGE: &str =
+    "usage: fluidd sequence | script | load DOC | workload N [--clients C] [--ops K] | serve PORT [--connections N] [--lines]\n";
+
+/// Runs the command that the words name, which are those behind the program's name, and gives the exit status.
+/// Words that name none get the usage line, and the input isn't touched.
+pub fn run<R, S: Source, K: Sink>(
+    rt: &R,
+    alloc: Global,
+    words: &[Text],
+    input: &mut S,
+    output: &mut K,
+) -> u8
+    ensures whole { result ≡ 0 → Wrote (IsWhole full) (S.seen input.old).left (K.seen output.old).written (K.seen output.new).written }
+    ensures refused { result ≡ 3 → Wrote (IsRefused full) (S.seen input.old).left (K.seen output.old).written (K.seen output.new).written }
+    ensures sequence { is_sequence words.now ≡ true →
+        Sequences full (S.seen input.old) (K.seen output.old) (S.seen input.new) (K.seen output.new) result }
+    ensures usage { is_sequence words.now ≡ false → ShowsUsage (K.seen output.old) (K.seen output.new) result }
+    ensures untouched { is_sequence words.now ≡ false → S.seen input.new ≡ S.seen input.old }
+{
+    if is_sequence(words) {
+        sequence_within(
+            rt,
+            alloc,
+            input,
+            output,
+            Limits::FULL.entries,
+            Limits::FULL.clients,
+        )
+    } else {
+        usage(output)
+    }
+}
+
+/// The command `sequence` within limits of one's own: how many joins and submissions may be entered, and how many
+/// clients may be joined.
+pub fn sequence_within<R, S: Source, K: Sink>(
+    _rt: &R,
+    alloc: Global,
+    input: &mut S,
+    output: &mut K,
+    entries: u64,
+    clients: u32,
+) -> u8
+    ensures { Sequences (record { entries = entries; clients = clients }) (S.seen input.old) (K.seen output.old)
+        (S.seen input.new) (K.seen output.new) result }
+{
+    let limits = Limits { entries, clients };
+    sequence(alloc, limits, input, output).code()
+}
+
+// Whether the words are the one command that there is.
+fn is_sequence(words: &[Text]) -> bool
+    ensures { result ≡ is_sequence words.now }
+{
+    match words {
+        [word] => word.as_str() == "sequence",
+        _ => false,
+    }
+}
+
+fn usage<K: Sink>(output: &mut K) -> u8
+    ensures { ShowsUsage (K.seen output.old) (K.seen output.new) result }
+{
+    let status = match write_out(output, USAGE.as_bytes()) {
+        Ok(()) => Status::Usage,
+        Err(Failed) => Status::WriteFault,
+    };
+    status.code()
+}
