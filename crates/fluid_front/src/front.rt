@@ -1,0 +1,112 @@
+//! Where wires come from.
+ghost use Rattle.std.specs.Prelude.{◌≡◌, ℕ, ◌+◌, ◌-◌, ◌*◌, ◌^◌, ◌<◌, ◌≤◌};
+ghost use Rattle.std.specs.VecDeque.{deque_len};
+ghost use Rattle.fluid_io.specs.Causes.{HasCause};
+ghost use Rattle.fluid_front.specs.Fronts.{Accepts, CountsStay, Fronting, GivesNothing};
+ghost use Rattle.fluid_front.specs.Memory.{memory_seen, FailsByPlan};
+
+use fluid_io::{Failed, FaultPlan};
+use fluid_lines::Wire;
+use std::alloc::Global;
+use std::collections::VecDeque;
+use std::marker::Model;
+use std::sync::Wait;
+
+#[derive(Clone, Copy, Debug, PartialEq, Eq)]
+pub enum FrontFault {
+    Failed,
+    NoMemory,
+}
+
+/// Gives wires, one for each peer that connects. A real front may wait in each of its calls.
+pub trait Front {
+    type W: Wire;
+
+    /// The wires that it has left, where it tells them, and its counts.
+    ghost seen: { Self → Fronting };
+
+    /// Listens at a port, for WebSockets or for lines. Port 0 lets the system choose.
+    fn listen<R: Wait>(&mut self, rt: &R, port: u16, lines: bool) -> Result<(), Failed>
+        ensures cause { HasCause (seen self.old).faults (seen self.new).faults result }
+        ensures same { GivesNothing (seen self.old) (seen self.new) };
+
+    /// The next wire. `None` says that the front gives no more.
+    fn accept<R: Wait>(&mut self, rt: &R, alloc: Global) -> Result<Option<Self::W>, FrontFault>
+        ensures counts { CountsStay (seen self.old) (seen self.new) }
+        ensures does { Accepts (seen self.old) (seen self.new) result };
+}
+
+/// Wires in memory. It tells how many it has left.
+#[derive(Drop)]
+pub struct MemoryFront<W: Wire> {
+    wires: VecDeque<W>,
+    given: u64,
+    nones: u64,
+    plan: FaultPlan,
+}
+
+impl<W: Wire> Model for MemoryFront<W> {
+    ghost use Rattle.std.specs.VecDeque.{deque_len};
+    ghost use Rattle.fluid_front.specs.Memory.{MemoryFronting};
+
+    ghost Value = { MemoryFronting };
+
+    ghost view = { λ f. record { left = deque_len f.wires; given = f.given; nones = f.nones; plan = f.plan } };
+}
+
+impl<W: Wire> MemoryFront<W> {
+    /// All of `wires` are left. The calls of `listen` and `accept` whose numbers from 1 are in `failing` fail.
+    pub fn new(wires: VecDeque<W>, failing: Vec<u64>) -> MemoryFront<W>
+        ensures { result ≡ record {
+          left = deque_len wires;
+          given = 0;
+          nones = 0;
+          plan = record { failing = failing.items; calls = 0; faults = 0 };
+        } }
+    {
+        MemoryFront {
+            wires,
+            given: 0,
+            nones: 0,
+            plan: FaultPlan::new(failing),
+        }
+    }
+}
+
+impl<W: Wire> Front for MemoryFront<W> {
+    type W = W;
+
+    ghost seen = { memory_seen };
+
+    fn listen<R: Wait>(&mut self, _rt: &R, _port: u16, _lines: bool) -> Result<(), Failed>
+        ensures cause { HasCause (memory_seen self.old).faults (memory_seen self.new).faults result }
+        ensures same { GivesNothing (memory_seen self.old) (memory_seen self.new) }
+        ensures exact { FailsByPlan self.old self.new result }
+    {
+        if self.plan.fails() {
+            return Err(Failed);
+        }
+        Ok(())
+    }
+
+    /// It takes no memory.
+    fn accept<R: Wait>(&mut self, _rt: &R, _alloc: Global) -> Result<Option<W>, FrontFault>
+        ensures counts { CountsStay (memory_seen self.old) (memory_seen self.new) }
+        ensures does { Accepts (memory_seen self.old) (memory_seen self.new) result }
+        ensures exact { FailsByPlan self.old self.new result }
+    {
+        if self.plan.fails() {
+            return Err(FrontFault::Failed);
+        }
+        match self.wires.pop_front() {
+            Some(wire) => {
+                self.given = self.given.saturating_add(1);
+                Ok(Some(wire))
+            }
+            None => {
+                self.nones = self.nones.saturating_add(1);
+                Ok(None)
+            }
+        }
+    }
+}

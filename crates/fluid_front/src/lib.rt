@@ -1,0 +1,13 @@
+//! Fronts: where wires come from (`front`), what is done with each (`handler`), and the jobs that do it, at their place
+//! or in threads (`spawner`).
+#![tactic(auto)]
+
+mod front;
+mod handler;
+mod spawner;
+#[cfg(test)]
+mod tests;
+
+pub use front::{Front, FrontFault, MemoryFront};
+pub use handler::{Gate, Handler, OpenGate};
+pub use spawner::{FrontEnd, HereSpawner, Spawner, ThreadSpawner};
