@@ -1,0 +1,10 @@
+mod Admitted
+mod Kept
+mod Walked
+mod Rest
+mod Grows
+mod Formed
+mod Parted
+mod Sound
+mod Complete
+mod Digits

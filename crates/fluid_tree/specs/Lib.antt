@@ -1,0 +1,15 @@
+pub mod Summary
+pub mod Code
+pub mod View
+pub mod Falls
+pub mod Names
+pub mod Object
+pub mod Identity
+pub mod Reading
+pub mod FromJson
+pub mod Ids
+pub mod Sorted
+pub mod Listed
+pub mod Laws
+pub use Rattle.fluid_json.specs.Unless
+pub use Rattle.fluid_json.specs.Tree

@@ -1,0 +1,18 @@
+//! What holds of the definitions, said by functions that do nothing.
+
+ghost use Rattle.fluid_tree.specs.Laws.{IsIdReadBack, IsOfBytes, IsReadBack};
+
+/// Bytes from which an object is read are the bytes of that object: nothing else is accepted.
+pub fn only_objects_are_read()
+    ensures { IsOfBytes }
+{}
+
+/// The bytes of an object are read as that object.
+pub fn objects_are_read_back()
+    ensures { IsReadBack }
+{}
+
+/// The text of an id is read as that id.
+pub fn ids_are_read_back()
+    ensures { IsIdReadBack }
+{}
