@@ -1,0 +1,11 @@
+use Rattle.std.proofs.Common.{ap, ◌∙◌, ◌++◌, codes}
+use Rattle.std.proofs.lemmas.Int.{to_z-of_z}
+use Rattle.std.specs.Fmt.{signed_decimal}
+use Rattle.fluid_counter.specs.Content.{content}
+use Rattle.fluid_counter.proofs.content.print.Goals as goal
+
+pub returns : goal.returns
+unfolding content
+returns c =
+    c.new.ensures ∙ ap (λ v. v.items) c.into_bytes.ensures.value ∙ c.in_ok-text.ensures.ok
+    ∙ ap (λ total. codes "{\"value\":\"" ++ (signed_decimal total ++ codes "\"}")) (to_z-of_z _ _ c.ranges.total)

@@ -1,0 +1,4 @@
+pub mod Counter
+pub mod Content
+pub mod Kept
+pub mod Laws
