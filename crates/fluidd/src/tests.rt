@@ -1,4 +1,6 @@
 //! The program over readers and writers in memory.
+ghost use Rattle.std.specs.Prelude.{◌<◌};
+
 use crate::run::{run, sequence_within};
 use fluid_io::{MemorySink, MemorySource};
 use fluid_json::Text;
@@ -115,6 +117,34 @@ const MISSING_SCOPE: &[(&str, &str)] = &[
     ),
 ];
 
+// A client with its scope submits each of the five kinds.
+const FIVE_KINDS: &[(&str, &str)] = &[
+    (
+        r#"{"raw":"join","clientId":"A","detail":null,"scopes":["summary:write","doc:other","doc:read"],"moment":1}"#,
+        r#"{"sequenced":{"clientId":null,"clientSequenceNumber":-1,"contents":null,"data":"{\"clientId\":\"A\",\"detail\":null}","minimumSequenceNumber":0,"referenceSequenceNumber":-1,"sequenceNumber":1,"timestamp":1,"type":"join"}}"#,
+    ),
+    (
+        r#"{"raw":"submit","clientId":"A","moment":2,"operation":{"clientSequenceNumber":1,"contents":{"b":[1,true],"a":"x"},"metadata":null,"referenceSequenceNumber":1,"type":"op"}}"#,
+        r#"{"sequenced":{"clientId":"A","clientSequenceNumber":1,"contents":{"a":"x","b":[1,true]},"metadata":null,"minimumSequenceNumber":1,"referenceSequenceNumber":1,"sequenceNumber":2,"timestamp":2,"type":"op"}}"#,
+    ),
+    (
+        r#"{"raw":"submit","clientId":"A","moment":3,"operation":{"clientSequenceNumber":2,"contents":{"b":[1,true],"a":"x"},"metadata":null,"referenceSequenceNumber":1,"type":"noop"}}"#,
+        r#"{"sequenced":{"clientId":"A","clientSequenceNumber":2,"contents":{"a":"x","b":[1,true]},"metadata":null,"minimumSequenceNumber":1,"referenceSequenceNumber":1,"sequenceNumber":3,"timestamp":3,"type":"noop"}}"#,
+    ),
+    (
+        r#"{"raw":"submit","clientId":"A","moment":4,"operation":{"clientSequenceNumber":3,"contents":{"b":[1,true],"a":"x"},"metadata":null,"referenceSequenceNumber":1,"type":"propose"}}"#,
+        r#"{"sequenced":{"clientId":"A","clientSequenceNumber":3,"contents":{"a":"x","b":[1,true]},"metadata":null,"minimumSequenceNumber":1,"referenceSequenceNumber":1,"sequenceNumber":4,"timestamp":4,"type":"propose"}}"#,
+    ),
+    (
+        r#"{"raw":"submit","clientId":"A","moment":5,"operation":{"clientSequenceNumber":4,"contents":{"b":[1,true],"a":"x"},"metadata":null,"referenceSequenceNumber":1,"type":"reject"}}"#,
+        r#"{"sequenced":{"clientId":"A","clientSequenceNumber":4,"contents":{"a":"x","b":[1,true]},"metadata":null,"minimumSequenceNumber":1,"referenceSequenceNumber":1,"sequenceNumber":5,"timestamp":5,"type":"reject"}}"#,
+    ),
+    (
+        r#"{"raw":"submit","clientId":"A","moment":6,"operation":{"clientSequenceNumber":5,"contents":{"b":[1,true],"a":"x"},"metadata":null,"referenceSequenceNumber":1,"type":"summarize"}}"#,
+        r#"{"sequenced":{"clientId":"A","clientSequenceNumber":5,"contents":{"a":"x","b":[1,true]},"metadata":null,"minimumSequenceNumber":1,"referenceSequenceNumber":1,"sequenceNumber":6,"timestamp":6,"type":"summarize"}}"#,
+    ),
+];
+
 // Lines that are refused behind a line that isn't, each for its own reason.
 const REFUSED: &[(&str, &str)] = &[
     (r#"{"raw":"leave","clientId":"#, "not JSON"),
@@ -172,6 +202,30 @@ const REFUSED: &[(&str, &str)] = &[
     (
         r#"{"raw":"report","summary":0,"found":true,"moment":1}"#,
         "bad field summary: out of range",
+    ),
+    (
+        r#"{"raw":"join","clientId":"B","moment":1}"#,
+        "bad field scopes: missing",
+    ),
+    (
+        r#"{"raw":"join","clientId":"B","moment":1,"scopes":["doc:read",1]}"#,
+        "bad field scopes: not a text",
+    ),
+    (
+        r#"{"raw":"submit","clientId":"A","moment":1,"operation":{"clientSequenceNumber":1,"referenceSequenceNumber":-2,"type":"op"}}"#,
+        "bad field referenceSequenceNumber: out of range",
+    ),
+    (
+        r#"{"raw":"submit","clientId":"A","moment":1,"operation":{"clientSequenceNumber":1,"referenceSequenceNumber":1,"type":"join"}}"#,
+        "bad field type: not allowed",
+    ),
+    (
+        r#"{"raw":"submit","clientId":"A","moment":1,"operation":[]}"#,
+        "bad field operation: not an object",
+    ),
+    (
+        r#"{"raw":"leave","clientId":"01234567890123456789012345678901234567890123456789012345678901234","moment":1}"#,
+        "bad field clientId: bad name",
     ),
 ];
 
@@ -249,24 +303,33 @@ struct Ended {
     output: String,
 }
 
-// Runs the program with these words over this input, where these reads and writes fail.
-fn ran(
+// Runs the program with these words over this input.
+fn ran(rt: &HostRuntime, words: &[&str], input: &[u8]) -> Result<Ended, Fail> {
+    ran_in_pieces(rt, words, input, usize::MAX, &[], &[])
+}
+
+// The same, where each read gives and each write takes at most so many bytes, and these reads and writes fail.
+fn ran_in_pieces(
     rt: &HostRuntime,
     words: &[&str],
-    input: &str,
+    input: &[u8],
+    most: usize,
     reads: &[u64],
     writes: &[u64],
-) -> Result<Ended, Fail> {
+) -> Result<Ended, Fail>
+    requires { 0 < most }
+{
     let alloc = rt.alloc();
     let mut texts = Vec::new(alloc);
     for word in words {
         texts.push(Text::copied(alloc, word)?)?;
     }
-    let mut source = MemorySource::new(
-        Vec::from_slice(alloc, input.as_bytes())?,
+    let mut source = MemorySource::in_pieces(
+        Vec::from_slice(alloc, input)?,
+        most,
         Vec::from_slice(alloc, reads)?,
     );
-    let mut sink = MemorySink::new(alloc, Vec::from_slice(alloc, writes)?);
+    let mut sink = MemorySink::in_pieces(alloc, most, Vec::from_slice(alloc, writes)?);
     let status = run(rt, alloc, &texts, &mut source, &mut sink);
     let output = String::from_utf8(Vec::from_slice(alloc, sink.written())?)?;
     Ok(Ended { status, output })
@@ -286,7 +349,7 @@ fn no_input_gives_no_output_and_no_words_give_the_usage_line(rt: HostRuntime) ->
         (["sequences"].as_slice(), 2, USAGE),
         (["sequence", "d"].as_slice(), 2, USAGE),
     ] {
-        let ended = ran(&rt, words, "", &[], &[])?;
+        let ended = ran(&rt, words, b"")?;
         assert_eq!(rt; ended.status, status);
         assert_eq!(rt; ended.output.as_str(), output);
     }
@@ -296,14 +359,14 @@ fn no_input_gives_no_output_and_no_words_give_the_usage_line(rt: HostRuntime) ->
 #[test]
 fn each_entry_gets_its_verdict_line(rt: HostRuntime) -> Result<(), Fail> {
     let alloc = rt.alloc();
-    for table in [MARKED_CLIENT, MISSING_SCOPE] {
+    for table in [MARKED_CLIENT, MISSING_SCOPE, FIVE_KINDS] {
         let mut input = String::new(alloc);
         let mut output = String::new(alloc);
         for (record, line) in table {
             writeln!(input, "{record}")?;
             writeln!(output, "{line}")?;
         }
-        let ended = ran(&rt, &["sequence"], &input, &[], &[])?;
+        let ended = ran(&rt, &["sequence"], input.as_bytes())?;
         assert_eq!(rt; ended.status, 0);
         assert_eq!(rt; ended.output.as_str(), output.as_str());
     }
@@ -315,7 +378,7 @@ fn a_refused_line_ends_the_run_with_its_reason(rt: HostRuntime) -> Result<(), Fa
     let alloc = rt.alloc();
     for (line, why) in REFUSED {
         let input = lines(alloc, JOIN, line)?;
-        let ended = ran(&rt, &["sequence"], &input, &[], &[])?;
+        let ended = ran(&rt, &["sequence"], input.as_bytes())?;
         let output = format!(in alloc; "{JOINED}\nbad line 2: {why}\n")?;
         assert_eq!(rt; ended.status, 3, "{line}");
         assert_eq!(rt; ended.output.as_str(), output.as_str());
@@ -335,7 +398,7 @@ fn an_empty_line_is_passed_over_and_a_long_one_refused(rt: HostRuntime) -> Resul
         (long.as_str(), 3, refused.as_str()),
     ] {
         let input = lines(alloc, JOIN, line)?;
-        let ended = ran(&rt, &["sequence"], &input, &[], &[])?;
+        let ended = ran(&rt, &["sequence"], input.as_bytes())?;
         assert_eq!(rt; ended.status, status);
         assert_eq!(rt; ended.output.as_str(), output);
     }
@@ -343,23 +406,76 @@ fn an_empty_line_is_passed_over_and_a_long_one_refused(rt: HostRuntime) -> Resul
 }
 
 #[test]
-fn a_fault_of_the_source_or_the_sink_has_its_status(rt: HostRuntime) -> Result<(), Fail> {
+fn a_line_that_is_no_text_is_refused_and_so_is_a_cut_one(rt: HostRuntime) -> Result<(), Fail> {
     let alloc = rt.alloc();
-    let input = lines(alloc, JOIN, "")?;
-    let joined = format!(in alloc; "{JOINED}\n")?;
-    // The first read gives the whole input, the second one its end; all output goes in one write.
-    for (reads, writes, status, output) in [
-        ([9], [9], 0, joined.as_str()),
-        ([1], [9], 4, ""),
-        ([2], [9], 4, joined.as_str()),
-        ([9], [1], 5, ""),
-        ([2], [1], 5, ""),
+    for (last, why) in [
+        (b"\xff\n".as_slice(), "not UTF-8"),
+        (b"\xc3\x28".as_slice(), "not UTF-8"),
+        (b"{\"raw\":\"leave\",\"clientId\":".as_slice(), "not JSON"),
     ] {
-        let ended = ran(&rt, &["sequence"], &input, &reads, &writes)?;
-        assert_eq!(rt; ended.status, status, "{reads:?} {writes:?}");
+        let mut input = Vec::from_slice(alloc, JOIN.as_bytes())?;
+        input.push(b'\n')?;
+        input.extend_from_slice(last)?;
+        let ended = ran(&rt, &["sequence"], &input)?;
+        let output = format!(in alloc; "{JOINED}\nbad line 2: {why}\n")?;
+        assert_eq!(rt; ended.status, 3);
+        assert_eq!(rt; ended.output.as_str(), output.as_str());
+    }
+    Ok(())
+}
+
+#[test]
+fn a_hundred_lists_are_read_and_one_more_is_too_deep(rt: HostRuntime) -> Result<(), Fail> {
+    let alloc = rt.alloc();
+    // The record itself is one of them.
+    for (depth, status) in [(99, 0), (100, 3)] {
+        let open = "[".repeat(alloc, depth)?;
+        let close = "]".repeat(alloc, depth)?;
+        let input = format!(in alloc;
+            "{{\"raw\":\"leave\",\"clientId\":\"A\",\"moment\":1,\"other\":{open}{close}}}"
+        )?;
+        let ended = ran(&rt, &["sequence"], input.as_bytes())?;
+        let output = if status == 0 {
+            "{\"dropped\":true}\n"
+        } else {
+            "bad line 1: nested too deep\n"
+        };
+        assert_eq!(rt; ended.status, status);
         assert_eq!(rt; ended.output.as_str(), output);
     }
-    let unwritten = ran(&rt, &[], "", &[], &[1])?;
+    Ok(())
+}
+
+#[test]
+fn each_fault_of_the_source_leaves_whole_lines(rt: HostRuntime) -> Result<(), Fail> {
+    let alloc = rt.alloc();
+    let input = lines(alloc, JOIN, JOIN)?;
+    let first = format!(in alloc; "{JOINED}\n")?;
+    let both = format!(in alloc; "{JOINED}\n{{\"dropped\":true}}\n")?;
+    // Reads of 96 bytes give the first line and a bit of the second, then the rest, and then the end.
+    for (read, output) in [(1, ""), (2, first.as_str()), (3, both.as_str())] {
+        let ended = ran_in_pieces(&rt, &["sequence"], input.as_bytes(), 96, &[read], &[])?;
+        assert_eq!(rt; ended.status, 4, "{read}");
+        assert_eq!(rt; ended.output.as_str(), output, "{read}");
+    }
+    Ok(())
+}
+
+#[test]
+fn each_fault_of_the_sink_leaves_a_beginning(rt: HostRuntime) -> Result<(), Fail> {
+    let alloc = rt.alloc();
+    let input = lines(alloc, JOIN, "")?;
+    let whole = format!(in alloc; "{JOINED}\n")?;
+    // Four writes of 64 bytes take the line, and then the sink hands it on.
+    for write in 1..=5 {
+        let ended = ran_in_pieces(&rt, &["sequence"], input.as_bytes(), 64, &[], &[write])?;
+        assert_eq!(rt; ended.status, 5, "{write}");
+        assert!(rt;
+            whole.as_str().starts_with(ended.output.as_str()),
+            "{write}"
+        );
+    }
+    let unwritten = ran_in_pieces(&rt, &[], b"", 64, &[], &[1])?;
     assert_eq!(rt; unwritten.status, 5);
     assert_eq!(rt; unwritten.output.as_str(), "");
     Ok(())
