@@ -44,7 +44,7 @@ module _ {E : Type 0} where
 abbrev pub Stood : {T E : Type 0} → (T → List E → Type 0) → List (Numbered E) → Type 0
 Stood {T} {E} stands l = (x : T) × stands x (entries l)
 
--- the turn had this list once: some value stood for it, and each entry bears its seat's number
+-- some value stood for this list once, and each entry bears its seat's number
 pub record IsHistory {T E : Type 0} (stands : T → List E → Type 0) (l : List (Numbered E)) : Type 0 where
   pub stood : Stood stands l
   pub signed : (seats : ℕ) × IsSigned seats l

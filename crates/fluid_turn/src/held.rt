@@ -68,7 +68,7 @@ impl<'a, T: Chronicle> Held<'a, T> {
         place.give(value)
     }
 
-    /// Ends the turn: nobody gets it any more.
+    /// Ends the turn: the value comes back, and the turn is not passed on.
     pub fn end(self) -> T
         ensures { result ≡ self.entry.value }
     {

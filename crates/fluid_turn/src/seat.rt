@@ -29,8 +29,8 @@ impl<T: Chronicle> Model for Seat<T> {
 impl<T: Chronicle> Seat<T> {
     ghost use Rattle.fluid_turn.specs.Seated.{known_of, IsSeated};
 
-    /// What holds of every seat: its own entries are those of the seen ones that bear its number, in order, and the turn had the
-    /// seen list once.
+    /// What holds of every seat: its own entries are those of the seen ones that bear its number, in order, and some value
+    /// stood for the seen list once.
     pub fn know(&self)
         ensures own { self.now.mine ≡ made_by self.now.number self.now.seen }
         ensures history { IsHistory T.stands self.now.seen }

@@ -57,7 +57,7 @@ impl<T: Chronicle> Turn<T> {
         }
     }
 
-    /// Waits until the turn comes to this seat. With no ticket left it doesn't return: 2^64 - 1 can be drawn.
+    /// Waits until the turn comes to this seat. With no ticket of 64 bits left it doesn't return.
     pub fn take<R: Wait>(&self, rt: &R, seat: Seat<T>) -> Held<'_, T>
         requires { seat.turn ≡ self.now.id }
         ensures seat { result.place.seat ≡ seat }
@@ -144,7 +144,8 @@ impl<T: Chronicle> Turn<T> {
         steps::note::<T, Brand>(words, &mut seat.token);
     }
 
-    /// A new seat, which has seen the entries so far and has none of its own.
+    /// A new seat of this turn, which has no entries of its own. `Seat::know` tells what holds of what it has seen, and its
+    /// first `note` shows it all entries.
     pub fn seat(&self) -> Seat<T>
         ensures { (result.turn ≡ self.now.id) × (result.mine ≡ []) }
     {
