@@ -1,5 +1,5 @@
 -- The bytes of a line and how they came to their end give the answer for the first of the lines that were ahead.
-use Rattle.std.proofs.Common.{◌≡◌, ℕ, ◌+◌, ◌<◌, Bool, true, false, List, [], ◌∷◌, ◌++◌, length, Option, Some, None, Result, Ok, Err, unwrap_or, refl, ap, sym, ◌∙◌, subst, append-nil, lt-ltb, ◌==◌, if◌then◌else◌, ⊎_elim}
+use Rattle.std.proofs.Common.{◌≡◌, ℕ, ◌+◌, ◌<◌, Bool, true, false, List, [], ◌∷◌, ◌++◌, length, Option, Some, None, Result, Ok, Err, unwrap_or, inl, inr, refl, ap, sym, ◌∙◌, subst, append-nil, lt-ltb, ◌==◌, if◌then◌else◌, ⊎_elim}
 use Rattle.std.specs.Option.{option_map}
 use Rattle.std.specs.Str.Lines.{lines, strip_carriage_return}
 use Rattle.std.proofs.lemmas.Bool.{cases_Bool}
@@ -10,12 +10,12 @@ use Rattle.fluid_io.specs.declared.line.Line.TheVariants.{Text, End}
 use Rattle.fluid_io.specs.declared.line.LineFault.{LineFault}
 use Rattle.fluid_io.specs.declared.line.LineFault.TheVariants.{ReadFault, TooLong, NotUtf8, NoMemory, TooMany}
 use Rattle.fluid_io.specs.Causes.{Tells}
-use Rattle.fluid_io.specs.Chunk.{IsPlain, EndsLine, behind_held, ended_answer}
+use Rattle.fluid_io.specs.Chunk.{EndsLine, behind_held, ended_answer}
 use Rattle.fluid_io.specs.Reader.{Reader}
 use Rattle.fluid_io.specs.Streams.{Reading, Gives}
-use Rattle.fluid_io.specs.Lines.{ahead, lines_ahead, line_answer, first_answer, AnswersBytes, IsNext, GivesLine}
+use Rattle.fluid_io.specs.Lines.{ahead, line_answer, first_answer, AnswersBytes, IsNext, GivesLine, IsPlain, PassesLine}
 use Rattle.fluid_io.proofs.Told.{LineTells, line_tells, answer_tells}
-use Rattle.fluid_io.proofs.Firsts.{line_fed, line_unfed, long_line}
+use Rattle.fluid_io.proofs.Firsts.{line_fed, line_unfed, lines_none, long_line}
 
 -- the bytes that were ahead, where they are told
 told_bytes : (taken : List ℕ) (old new : Option (List ℕ)) → Gives taken old new → Tells old (λ known. known ≡ taken ++ unwrap_or new [])
@@ -86,9 +86,9 @@ ended_answers r old new line Excess well plain ends =
 
 -- where the first of the lines that were ahead is this one, its answer gives it, if any
 gives_first : (limit number : ℕ) (r : Reader) (before : Reading) (new : Reader) (now : Reading) (line : List ℕ) (answer : Result Line LineFault)
-    → lines_ahead r before ≡ option_map (λ more. line ∷ more) (lines_ahead new now) → LineTells limit number line answer → GivesLine r before new now answer
+    → PassesLine line (ahead r before) (ahead new now) → LineTells limit number line answer → GivesLine r before new now answer
 gives_first limit number r before new now line (Ok (Text text)) first tells =
-    first ∙ ap (λ t. option_map (λ more. t ∷ more) (lines_ahead new now)) (sym tells.same)
+    subst (λ t. PassesLine t (ahead r before) (ahead new now)) (sym tells.same) first
 gives_first limit number r before new now line (Ok End) first tells = absurd tells
 gives_first limit number r before new now line (Err fault) first tells = tt
 
@@ -103,17 +103,36 @@ lines_last line old None plain gives ended some = ap (option_map lines) gives
 lines_last line old (Some rest) plain gives ended some =
     ap (option_map lines) gives ∙ ap Some (rw (ended, append-nil) (line_unfed line plain ∙ rw some refl))
 
+passes_fed : (line : List ℕ) (old new : Option (List ℕ)) → IsPlain line → Gives (line ++ 10 ∷ []) old new → PassesLine (strip_carriage_return line) old new
+passes_fed line old new plain gives = record {
+  first = lines_fed line old new plain gives;
+  bytes = line ++ 10 ∷ [];
+  gives = gives;
+  are = ap lines (sym (append-nil (line ++ 10 ∷ []))) ∙ line_fed line [] plain ∙ ap (λ more. strip_carriage_return line ∷ more) lines_none;
+  ended = inl (record { front = line; is = refl });
+}
+
+passes_last : (line : List ℕ) (old new : Option (List ℕ)) → IsPlain line → Gives line old new → Tells new (λ bytes. bytes ≡ []) → (length line == 0) ≡ false
+    → PassesLine line old new
+passes_last line old new plain gives ended some = record {
+  first = lines_last line old new plain gives ended some;
+  bytes = line;
+  gives = gives;
+  are = line_unfed line plain ∙ rw some refl;
+  ended = inr ended;
+}
+
 pub ended_gives : (r : Reader) (before : Reading) (new : Reader) (now : Reading) (line : List ℕ) (ending : Ending)
     → IsPlain line → EndsLine r.limit (ahead r before) (ahead new now) line ending
     → GivesLine r before new now (ended_answer r.limit (r.count + 1) line ending)
 ended_gives r before new now line LineFeed plain ends =
-    gives_first r.limit (r.count + 1) r before new now (strip_carriage_return line) _ (lines_fed line (ahead r before) (ahead new now) plain ends)
+    gives_first r.limit (r.count + 1) r before new now (strip_carriage_return line) _ (passes_fed line (ahead r before) (ahead new now) plain ends)
     (line_tells r.limit (r.count + 1) (strip_carriage_return line))
 ended_gives r before new now line Input plain ends =
     let P : Bool → Type 0 = λ none. GivesLine r before new now (if none then Ok End else line_answer r.limit (r.count + 1) line) in
     ⊎_elim
     (λ none. subst P (sym none) (λ well. ends.1))
-    (λ some. subst P (sym some) (gives_first r.limit (r.count + 1) r before new now line _ (lines_last line (ahead r before) (ahead new now) plain ends.0 ends.1 some)
+    (λ some. subst P (sym some) (gives_first r.limit (r.count + 1) r before new now line _ (passes_last line (ahead r before) (ahead new now) plain ends.0 ends.1 some)
     (line_tells r.limit (r.count + 1) line)))
     (cases_Bool (length line == 0))
 ended_gives r before new now line Excess plain ends = tt

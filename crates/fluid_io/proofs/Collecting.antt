@@ -1,6 +1,7 @@
 -- How the bytes of one line are collected.
 use Rattle.std.proofs.Common.{ℕ, ◌+◌, ◌≤◌, List, length}
-use Rattle.fluid_io.specs.Chunk.{IsPlain, behind_held}
+use Rattle.fluid_io.specs.Chunk.{behind_held}
+use Rattle.fluid_io.specs.Lines.{IsPlain}
 use Rattle.fluid_io.specs.Streams.{Reading, Gives}
 
 -- the bytes of a line so far were taken from the front of those that were ahead

@@ -6,7 +6,7 @@ use Rattle.std.specs.Str.Lines.{lines, lines_of_parts, strip_carriage_return}
 use Rattle.std.proofs.lemmas.List.{length-take}
 use Rattle.std.proofs.lemmas.List.Elements.{All-push}
 use Rattle.std.proofs.lemmas.List.Splits.{slice_split_none, slice_split_at, length-slice_split}
-use Rattle.fluid_io.specs.Chunk.{IsPlain}
+use Rattle.fluid_io.specs.Lines.{IsPlain}
 
 -- a part with another behind it is a line without its carriage return
 part_before : (part : List ℕ) (parts : List (List ℕ)) → 0 < length parts → lines_of_parts (part ∷ parts) ≡ strip_carriage_return part ∷ lines_of_parts parts
@@ -23,6 +23,9 @@ line_fed line rest plain =
 -- bytes with no line feed are the one line, where there are any
 pub line_unfed : (line : List ℕ) → IsPlain line → lines line ≡ (if length line == 0 then [] else line ∷ [])
 line_unfed line plain = ap lines_of_parts (slice_split_none (λ b. b == 10) line plain)
+
+pub lines_none : lines [] ≡ []
+lines_none = refl
 
 -- bytes have a first line that is longer than the limit
 pub record IsLong (limit : ℕ) (bytes : List ℕ) : Type 0 where

@@ -4,7 +4,8 @@ use Rattle.std.proofs.lemmas.Bool.{eqb-true, false_from_ne_true}
 use Rattle.std.proofs.lemmas.List.{take-append-drop, drop_more, drop-take, drop-drop, get_or-take, length-take, length-take-le}
 use Rattle.std.proofs.lemmas.List.Elements.{All-from_get_or}
 use Rattle.memchr.specs.Find.{Passes, NoneBefore, Nowhere, is_byte}
-use Rattle.fluid_io.specs.Chunk.{IsPlain, TakesPiece}
+use Rattle.fluid_io.specs.Chunk.{TakesPiece}
+use Rattle.fluid_io.specs.Lines.{IsPlain}
 
 -- bytes up to a place below which no line feed stands
 plain_before : (bytes : List ℕ) (n : ℕ) → n ≤ length bytes → Nowhere (Passes (is_byte 10) bytes) 0 n → IsPlain (take n bytes)

@@ -1,5 +1,5 @@
 -- What the buffer behind a reader of lines holds, and how the bytes of one line are taken from it.
-use Rattle.std.specs.Prelude.{◌≡◌, ℕ, ◌+◌, ◌<◌, ◌==◌, Bool, false, List, [], ◌∷◌, ◌++◌, length, All, Option, Result, Ok, Err, if◌then◌else◌}
+use Rattle.std.specs.Prelude.{◌≡◌, ℕ, ◌+◌, ◌<◌, ◌≤◌, ◌==◌, Bool, false, List, [], ◌∷◌, ◌++◌, length, Option, Result, Ok, Err, if◌then◌else◌}
 use Rattle.std.specs.Option.{option_map}
 use Rattle.fluid_io.specs.declared.chunk.Ending.{Ending}
 use Rattle.fluid_io.specs.declared.chunk.Ending.TheVariants.{LineFeed, Input, Excess}
@@ -8,17 +8,13 @@ use Rattle.fluid_io.specs.declared.line.LineFault.TheVariants.{ReadFault, TooLon
 use Rattle.fluid_io.specs.declared.line.Line.{Line}
 use Rattle.fluid_io.specs.declared.line.Line.TheVariants.{End}
 use Rattle.std.specs.Str.Lines.{strip_carriage_return}
-use Rattle.fluid_io.specs.Lines.{line_answer}
+use Rattle.fluid_io.specs.Lines.{line_answer, IsPlain}
 use Rattle.fluid_io.specs.Causes.{Tells, Rose}
 use Rattle.fluid_io.specs.Streams.{Reading, Gives}
 
 -- the bytes that are held and then those that the source has left
 abbrev pub behind_held : List ℕ → Reading → Option (List ℕ)
 behind_held held s = option_map (λ left. held ++ left) s.left
-
--- no byte is a line feed
-abbrev pub IsPlain : List ℕ → Type 0
-IsPlain bytes = All (λ b. (b == 10) ≡ false) bytes
 
 -- bytes were moved from the front of those that are held to the end of the line: up to a line feed, which was taken
 -- too, or all of them
@@ -41,10 +37,11 @@ EndsLine limit old new line LineFeed = Gives (line ++ 10 ∷ []) old new
 EndsLine limit old new line Input = Gives line old new × Tells new (λ bytes. bytes ≡ [])
 EndsLine limit old new line Excess = Gives line old new × (limit + 1 < length line)
 
--- the same of a search that may fail
+-- the same of a search that may fail. Where the source fails no byte is held, and they aren't too many yet
 abbrev pub SearchesLine : (limit : ℕ) → Reading → Reading → Option (List ℕ) → Option (List ℕ) → List ℕ → Result Ending LineFault → Type 0
 SearchesLine limit before now old new line (Ok ending) = EndsLine limit old new line ending
-SearchesLine limit before now old new line (Err ReadFault) = Gives line old new × Rose before.faults now.faults
+SearchesLine limit before now old new line (Err ReadFault) =
+    Gives line old new × (new ≡ now.left) × (length line ≤ limit + 1) × Rose before.faults now.faults
 SearchesLine limit before now old new line (Err NoMemory) = Gives line old new
 SearchesLine limit before now old new line (Err (TooLong number)) = ⊥
 SearchesLine limit before now old new line (Err (NotUtf8 number)) = ⊥

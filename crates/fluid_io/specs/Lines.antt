@@ -1,7 +1,7 @@
 -- What a reader of lines answers, and what it and its source have before them then. The lines of bytes are those of
 -- `str::lines`: a line feed ends a line and one carriage return before it goes, and a last part without a line
 -- feed is a line where it has any byte, and keeps its carriage return.
-use Rattle.std.specs.Prelude.{◌≡◌, ℕ, ◌+◌, false, ◌||◌, nat_lt, List, [], ◌∷◌, ◌++◌, length, Option, Result, Ok, Err, ⊤, is_err, if◌then◌else◌}
+use Rattle.std.specs.Prelude.{◌≡◌, ◌⊎◌, ℕ, ◌+◌, ◌≤◌, ◌==◌, false, ◌||◌, nat_lt, List, [], ◌∷◌, ◌++◌, length, All, Option, Result, Ok, Err, ⊤, is_err, if◌then◌else◌}
 use Rattle.std.specs.Option.{option_map}
 use Rattle.std.specs.Str.{is_utf8}
 use Rattle.std.specs.Str.Lines.{lines}
@@ -13,6 +13,15 @@ use Rattle.fluid_io.specs.declared.line.LineFault.TheVariants.{ReadFault, TooLon
 use Rattle.fluid_io.specs.Reader.{Reader}
 use Rattle.fluid_io.specs.Causes.{Rose, Tells}
 use Rattle.fluid_io.specs.Streams.{Reading, Gives}
+
+-- no byte is a line feed
+abbrev pub IsPlain : List ℕ → Type 0
+IsPlain bytes = All (λ b. (b == 10) ≡ false) bytes
+
+-- the last byte is a line feed
+pub record EndsInLineFeed (bytes : List ℕ) : Type 0 where
+  pub front : List ℕ
+  pub is : bytes ≡ front ++ 10 ∷ []
 
 -- the bytes before a reader over a source: those that it holds, and then those that the source has left
 abbrev pub ahead : Reader → Reading → Option (List ℕ)
@@ -44,11 +53,21 @@ pub record AnswersBytes (r : Reader) (told : Option (List ℕ)) (answer : Result
   pub are_told : Tells told (λ known. known ≡ bytes)
   pub answered : answer ≡ next_answer r (lines bytes)
 
--- why an answer came: a fault of reading where the source's count rose, want of memory at any time, and each other
+-- a source cut a reader off: its count of faults rose, and all that was before the reader, but for what the source has
+-- left, is a part of a line. It has no line feed, and is at most one byte longer than a line may be, since that byte might
+-- be a carriage return
+pub record IsCutOff (r : Reader) (before now : Reading) : Type 0 where
+  pub rose : Rose before.faults now.faults
+  pub part : List ℕ
+  pub gives : Gives part (ahead r before) now.left
+  pub plain : IsPlain part
+  pub few : length part ≤ r.limit + 1
+
+-- why an answer came: a fault of reading where the source cut the reader off, want of memory at any time, and each other
 -- answer by the bytes that were before the reader
 abbrev pub IsNext : Reader → Reading → Reading → Result Line LineFault → Type 0
 IsNext r before now (Ok line) = AnswersBytes r (ahead r before) (Ok line)
-IsNext r before now (Err ReadFault) = Rose before.faults now.faults
+IsNext r before now (Err ReadFault) = IsCutOff r before now
 IsNext r before now (Err (TooLong number)) = AnswersBytes r (ahead r before) (Err (TooLong number))
 IsNext r before now (Err (NotUtf8 number)) = AnswersBytes r (ahead r before) (Err (NotUtf8 number))
 IsNext r before now (Err NoMemory) = ⊤
@@ -71,10 +90,19 @@ pub record Advances (old new : Option (List ℕ)) : Type 0 where
   pub passed : List ℕ
   pub gives : Gives passed old new
 
--- a line that is given was the first of the lines before the reader, and the others are before it then; at the end
--- there are no bytes before a reader that hasn't failed
+-- a line was passed over from the front of the bytes before a reader: it was the first of their lines, and the others are
+-- those of the bytes behind. The bytes that were passed over are this line, and its line feed stands at their end or no
+-- byte is behind them
+pub record PassesLine (text : List ℕ) (old new : Option (List ℕ)) : Type 0 where
+  pub first : option_map lines old ≡ option_map (λ more. text ∷ more) (option_map lines new)
+  pub bytes : List ℕ
+  pub gives : Gives bytes old new
+  pub are : lines bytes ≡ text ∷ []
+  pub ended : EndsInLineFeed bytes ⊎ Tells new (λ behind. behind ≡ [])
+
+-- a line that is given was passed over; at the end there are no bytes before a reader that hasn't failed
 abbrev pub GivesLine : Reader → Reading → Reader → Reading → Result Line LineFault → Type 0
-GivesLine old before new now (Ok (Text text)) = lines_ahead old before ≡ option_map (λ more. text ∷ more) (lines_ahead new now)
+GivesLine old before new now (Ok (Text text)) = PassesLine text (ahead old before) (ahead new now)
 GivesLine old before new now (Ok End) = old.failed ≡ false → Tells (ahead new now) (λ bytes. bytes ≡ [])
 GivesLine old before new now (Err fault) = ⊤
 

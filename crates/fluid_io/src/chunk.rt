@@ -1,7 +1,8 @@
 //! Bytes that were read ahead, and how a line is taken from them.
 ghost use Rattle.std.specs.Prelude.{◌≡◌, ℕ, ◌+◌, ◌-◌, ◌*◌, ◌^◌, ◌<◌, ◌≤◌, ◌==◌, List, [], length, IfOk, OnOk, OnErr};
 ghost use Rattle.fluid_io.specs.Causes.{HasCause, Tells};
-ghost use Rattle.fluid_io.specs.Chunk.{behind_held, IsPlain, SearchesLine, TakesPiece};
+ghost use Rattle.fluid_io.specs.Chunk.{behind_held, SearchesLine, TakesPiece};
+ghost use Rattle.fluid_io.specs.Lines.{IsPlain};
 
 use crate::{Failed, LineFault, Source};
 use memchr::memchr;
@@ -47,11 +48,12 @@ impl Chunk {
         self.start == self.end
     }
 
-    /// Reads ahead where nothing is held. Then nothing is held only where the source has ended.
+    /// Reads ahead where nothing is held. Then nothing is held only where the source has ended or failed.
     pub(crate) fn fill<S: Source>(&mut self, source: &mut S) -> Result<(), Failed>
         ensures cause { HasCause (S.seen source.old).faults (S.seen source.new).faults result }
         ensures same { behind_held self.new (S.seen source.new) ≡ behind_held self.old (S.seen source.old) }
         ensures ended { OnOk result (self.new ≡ [] → Tells (behind_held self.new (S.seen source.new)) (λ bytes. bytes ≡ [])) }
+        ensures used { OnErr result (behind_held self.new (S.seen source.new) ≡ (S.seen source.new).left) }
     {
         if self.start < self.end {
             return Ok(());

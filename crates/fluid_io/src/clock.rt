@@ -62,8 +62,16 @@ pub struct StdClock<C: time::Clock> {
     inner: C,
 }
 
+impl<C: time::Clock> Model for StdClock<C> {
+    ghost Value = { C };
+
+    ghost view = { λ c. c.inner };
+}
+
 impl<C: time::Clock> StdClock<C> {
-    pub fn new(inner: C) -> StdClock<C> {
+    pub fn new(inner: C) -> StdClock<C>
+        ensures { result ≡ inner }
+    {
         StdClock { inner }
     }
 }
