@@ -1,0 +1,5 @@
+pub mod Ordered
+pub mod Maps
+pub mod Places
+pub mod KeyedPlaces
+pub mod Neighbours

@@ -1,0 +1,17 @@
+//! Tables that are searched by key: entries in one vector, in byte order of their keys, each key once.
+//!
+//! A search takes a number of comparisons that grows with the logarithm of the entries. A new key moves the entries behind
+//! it. Contracts see a finite map (`specs/Table.antt`).
+//!
+//! - `table`: `Entries`, values under texts as keys, with the room that there is for more keys.
+//! - `keyed`: what has its key in itself, as `Entry`. The vector stays its owner's, who keeps it in order and knows its room.
+#![tactic(auto)]
+
+mod keyed;
+mod table;
+
+pub use keyed::{Entry, find, is_in_order, put, take_out};
+pub use table::Entries;
+
+#[cfg(test)]
+mod tests;
