@@ -1,2 +1,4 @@
 pub mod EntryNames
 pub mod Ledgers
+pub mod Quorums
+pub mod Tables

@@ -1,3 +1,4 @@
+pub mod Blobs
 pub mod Contents
 pub mod Fits
 pub mod Forms
@@ -5,6 +6,8 @@ pub mod Ledger
 pub mod Messages
 pub mod Names
 pub mod Printed
+pub mod Quorum
+pub mod QuorumExamples
 pub mod Records
 pub mod Spellings
 pub mod Texts

@@ -13,6 +13,7 @@ use Rattle.fluid_types.specs.declared.nacks.NackRule.TheVariants.{Gap, Nonexiste
 
 -- the name of a member or an argument
 unfoldable pub name_of : Field → List ℕ
+name_of field.ApprovalSequenceNumber = codes "approvalSequenceNumber"
 name_of field.CheckpointSequenceNumber = codes "checkpointSequenceNumber"
 name_of field.Client = codes "client"
 name_of field.ClientId = codes "clientId"
@@ -27,7 +28,9 @@ name_of field.Dropped = codes "dropped"
 name_of field.Found = codes "found"
 name_of field.From = codes "from"
 name_of field.Handle = codes "handle"
+name_of field.Head = codes "head"
 name_of field.Id = codes "id"
+name_of field.Key = codes "key"
 name_of field.MaxMessageSize = codes "maxMessageSize"
 name_of field.Message = codes "message"
 name_of field.Messages = codes "messages"
@@ -50,6 +53,7 @@ name_of field.SummarySequenceNumber = codes "summarySequenceNumber"
 name_of field.Timestamp = codes "timestamp"
 name_of field.To = codes "to"
 name_of field.«Type» = codes "type"
+name_of field.Value = codes "value"
 name_of field.Version = codes "version"
 
 -- what is wrong with a member

@@ -6,6 +6,8 @@ use Rattle.fluid_types.specs.declared.entries.Offered.{Offered}
 use Rattle.fluid_types.specs.declared.entries.Offered.TheVariants as offered
 use Rattle.fluid_types.specs.declared.messages.Kind.{Kind}
 use Rattle.fluid_types.specs.declared.messages.Kind.TheVariants as kind
+use Rattle.fluid_types.specs.declared.quorum.QuorumBlob.{QuorumBlob}
+use Rattle.fluid_types.specs.declared.quorum.QuorumBlob.TheVariants as blob
 
 -- the kinds of raw entries
 abbrev pub raw_word : RawKind → List ℕ
@@ -52,3 +54,13 @@ write_word = codes "doc:write"
 
 abbrev pub summary_word : List ℕ
 summary_word = codes "summary:write"
+
+-- the blobs in which a summary keeps a quorum
+abbrev pub blob_word : QuorumBlob → List ℕ
+blob_word blob.Attributes = codes "attributes"
+blob_word blob.Members = codes "quorumMembers"
+blob_word blob.Proposals = codes "quorumProposals"
+blob_word blob.Values = codes "quorumValues"
+
+abbrev pub quorum_blobs : List QuorumBlob
+quorum_blobs = blob.Attributes ∷ blob.Members ∷ blob.Proposals ∷ blob.Values ∷ []

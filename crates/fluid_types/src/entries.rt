@@ -27,7 +27,7 @@ pub enum Offered {
 /// A document message, as its client submits it.
 #[derive(Drop)]
 pub struct Submission {
-    /// The client's own count of its submissions, from 1, at most 2^53 - 1.
+    /// The client's own count of its submissions, at most 2^53 - 1. The first that can be sequenced has 1.
     pub client_number: u64,
     /// The last sequence number that the client had seen, or -1 where it leaves this to the service.
     pub reference: i64,

@@ -1,13 +1,14 @@
 // Why a text is not read: the faults of the codec, with the member or argument that they name.
-ghost use Rattle.std.specs.Prelude.{◌≡◌, ◌++◌, IfOk, codes};
+ghost use Rattle.std.specs.Prelude.{◌≡◌, ◌⊎◌, ◌++◌, IfOk, codes};
 ghost use Rattle.fluid_types.specs.Texts.{name_of, words_of, fault_text};
 
 use fluid_json::{NoMemory, Text};
 use std::alloc::{AllocError, AllocFailed, Global};
 
-/// The members and arguments of records, messages, nacks and events, and `message` itself.
+/// The members and arguments of records, messages, nacks, events, summaries and blobs, and `message` itself.
 #[derive(Clone, Copy, Debug, PartialEq, Eq)]
 pub enum Field {
+    ApprovalSequenceNumber,
     CheckpointSequenceNumber,
     Client,
     ClientId,
@@ -22,7 +23,9 @@ pub enum Field {
     Found,
     From,
     Handle,
+    Head,
     Id,
+    Key,
     MaxMessageSize,
     Message,
     Messages,
@@ -45,6 +48,7 @@ pub enum Field {
     Timestamp,
     To,
     Type,
+    Value,
     Version,
 }
 
@@ -62,7 +66,8 @@ pub enum What {
     BadName,
 }
 
-/// Why a text is not read, in the order in which the reader looks.
+/// Why a text is not read. Too deep is looked for first, then whether the text is JSON, then whether its numbers are
+/// whole, and then the members.
 #[derive(Clone, Copy, Debug, PartialEq, Eq)]
 pub enum CodecFault {
     NotJson,
@@ -83,6 +88,18 @@ pub enum BlobFault {
     NoMemory,
 }
 
+impl BlobFault {
+    /// The fault of the blob of this name; want of memory where there is none for the path.
+    pub fn of(alloc: Global, name: Field) -> BlobFault
+        ensures { (result ≡ BlobFault.NoMemory) ⊎ (result ≡ BlobFault.BadBlob (name_of name)) }
+    {
+        match Text::copied(alloc, name.name()) {
+            Ok(path) => BlobFault::BadBlob(path),
+            Err(_) => BlobFault::NoMemory,
+        }
+    }
+}
+
 impl Field {
     /// The name as it stands in a text.
     #[tactic(auto, unfolding(crate::specs::Texts::name_of))]
@@ -90,6 +107,7 @@ impl Field {
         ensures { result.now ≡ name_of self }
     {
         match self {
+            Field::ApprovalSequenceNumber => "approvalSequenceNumber",
             Field::CheckpointSequenceNumber => "checkpointSequenceNumber",
             Field::Client => "client",
             Field::ClientId => "clientId",
@@ -104,7 +122,9 @@ impl Field {
             Field::Found => "found",
             Field::From => "from",
             Field::Handle => "handle",
+            Field::Head => "head",
             Field::Id => "id",
+            Field::Key => "key",
             Field::MaxMessageSize => "maxMessageSize",
             Field::Message => "message",
             Field::Messages => "messages",
@@ -127,6 +147,7 @@ impl Field {
             Field::Timestamp => "timestamp",
             Field::To => "to",
             Field::Type => "type",
+            Field::Value => "value",
             Field::Version => "version",
         }
     }

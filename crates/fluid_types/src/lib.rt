@@ -1,13 +1,15 @@
-// The names and records of the protocol, with public fields: what clients hand to a document, the
-// messages that it puts in order, and its refusals. Every other crate speaks of these.
+//! The names and records of the protocol, with public fields: what clients hand to a document, the
+//! messages that it puts in order, and its refusals. Every other crate speaks of these.
 #![tactic(auto)]
 
 pub mod contents;
 pub mod entries;
+pub mod examples;
 pub mod fault;
 pub mod messages;
 pub mod nacks;
 pub mod names;
+pub mod quorum;
 pub mod verdicts;
 pub mod words;
 
@@ -17,6 +19,7 @@ pub use fault::{BlobFault, CodecFault, Field, What};
 pub use messages::{Kind, Message};
 pub use nacks::{Nack, NackKind, NackRule};
 pub use names::{Address, ClientId, DocName, NameFault};
+pub use quorum::{Accepted, Member, Proposal, QuorumBlob};
 pub use verdicts::Verdict;
 pub use words::{RawKind, Word, of_word};
 

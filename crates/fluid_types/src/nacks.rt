@@ -15,7 +15,7 @@ pub enum NackRule {
     Below,
     Ahead,
     Scope,
-    /// The text is outside the grammar. The fault is never want of memory.
+    /// The text is outside the grammar. Whoever makes it leaves want of memory out: that is no fault of a text.
     Unread(CodecFault),
     NotConnected,
     ForeignClient,

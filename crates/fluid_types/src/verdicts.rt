@@ -11,7 +11,7 @@ pub enum Verdict {
     /// It has a place in the order, as this message.
     Sequenced(Message),
     Nacked(Nack),
-    /// It changes nothing and is answered by nothing.
+    /// It repeats what stands already: no client is told of it.
     Dropped,
 }
 
