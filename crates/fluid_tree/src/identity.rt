@@ -9,7 +9,7 @@ use crate::id::Id;
 use crate::names::first_refused_child;
 use crate::node::{Kind, Node};
 use crate::object::ObjectEntry;
-use crate::writing::{tree_bytes, with_header};
+use crate::writing::{blob_bytes, tree_bytes};
 use fluid_json::{Bytes, Text};
 use std::alloc::Global;
 
@@ -43,11 +43,10 @@ fn id_within(alloc: Global, node: &Node, levels: usize) -> Result<Id, TreeFault>
     }
 }
 
-#[tactic(auto, unfolding(crate::specs::Object::object_bytes))]
 fn blob_id(alloc: Global, content: &Bytes) -> Result<Id, TreeFault>
     ensures { IsUnless TreeFault.NoMemory result (blob_id content.now) }
 {
-    let bytes = with_header(alloc, "blob", content.as_slice())?;
+    let bytes = blob_bytes(alloc, content.as_slice())?;
     Ok(Id::of(bytes.as_slice()))
 }
 

@@ -24,7 +24,7 @@ pub use json_form::from_json;
 pub use node::{Entries, Node, Path};
 pub use object::{Object, ObjectEntries, ObjectEntry};
 pub use reading::read_object;
-pub use writing::object_bytes;
+pub use writing::{blob_bytes, object_bytes, sort_key, tree_bytes};
 
 #[cfg(test)]
 mod tests;

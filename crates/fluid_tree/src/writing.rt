@@ -2,7 +2,7 @@ ghost use Rattle.std.specs.Prelude.{◌≡◌, ◌++◌, flat_map, string_bytes,
 ghost use Rattle.fluid_json.specs.Unless.{IsUnless};
 ghost use Rattle.std.specs.Prelude.{[], map};
 ghost use Rattle.fluid_tree.specs.Names.{first_refused};
-ghost use Rattle.fluid_tree.specs.Object.{mode, unless_refused, entry_bytes, sort_key, in_order, with_header, tree_bytes, bytes_answer};
+ghost use Rattle.fluid_tree.specs.Object.{mode, unless_refused, entry_bytes, sort_key, in_order, with_header, tree_bytes, object_bytes, bytes_answer};
 ghost use Rattle.fluid_tree.specs.Sorted.{Stands};
 
 use crate::fault::TreeFault;
@@ -19,11 +19,20 @@ pub fn object_bytes(alloc: Global, object: &Object) -> Result<Bytes, TreeFault>
 {
     match object {
         Object::Blob(content) => {
-            let bytes = with_header(alloc, "blob", content.as_slice())?;
+            let bytes = blob_bytes(alloc, content.as_slice())?;
             Ok(Bytes::new(bytes))
         }
         Object::Tree(entries) => checked_tree_bytes(alloc, entries.as_slice()),
     }
+}
+
+/// The bytes of a blob's object.
+#[tactic(auto, unfolding(crate::specs::Object::object_bytes))]
+pub fn blob_bytes(alloc: Global, content: &[u8]) -> Result<Vec<u8>, NoMemory>
+    ensures { IfOk result (λ bytes. bytes.items ≡ object_bytes (Object.Blob content.now)) }
+{
+    let bytes = with_header(alloc, "blob", content)?;
+    Ok(bytes)
 }
 
 fn checked_tree_bytes(alloc: Global, entries: &[ObjectEntry]) -> Result<Bytes, TreeFault>
@@ -39,9 +48,9 @@ fn checked_tree_bytes(alloc: Global, entries: &[ObjectEntry]) -> Result<Bytes, T
     }
 }
 
-// Of entries whose names aren't refused.
+/// The bytes of a tree's object, of entries whose names aren't refused. They may be handed in in any order.
 #[tactic(auto, unfolding(crate::specs::Object::tree_bytes))]
-pub(crate) fn tree_bytes(alloc: Global, entries: &[ObjectEntry]) -> Result<Vec<u8>, NoMemory>
+pub fn tree_bytes(alloc: Global, entries: &[ObjectEntry]) -> Result<Vec<u8>, NoMemory>
     ensures { IfOk result (λ bytes. bytes.items ≡ tree_bytes entries.now) }
 {
     let sorted = sorted(alloc, entries)?;
@@ -51,7 +60,7 @@ pub(crate) fn tree_bytes(alloc: Global, entries: &[ObjectEntry]) -> Result<Vec<u
 }
 
 #[tactic(auto, unfolding(crate::specs::Object::with_header))]
-pub(crate) fn with_header(alloc: Global, word: &str, body: &[u8]) -> Result<Vec<u8>, NoMemory>
+fn with_header(alloc: Global, word: &str, body: &[u8]) -> Result<Vec<u8>, NoMemory>
     ensures { IfOk result (λ bytes. bytes.items ≡ with_header word.now body.now) }
 {
     let mut digits = itoa::Buffer::new();
@@ -88,7 +97,8 @@ fn joined(alloc: Global, sorted: BTreeMap<String, Vec<u8>>) -> Result<Vec<u8>, N
     Ok(body)
 }
 
-pub(crate) fn sort_key(alloc: Global, entry: &ObjectEntry) -> Result<String, NoMemory>
+/// The key by which an entry is compared: its name, and for a tree a `/` behind it.
+pub fn sort_key(alloc: Global, entry: &ObjectEntry) -> Result<String, NoMemory>
     ensures { IfOk result (λ key. string_bytes key ≡ sort_key entry.now.tree entry.now.name) }
 {
     let mut key = String::from_str(alloc, entry.name.as_str())?;
