@@ -11,3 +11,5 @@ pub mod Verdicts
 pub mod Growth
 pub mod Refusals
 pub mod Settled
+pub mod Summaries
+pub mod SummariesComputed

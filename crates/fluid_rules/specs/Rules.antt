@@ -131,7 +131,7 @@ message ledger raw =
 -- ---- the verdict
 
 -- the first case that fits
-abbrev pub first_case : List (Bool × Verdict) → Verdict → Verdict
+abbrev pub first_case : {X : Type 0} → List (Bool × X) → X → X
 first_case [] otherwise = otherwise
 first_case (row ∷ rows) otherwise = if row.0 then row.1 else first_case rows otherwise
 

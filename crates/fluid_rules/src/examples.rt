@@ -1,5 +1,6 @@
-// Worked examples of the sequencing rules, each computed from the definitions.
+// Worked examples of the rules, each computed from the definitions.
 ghost use Rattle.fluid_rules.specs.Examples.{OneJoin, FirstMessage, TwoJoins, TwoWriters, BelowMinimum, AfterRefusal, WholeStory, WithoutScope};
+ghost use Rattle.fluid_rules.specs.ScribeExamples.{VersionAtReference, OnThePending, AfterTheAck, StaleHeads, RefusalText, AckText, MalformedContents, OldReferences};
 
 /// One join: number 1, minimum 0.
 pub fn one_join()
@@ -39,4 +40,44 @@ pub fn whole_story()
 /// A summarize of a client that may not write summaries.
 pub fn without_scope()
     ensures { WithoutScope }
+{}
+
+/// The version of a summarize has the order's state at its reference.
+pub fn version_at_reference()
+    ensures { VersionAtReference }
+{}
+
+/// The oldest summarize is pending, and a report on another number is dropped.
+pub fn on_the_pending()
+    ensures { OnThePending }
+{}
+
+/// What an acknowledgement leaves.
+pub fn after_the_ack()
+    ensures { AfterTheAck }
+{}
+
+/// A head that isn't the last acknowledged summary.
+pub fn stale_heads()
+    ensures { StaleHeads }
+{}
+
+/// The contents of a summaryNack.
+pub fn refusal_text()
+    ensures { RefusalText }
+{}
+
+/// The contents of a summaryAck.
+pub fn ack_text()
+    ensures { AckText }
+{}
+
+/// Contents that ask for no summary.
+pub fn malformed_contents()
+    ensures { MalformedContents }
+{}
+
+/// A reference below the last acknowledged one, and one that isn't.
+pub fn old_references()
+    ensures { OldReferences }
 {}

@@ -1,5 +1,8 @@
-// The laws of the sequencing rules. Each is the contract of a function that does nothing.
+// The laws of the rules. Each is the contract of a function that does nothing.
 ghost use Rattle.fluid_rules.specs.Laws.{MinimumIsLeast, MinimumIsBounded, MinimumNeverFalls, NackLeavesOrder, RefusedOnce, MessageHasMinimum, JoinedInOrder, LedgerIsOnlyLegal, LedgerGrows};
+ghost use Rattle.fluid_rules.specs.ScribeLaws.{UnansweredGrows, AcksGrow, UnansweredByNone, AnswersSayWhatIsMeant};
+
+use fluid_tree::laws::ids_are_read_back;
 
 /// The minimum is the least reference of a joined client, and the last sequence number where nobody is joined.
 pub fn minimum_is_least()
@@ -45,3 +48,25 @@ pub fn ledger_is_only_legal()
 pub fn ledger_grows()
     ensures { LedgerGrows }
 {}
+
+/// One message more takes away the summarize that it answers, and adds itself where it is one.
+pub fn unanswered_grows()
+    ensures { UnansweredGrows }
+{}
+
+/// One message more adds the acknowledgement that it makes.
+pub fn acks_grow()
+    ensures { AcksGrow }
+{}
+
+/// Where no answer stands before its summarize, those are unanswered that no message of the order answers.
+pub fn unanswered_by_none()
+    ensures { UnansweredByNone }
+{}
+
+/// The contents of an answer name their summarize, and those of a summaryAck its handle.
+pub fn answers_say_what_is_meant()
+    ensures { AnswersSayWhatIsMeant }
+{
+    ids_are_read_back();
+}

@@ -1,8 +1,13 @@
-// The sequencing rules: which verdict a raw entry gets over the entries before it. Definitions and laws alone.
+// The rules of a document: which verdict a raw entry gets over the entries before it, and what the scribe answers to a
+// summary. Definitions and laws alone, and the types of summaries and of the scribe's answers.
 // `specs/Past.antt` reads what a ledger says of its clients from its last entry back, `specs/Rules.antt` has the
-// rules in the words that other crates cite, and `specs/Laws.antt` what follows from them.
-// `laws` and `examples` say that these laws, and the verdicts of some small ledgers, are proved.
+// sequencing rules in the words that other crates cite, `specs/Scribe.antt` the scribe's, and `specs/Laws.antt` and
+// `specs/ScribeLaws.antt` what follows from them.
+// `laws` and `examples` say that these laws, and what comes of some small ledgers and orders, are proved.
 #![tactic(auto)]
 
+mod answers;
 pub mod examples;
 pub mod laws;
+
+pub use answers::{Answer, Proposed, SummaryRule};

@@ -1,0 +1,60 @@
+-- The worked examples of the scribe, computed.
+use Rattle.std.proofs.Common.{◌≡◌, [], ◌∷◌, Ok, codes, refl, ap, ◌∙◌, map, arith}
+use Rattle.std.specs.Fmt.{digits}
+use Rattle.hex.specs.Hex.{encode_with, decode_pairs}
+use Rattle.json.specs.Print.{escape_byte}
+use Rattle.fluid_json.specs.Spelled.{answer as spelled}
+use Rattle.fluid_json.specs.Tree.{null, text, object, members as pairs}
+use Rattle.fluid_json.proofs.ReadBack.{answers_itself}
+use Rattle.fluid_types.specs.Contents.{body}
+use Rattle.fluid_types.specs.Names.{is_name}
+use Rattle.fluid_types.specs.Texts.{name_of}
+use Rattle.fluid_types.specs.Quorum.{member_of, left_by, standing, members, quorum_of}
+use Rattle.fluid_types.specs.Blobs.{blob_text}
+use Rattle.fluid_types.proofs.Tables.{entries-latest}
+use Rattle.fluid_tree.specs.Ids.{id_read}
+use Rattle.fluid_rules.specs.Scribe.{proposed_by, answered_by, unanswered, ack_of, acks_behind, acks, answer_to, answer, rule_text}
+use Rattle.fluid_rules.specs.ScribeExamples.{VersionAtReference, OnThePending, AfterTheAck, StaleHeads, RefusalText, AckText, MalformedContents, OldReferences}
+
+joined : spelled (codes "{\"clientId\":\"B\",\"detail\":null}") ≡ Ok (object (pairs ((codes "clientId", text (codes "B")) ∷ (codes "detail", null) ∷ [])))
+unfolding escape_byte
+joined =
+    answers_itself 101 (object (pairs ((codes "clientId", text (codes "B")) ∷ (codes "detail", null) ∷ []))) ((refl, tt), (tt, (tt, (tt, tt)))) (omega arith) (omega arith)
+
+pub version_at_reference : VersionAtReference
+unfolding body name_of proposed_by answered_by unanswered ack_of acks_behind acks answer_to answer id_read decode_pairs is_name member_of left_by standing members quorum_of blob_text escape_byte digits
+version_at_reference = record {
+  pending_is = refl;
+  answered = refl;
+  attributes = refl;
+  nobody_at_20 = ap (map (λ e. e.0)) (entries-latest _);
+  one_at_25 = ap (map (λ e. e.0)) (entries-latest _) ∙ rw joined refl;
+}
+
+pub on_the_pending : OnThePending
+unfolding body name_of proposed_by answered_by unanswered ack_of acks_behind acks answer_to answer id_read decode_pairs
+on_the_pending = record { missing = refl; on_an_op = refl; on_a_later_one = refl; nothing_pending = refl }
+
+pub after_the_ack : AfterTheAck
+unfolding body name_of proposed_by answered_by unanswered ack_of acks_behind acks answer_to answer id_read decode_pairs encode_with
+after_the_ack = record { nothing_pending = refl; acknowledged = refl; its_number = refl; no_number = refl; again = refl }
+
+pub stale_heads : StaleHeads
+unfolding body name_of proposed_by answered_by unanswered ack_of acks_behind acks answer_to answer id_read decode_pairs encode_with rule_text
+stale_heads = record { refused = refl; whatever_is_found = refl; again = refl }
+
+pub refusal_text : RefusalText
+unfolding name_of rule_text escape_byte digits
+refusal_text = refl
+
+pub ack_text : AckText
+unfolding name_of encode_with escape_byte digits
+ack_text = refl
+
+pub malformed_contents : MalformedContents
+unfolding body name_of proposed_by answered_by unanswered ack_of acks_behind acks answer_to answer id_read decode_pairs encode_with
+malformed_contents = record { nothing = refl; not_found_either = refl; upper = refl; short = refl; no_head = refl }
+
+pub old_references : OldReferences
+unfolding body name_of proposed_by answered_by unanswered ack_of acks_behind acks answer_to answer id_read decode_pairs encode_with
+old_references = record { below = refl; below_and_missing = refl; equal = refl }
