@@ -76,6 +76,7 @@ impl Sequencer {
     pub fn prepare(&mut self, alloc: Global, raw: &Raw) -> Result<Ready, NoMemory>
         requires { self.old.state.sequence < 2 ^ 53 - 1 }
         ensures same { self.new.state ≡ self.old.state }
+        ensures spare { self.old.spare ≤ self.new.spare }
         ensures ready { IfOk result (λ ready. ready ≡ prepared self.old.state raw.now) }
         ensures committable { IfOk result (IsPreparedIn self.new) }
         ensures verdict { (ledger : Ledger) → StandsFor self.old.state ledger →
