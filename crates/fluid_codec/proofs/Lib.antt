@@ -1,4 +1,6 @@
+pub mod Digits
 pub mod Each
+pub mod Heard
 pub mod Nth
 pub mod Objects
 pub mod ReadBack

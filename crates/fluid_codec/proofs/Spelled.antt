@@ -318,7 +318,7 @@ read_as-ok (Err unread.NotWhole) u h = cc
 read_as-ok (Err unread.TooDeep) u h = cc
 read_as-ok (Err unread.NoMemory) u h = cc
 
-spelled_exactly : {A : Type 0} (read : Tree → Read A) (Spells : A → Tree → Type 0) → ((t : Tree) (a : A) → read t ≡ Ok a → Spells a t) → ((t : Tree) (a : A) → Spells a t → read t ≡ Ok a)
+pub spelled_exactly : {A : Type 0} (read : Tree → Read A) (Spells : A → Tree → Type 0) → ((t : Tree) (a : A) → read t ≡ Ok a → Spells a t) → ((t : Tree) (a : A) → Spells a t → read t ≡ Ok a)
     → (s : List ℕ) (a : A) → ((a_value s >>= read) ≡ Ok a) ↔ ((t : Tree) × (json_text.answer s ≡ Ok t) × Spells a t)
 unfolding a_value
 spelled_exactly read Spells forth back s a = (

@@ -65,7 +65,7 @@ a_text-reads = record { spelled = λ f t s h. as_text-some t s (ok_or-ok _ _ _ h
 pub a_truth-reads : Reads a_truth SpellsTruth
 a_truth-reads = record { spelled = λ f t b h. as_boolean-some t b (ok_or-ok _ _ _ h); read = λ f t b h. rw h refl }
 
-a_whole-ok : (f : Field) (t : Tree) (n : ℤ) → a_whole f t ≡ Ok n → t ≡ whole n
+pub a_whole-ok : (f : Field) (t : Tree) (n : ℤ) → a_whole f t ≡ Ok n → t ≡ whole n
 a_whole-ok f t n h = as_whole-some t n (ok_or-ok _ _ _ h)
 
 pub a_list-ok : (f : Field) (t : Tree) (ts : Trees) → a_list f t ≡ Ok ts → t ≡ list ts
@@ -133,7 +133,7 @@ reference-reads = record { spelled = reference_spelled; read = reference_read }
 
 -- ---- words
 
-find-passes : {A : Type 0} (p : A → Bool) (xs : List A) (a : A) → find p xs ≡ Some a → p a ≡ true
+pub find-passes : {A : Type 0} (p : A → Bool) (xs : List A) (a : A) → find p xs ≡ Some a → p a ≡ true
 find-passes p [] a h = cc
 find-passes p (x ∷ xs) a h = first (p x) refl (find-passes p xs a) h
   where

@@ -13,6 +13,9 @@ use Rattle.fluid_types.specs.declared.entries.Submission.{Submission}
 use Rattle.fluid_types.specs.declared.entries.Raw.{Raw}
 use Rattle.fluid_types.specs.declared.entries.Raw.TheVariants.{Join, Leave, Submit, Report}
 use Rattle.fluid_types.specs.declared.messages.Message.{Message}
+use Rattle.fluid_codec.specs.declared.events.Event.{Event}
+use Rattle.fluid_codec.specs.Events.{event_spelled}
+use Rattle.fluid_codec.specs.EventSpellings.{SpellsEvent}
 
 -- a text is answered by a raw entry exactly where it is the JSON of a value that spells the entry
 abbrev pub RecordsAreSpelled : Type 0
@@ -21,6 +24,10 @@ RecordsAreSpelled = (s : List ℕ) (raw : Raw) → (raw_spelled s ≡ Ok raw) �
 -- likewise a message
 abbrev pub MessagesAreSpelled : Type 0
 MessagesAreSpelled = (s : List ℕ) (m : Message) → (message_spelled s ≡ Ok m) ↔ ((t : Tree) × (json.answer s ≡ Ok t) × SpellsMessage m t)
+
+-- likewise an event
+abbrev pub EventsAreSpelled : Type 0
+EventsAreSpelled = (s : List ℕ) (e : Event) → (event_spelled s ≡ Ok e) ↔ ((t : Tree) × (json.answer s ≡ Ok t) × SpellsEvent e t)
 
 -- ---- what is printed is read back: records and messages whose names, numbers and nesting are in the grammar
 

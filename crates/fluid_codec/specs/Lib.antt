@@ -1,5 +1,6 @@
 pub mod Behind
 pub mod Events
+pub mod EventSpellings
 pub mod EventWords
 pub mod Items
 pub mod Laws
