@@ -1,5 +1,5 @@
 -- The decimal text of a total, read and looked for in its content.
-use Rattle.std.proofs.Common.{◌≡◌, refl, ap, subst, ◌∙◌, ℕ, suc, ◌-◌, ◌≤◌, ℤ, pos, negsuc, List, ◌∷◌, ◌++◌, length, take, drop, get_or, Result, Ok, Err, Some, None, Bool, true, false, not, ◌&&◌, if◌then◌else◌, nat_eq, nat_le, zero, rules, IsAscii, IsUtf8, arith}
+use Rattle.std.proofs.Common.{◌≡◌, refl, ap, subst, ◌∙◌, ℕ, suc, ◌-◌, ℤ, pos, negsuc, List, ◌∷◌, ◌++◌, length, take, drop, get_or, Result, Ok, Err, true, false, not, nat_eq, zero, rules, IsAscii, IsUtf8, arith}
 use Rattle.std.specs.Int.{w128}
 use Rattle.std.specs.Prelude.{codes, neg_ℤ, ◌≢◌}
 use Rattle.std.specs.Result.{OkIff}
@@ -14,7 +14,7 @@ use Rattle.std.proofs.Math.Seq.{take-append_seam, drop-append_seam}
 use Rattle.std.proofs.lemmas.Bool.{ne_eqb}
 use Rattle.std.specs.Str.{bytes_eq}
 use Rattle.std.proofs.lemmas.Slice.Eq.{bytes_eq-Decides}
-use Rattle.fluid_counter.specs.Content.{content, IsStorable, is_storable, number_in, total_in}
+use Rattle.fluid_counter.specs.Content.{content, IsStorable}
 
 ok_from : {T E : Type 0} (r : Result T E) (P : Type 0) (x : T) → OkIff r P x → P → r ≡ Ok x
 ok_from (Ok y) P x h p = ap Ok h.1
@@ -73,47 +73,5 @@ pub cut : (digits : List ℕ) → take (length (digits ++ codes "\"}") - 2) (dig
 unfolding behind
 cut digits = ap (λ n. take n (digits ++ behind)) (long digits) ∙ take-append_seam digits behind
 
--- between them stands the number
-pub number_in-content : (total : ℤ) → IsStorable total → number_in (content total) ≡ total
-unfolding content number_in behind
-number_in-content total small =
-    let digits : List ℕ = signed_decimal total in
-    let size : length (codes "{\"value\":\"" ++ (digits ++ behind)) - 12 ≡ length digits = omega (arith, long digits) in
-    ap (λ n. signed_digits_value 10 (take n (digits ++ behind))) size ∙ ap (signed_digits_value 10) (take-append_seam digits behind) ∙ value-signed_decimal total small
-
--- ---- the total whose content a text is
-
-bytes_eq-refl : (s : List ℕ) → bytes_eq s s ≡ true
-bytes_eq-refl s = search (rules, bytes_eq-Decides s s)
-
-le-nat_le : (a b : ℕ) → a ≤ b → nat_le a b ≡ true
-le-nat_le a b h = grind arith
-
-pub total_in-content : (total : ℤ) → IsStorable total → total_in (content total) ≡ Some total
-total_in-content total small =
-    rw (number_in-content total small, bytes_eq-refl (content total), le-nat_le _ _ small) refl
-
-pub total_in-is : (s : List ℕ) (total : ℤ) → IsStorable total → s ≡ content total → total_in s ≡ Some total
-total_in-is s total small is = ap total_in is ∙ total_in-content total small
-
-both : (s t : List ℕ) (n : ℤ) → bytes_eq s t && is_storable n ≡ true → (s ≡ t) × IsStorable n
-both s t n e = search (rules, bytes_eq-Decides s t)
-
 pub equal : (s t : List ℕ) → false ≡ not (bytes_eq s t) → s ≡ t
 equal s t e = search (rules, bytes_eq-Decides s t)
-
-chosen : (s : List ℕ) (n : ℤ) (b : Bool) → (b ≡ true → (s ≡ content n) × IsStorable n) → ((total : ℤ) → IsStorable total → s ≡ content total → ⊥)
-    → (if b then Some n else None) ≡ None
-chosen s n true holds none = let h = holds refl in absurd (none n h.1 h.0)
-chosen s n false holds none = refl
-
-pub total_in-None : (s : List ℕ) → ((total : ℤ) → IsStorable total → s ≡ content total → ⊥) → total_in s ≡ None
-total_in-None s none = chosen s (number_in s) (bytes_eq s (content (number_in s)) && is_storable (number_in s)) (both s (content (number_in s)) (number_in s)) none
-
--- a text that has a total is the content of it
-found : (s : List ℕ) (n total : ℤ) (b : Bool) → (b ≡ true → (s ≡ content n) × IsStorable n) → (if b then Some n else None) ≡ Some total → (s ≡ content total) × IsStorable total
-found s n total true holds is = let e : n ≡ total = grind arith in subst (λ z. (s ≡ content z) × IsStorable z) e (holds refl)
-found s n total false holds is = cc
-
-pub content-total_in : (s : List ℕ) (total : ℤ) → total_in s ≡ Some total → (s ≡ content total) × IsStorable total
-content-total_in s total is = found s (number_in s) total (bytes_eq s (content (number_in s)) && is_storable (number_in s)) (both s (content (number_in s)) (number_in s)) is

@@ -1,2 +1,3 @@
 mod Sums
 mod Decimals
+mod Contents

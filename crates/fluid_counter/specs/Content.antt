@@ -1,35 +1,47 @@
--- The text in which a summary keeps a counter, and the counter that a text is read as.
-use Rattle.std.specs.Prelude.{ℕ, ◌-◌, ◌^◌, ◌≤◌, nat_le, ℤ, unsigned_abs, Bool, ◌&&◌, if◌then◌else◌, List, [], ◌++◌, length, take, drop, codes, Option, Some, None, Result, Ok, Err}
+-- A counter's text in a summary: the printed JSON object of one member (RFC 8259), its total in decimal as a text.
+use Rattle.std.specs.Prelude.{ℕ, ◌^◌, ◌≤◌, nat_le, ℤ, unsigned_abs, Bool, ◌&&◌, if◌then◌else◌, List, [], ◌++◌, codes, Result, Ok, Err, bytes_eq, option_and_then}
+use Rattle.std.specs.Option.{unwrap_or}
+use Rattle.std.specs.Result.{result_ok}
 use Rattle.std.specs.Fmt.{signed_decimal}
-use Rattle.std.specs.Str.{bytes_eq}
 use Rattle.std.specs.Str.Parse.{signed_digits_value}
+use Rattle.fluid_json.specs.Tree.{find, as_text}
+use Rattle.fluid_json.specs.Spelled as json
+use Rattle.fluid_types.specs.Texts.{name_of}
+use Rattle.fluid_types.specs.declared.fault.Field.TheVariants as field
 use Rattle.fluid_types.specs.declared.fault.BlobFault.{BlobFault}
 use Rattle.fluid_types.specs.declared.fault.BlobFault.TheVariants.{BadBlob}
-use Rattle.fluid_counter.specs.Counter.{Counter}
+use Rattle.fluid_counter.specs.Counter.{Shared}
 
 -- an object of one member: the total in decimal, with a minus before a negative one
 unfoldable pub content : ℤ → List ℕ
 content total = codes "{\"value\":\"" ++ (signed_decimal total ++ codes "\"}")
 
+-- the greatest size of a total that is read
+abbrev pub greatest_total : ℕ
+greatest_total = 2 ^ 120
+
 -- a total that is read back: one within plus or minus 2^120, both of them inside
 abbrev pub IsStorable : ℤ → Type 0
-IsStorable total = unsigned_abs total ≤ 2 ^ 120
+IsStorable total = unsigned_abs total ≤ greatest_total
 
-abbrev pub is_storable : ℤ → Bool
-is_storable total = nat_le (unsigned_abs total) (2 ^ 120)
+-- ---- reading
 
--- the number that stands between the 10 bytes before it and the 2 bytes behind it
-unfoldable pub number_in : List ℕ → ℤ
-number_in s = signed_digits_value 10 (take (length s - 12) (drop 10 s))
+-- the text under "value" in the object that a text spells; no text where it spells none
+abbrev pub text_in : List ℕ → List ℕ
+text_in blob = unwrap_or (option_and_then as_text (option_and_then (find (codes "value")) (result_ok (json.answer blob)))) []
 
--- the total whose content this text is: the text is that of the number in it, byte for byte
-abbrev pub total_in : List ℕ → Option ℤ
-total_in s = if bytes_eq s (content (number_in s)) && is_storable (number_in s) then Some (number_in s) else None
+-- the total that this text has in decimal
+unfoldable pub total_in : List ℕ → ℤ
+total_in blob = signed_digits_value 10 (text_in blob)
 
-abbrev pub counter_or : Option ℤ → Result Counter BlobFault
-counter_or None = Err (BadBlob (codes "content"))
-counter_or (Some total) = Ok (record { total = total; pending = [] })
+-- a text that is the content of the total in it, one that is read back
+abbrev pub is_content : List ℕ → Bool
+is_content blob = bytes_eq blob (content (total_in blob)) && nat_le (unsigned_abs (total_in blob)) greatest_total
 
--- what a text is read as: the counter of that total, with nothing pending
-abbrev pub answer : List ℕ → Result Counter BlobFault
-answer s = counter_or (total_in s)
+-- the fault of a blob "content" outside its form
+abbrev pub bad_content : BlobFault
+bad_content = BadBlob (name_of field.Content)
+
+-- a text is read as the counter whose content it is, with nothing pending
+abbrev pub answer : List ℕ → Result Shared BlobFault
+answer blob = if is_content blob then Ok (record { acknowledged = total_in blob; pending = [] }) else Err bad_content

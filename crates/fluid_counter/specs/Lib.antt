@@ -2,3 +2,9 @@ pub mod Counter
 pub mod Content
 pub mod Kept
 pub mod Laws
+pub mod Examples
+pub use Rattle.fluid_json.specs.Tree
+pub use Rattle.fluid_json.specs.Printed
+pub use Rattle.fluid_json.specs.Spelled
+pub use Rattle.fluid_json.specs.Unless
+pub use Rattle.fluid_types.specs.Texts

@@ -1,12 +1,15 @@
-//! A counter that many clients increment at once: the replay of the increments in their order, with a client's own pending
-//! ones laid over.
-//! `counter` has `SharedCounter` and its operation, `content` the text in which a summary keeps a counter, and `laws` what
-//! holds of the definitions.
-//! Contracts see a counter as its acknowledged total and its pending amounts (`specs/Counter.antt`).
+//! A shared counter: a whole number, which many clients increment and decrement at once.
+//!
+//! The increments have one order, and the counter is their sum. A client's own increments are shown at once, as if they
+//! were next in the order.
+//!
+//! - `counter`: `SharedCounter` and its operation. `content`: its text in a summary.
+//! - `laws`, `examples`: what holds of the definitions.
 #![tactic(auto)]
 
 mod content;
 mod counter;
+pub mod examples;
 pub mod laws;
 
 pub use counter::{CounterOp, SharedCounter};

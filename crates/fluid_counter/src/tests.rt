@@ -1,6 +1,7 @@
 use crate::{CounterOp, SharedCounter};
 use fluid_types::BlobFault;
 use std::alloc::Global;
+use std::process::Abort;
 use std::test::Fail;
 
 // The client itself increments.
@@ -32,32 +33,109 @@ fn acknowledge(counter: &mut SharedCounter) -> Result<(), Fail> {
     Ok(())
 }
 
-// What two clients show.
-fn both(one: &SharedCounter, other: &SharedCounter) -> (i128, i128) {
-    (one.value(), other.value())
+// What a counter is written as.
+fn assert_blob(
+    rt: &impl Abort,
+    alloc: Global,
+    counter: &SharedCounter,
+    wanted: &str,
+) -> Result<(), Fail> {
+    let blob = counter.to_blob(alloc)?;
+    assert_eq!(rt; blob.as_slice(), wanted.as_bytes());
+    Ok(())
 }
 
-// One order of operations: 5 of one client, -3 of the other, 7 of the one.
+#[derive(Clone, Copy, PartialEq, Eq)]
+enum Client {
+    One,
+    Other,
+}
+
+/// An increment in the order, and whose it is.
+#[derive(Clone, Copy)]
+struct Ordered {
+    client: Client,
+    amount: i64,
+}
+
+#[derive(Clone, Copy)]
+enum Event {
+    /// The client makes the increment at this place of the order, before it is in the order.
+    Makes(usize),
+    /// The client hears of the next increment in the order.
+    Hears,
+}
+
+/// What happens to a client, what it then shows, and the text of what is acknowledged.
+#[derive(Clone, Copy)]
+struct Moment {
+    event: Event,
+    shown: i128,
+    blob: &'static str,
+}
+
+use Client::{One, Other};
+use Event::{Hears, Makes};
+
+const fn by(client: Client, amount: i64) -> Ordered {
+    Ordered { client, amount }
+}
+
+const fn at(event: Event, shown: i128, blob: &'static str) -> Moment {
+    Moment { event, shown, blob }
+}
+
+// One client goes through the whole order.
+fn play(
+    rt: &impl Abort,
+    alloc: Global,
+    order: &[Ordered],
+    client: Client,
+    moments: &[Moment],
+) -> Result<(), Fail> {
+    let mut counter = SharedCounter::new(alloc);
+    let mut heard = 0usize;
+    for moment in moments {
+        match moment.event {
+            Makes(place) => {
+                let own = order[..].get(place).expect(rt, "a place in the order");
+                increment(&mut counter, own.amount)?;
+            }
+            Hears => {
+                let next = order[..].get(heard).expect(rt, "a place in the order");
+                if next.client == client {
+                    acknowledge(&mut counter)?;
+                } else {
+                    sequence(&mut counter, next.amount)?;
+                }
+                heard = heard.saturating_add(1);
+            }
+        }
+        assert_eq!(rt; counter.value(), moment.shown);
+        assert_blob(rt, alloc, &counter, moment.blob)?;
+    }
+    assert_eq!(rt; (heard, counter.pending()), (order.len(), 0));
+    Ok(())
+}
+
 #[test]
 fn two_clients_increment_at_once_and_meet(rt: HostRuntime) -> Result<(), Fail> {
-    let mut one = SharedCounter::new(rt.alloc());
-    let mut other = SharedCounter::new(rt.alloc());
-    assert_eq!(rt; both(&one, &other), (0, 0));
-    increment(&mut one, 5)?;
-    increment(&mut one, 7)?;
-    increment(&mut other, -3)?;
-    assert_eq!(rt; both(&one, &other), (12, -3));
-    acknowledge(&mut one)?;
-    assert_eq!(rt; both(&one, &other), (12, -3));
-    sequence(&mut other, 5)?;
-    assert_eq!(rt; both(&one, &other), (12, 2));
-    sequence(&mut one, -3)?;
-    acknowledge(&mut other)?;
-    assert_eq!(rt; both(&one, &other), (9, 2));
-    sequence(&mut other, 7)?;
-    acknowledge(&mut one)?;
-    assert_eq!(rt; both(&one, &other), (9, 9));
-    Ok(())
+    let order = [by(One, 5), by(Other, -3), by(One, 7)];
+    let one = [
+        at(Makes(0), 5, r#"{"value":"0"}"#),
+        at(Makes(2), 12, r#"{"value":"0"}"#),
+        at(Hears, 12, r#"{"value":"5"}"#),
+        at(Hears, 9, r#"{"value":"2"}"#),
+        at(Hears, 9, r#"{"value":"9"}"#),
+    ];
+    let other = [
+        at(Makes(1), -3, r#"{"value":"0"}"#),
+        at(Hears, 2, r#"{"value":"5"}"#),
+        at(Hears, 2, r#"{"value":"2"}"#),
+        at(Hears, 9, r#"{"value":"9"}"#),
+    ];
+    play(&rt, rt.alloc(), &order, One, &one)?;
+    play(&rt, rt.alloc(), &order, Other, &other)
 }
 
 // The text of a counter.
@@ -71,24 +149,16 @@ fn written(alloc: Global, counter: &SharedCounter) -> Result<String, Fail> {
 
 #[test]
 fn what_is_pending_is_shown_and_not_written(rt: HostRuntime) -> Result<(), Fail> {
-    let mut counter = SharedCounter::new(rt.alloc());
+    let alloc = rt.alloc();
+    let mut counter = SharedCounter::new(alloc);
     sequence(&mut counter, -40)?;
     increment(&mut counter, 2)?;
     increment(&mut counter, 300)?;
-    assert_eq!(rt; counter.pending(), 2);
-    assert_eq!(rt; counter.value(), 262);
-    assert_eq!(rt;
-        written(rt.alloc(), &counter)?.as_str(),
-        "{\"value\":\"-40\"}"
-    );
+    assert_eq!(rt; (counter.pending(), counter.value()), (2, 262));
+    assert_blob(&rt, alloc, &counter, r#"{"value":"-40"}"#)?;
     acknowledge(&mut counter)?;
-    assert_eq!(rt; counter.pending(), 1);
-    assert_eq!(rt; counter.value(), 262);
-    assert_eq!(rt;
-        written(rt.alloc(), &counter)?.as_str(),
-        "{\"value\":\"-38\"}"
-    );
-    Ok(())
+    assert_eq!(rt; (counter.pending(), counter.value()), (1, 262));
+    assert_blob(&rt, alloc, &counter, r#"{"value":"-38"}"#)
 }
 
 // The counter that a text is read as; none where the text is refused as no content.

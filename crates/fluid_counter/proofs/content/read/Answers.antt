@@ -1,8 +1,9 @@
 use Rattle.std.proofs.Common.{sym, ◌∙◌, arith}
-use Rattle.fluid_counter.proofs.Decimals.{equal, total_in-is}
+use Rattle.fluid_counter.proofs.Decimals.{equal}
+use Rattle.fluid_counter.proofs.Contents.{read_whole}
 use Rattle.fluid_counter.proofs.content.read.Goals as goal
 
-pub returns : goal.returns
-returns c =
-    let same = sym (equal c.as_slice.result.now c.args.bytes.now c.if-ne.ensures) ∙ c.as_slice.ensures ∙ c.in_ok-written.ensures in
-    sym (total_in-is c.args.bytes.now _ (omega (arith, c.unsigned_abs.ensures.value, c.if-unsigned_abs-gt-GREATEST.false)) same)
+pub returns-clause-total : goal.returns-clause-total
+returns-clause-total c =
+    let same = sym (equal c.as_slice.result.now c.args.blob.now c.if-ne.ensures) ∙ c.as_slice.ensures ∙ c.in_ok-written.ensures.content in
+    read_whole c.args.blob.now _ same (omega (arith, c.unsigned_abs.ensures.value, c.if-unsigned_abs-gt-GREATEST_TOTAL.false))
