@@ -1,0 +1,3 @@
+mod Replays
+mod Laid
+mod Contents

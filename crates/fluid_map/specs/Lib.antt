@@ -1,0 +1,12 @@
+pub mod Replay
+pub mod Content
+pub mod Laws
+pub mod Laid
+pub mod Codes
+pub mod Examples
+pub use Rattle.fluid_table.specs.Table
+pub use Rattle.fluid_json.specs.Tree
+pub use Rattle.fluid_json.specs.Printed
+pub use Rattle.fluid_json.specs.Spelled
+pub use Rattle.fluid_json.specs.Unless
+pub use Rattle.fluid_types.specs.Texts
