@@ -1,0 +1,10 @@
+mod Standing
+mod Approvals
+mod Pushed
+mod Due
+mod Taken
+mod Objects
+mod Sorted
+mod Forms
+mod Read
+mod Back

@@ -1,0 +1,11 @@
+pub mod Order
+pub mod After
+pub mod Kept
+pub mod Codes
+pub mod Rows
+pub mod Node
+pub mod Reading
+pub mod Stored
+pub mod Laws
+pub use Rattle.fluid_types.specs.Quorum
+pub use Rattle.fluid_types.specs.Blobs

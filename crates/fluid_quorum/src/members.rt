@@ -1,0 +1,60 @@
+// The members of a quorum.
+ghost use Rattle.std.specs.Prelude.{◌≡◌, List, IfOk};
+
+use fluid_json::NoMemory;
+use fluid_types::Member;
+use std::alloc::Global;
+use std::marker::Model;
+
+/// The members of a quorum, in byte order of their ids.
+#[derive(Drop)]
+pub struct Members {
+    pub(crate) list: Vec<Member>,
+}
+
+impl Model for Members {
+    ghost use Rattle.std.specs.Prelude.{List};
+    ghost use Rattle.std.specs.Coded.{coded_list};
+    ghost use Rattle.fluid_types.specs.declared.quorum.Member.{Member as AMember};
+    ghost use Rattle.fluid_quorum.specs.Codes.{member_code};
+
+    ghost Value = { List AMember };
+
+    ghost coded = { coded_list member_code };
+
+    ghost view = { λ m. m.list.items };
+}
+
+impl Members {
+    /// Members that stand in byte order of their ids.
+    pub fn from_vec(list: Vec<Member>) -> Members
+        ensures { result ≡ list.items }
+    {
+        Members { list }
+    }
+
+    pub fn as_slice(&self) -> &[Member]
+        ensures { result.now ≡ self.now }
+    {
+        self.list.as_slice()
+    }
+
+    pub fn into_vec(self) -> Vec<Member>
+        ensures { result.items ≡ self }
+    {
+        let Members { list } = self;
+        list
+    }
+
+    /// The same members once more, with their own memory.
+    pub fn copy(&self, alloc: Global) -> Result<Members, NoMemory>
+        ensures { IfOk result (λ copy. copy ≡ self.now) }
+    {
+        let mut list = Vec::with_capacity(alloc, self.list.len())?;
+        for member in &self.list {
+            let copy = member.copy(alloc)?;
+            list.push(copy)?;
+        }
+        Ok(Members { list })
+    }
+}

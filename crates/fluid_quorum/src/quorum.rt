@@ -1,0 +1,161 @@
+// The quorum, and how it takes a message.
+ghost use Rattle.std.specs.Prelude.{◌≡◌, ◌+◌, [], ◌∷◌, ◌++◌, List, Some, IfOk, OnOk, OnErr, option_map, option_copied};
+ghost use Rattle.std.specs.FinMap.{empty, get, values};
+ghost use Rattle.fluid_types.specs.declared.messages.Message.{Message as AMessage};
+ghost use Rattle.fluid_quorum.specs.After.{after};
+ghost use Rattle.fluid_quorum.specs.Order.{StandsFor};
+
+use crate::accepting::{KeyValue, accept, due, enter};
+use crate::members::Members;
+use crate::saying::hear;
+use fluid_json::NoMemory;
+use fluid_table::find;
+use fluid_types::{Accepted, Member, Message, Proposal};
+use std::alloc::Global;
+use std::marker::Model;
+
+/// The quorum of the first messages of an order.
+#[derive(Drop)]
+pub struct Quorum {
+    pub(crate) number: u64,
+    pub(crate) minimum: u64,
+    pub(crate) members: Members,
+    pub(crate) pending: Vec<Proposal>,
+    pub(crate) values: Vec<KeyValue>,
+}
+
+impl Model for Quorum {
+    ghost use Rattle.fluid_types.specs.Quorum.{Quorum as AQuorum};
+    ghost use Rattle.fluid_quorum.specs.Codes.{quorum_code};
+    ghost use Rattle.fluid_quorum.specs.Kept.{members_of, values_of, IsInIdOrder, IsInKeyOrder, AreRising, AreUpTo};
+
+    ghost Value = { AQuorum };
+
+    ghost coded = { quorum_code };
+
+    ghost view = { λ q. record { number = q.number; minimum = q.minimum; members = members_of q.members; pending = q.pending.items; values = values_of q.values.items } };
+
+    ghost invariant = { λ q. IsInIdOrder q.members × (IsInKeyOrder q.values.items × (AreRising q.pending.items × AreUpTo q.number q.pending.items)) };
+}
+
+impl Quorum {
+    /// The quorum of no messages. Takes no memory.
+    pub fn new(alloc: Global) -> Quorum
+        ensures { StandsFor [] result }
+    {
+        Quorum {
+            number: 0,
+            minimum: 0,
+            members: Members::from_vec(Vec::new(alloc)),
+            pending: Vec::new(alloc),
+            values: Vec::new(alloc),
+        }
+    }
+
+    /// Takes the next message of the order in. After `NoMemory` the quorum is as it was.
+    pub fn apply(&mut self, alloc: Global, message: &Message) -> Result<(), NoMemory>
+        requires { message.now.number ≡ self.old.number + 1 }
+        ensures stands { (ms : List AMessage) → StandsFor ms self.old → OnOk result (StandsFor (ms ++ message.now ∷ []) self.new) }
+        ensures after { OnOk result (self.new ≡ after self.old message.now) }
+        ensures unchanged { OnErr result (self.new ≡ self.old) }
+    {
+        let accepted = due(&self.pending, message.minimum);
+        self.members.list.reserve(1)?;
+        self.pending.reserve(1)?;
+        self.values.reserve(accepted + 1)?;
+        let said = hear(alloc, message)?;
+        enter(&mut self.members.list, &mut self.pending, said);
+        let accepted = due(&self.pending, message.minimum);
+        accept(
+            &mut self.values,
+            &mut self.pending,
+            accepted,
+            message.number,
+        );
+        self.number = message.number;
+        self.minimum = message.minimum;
+        Ok(())
+    }
+
+    /// The number of the last message, 0 before the first.
+    pub fn number(&self) -> u64
+        ensures { result ≡ self.now.number }
+    {
+        self.number
+    }
+
+    /// The minimum of the last message, 0 before the first.
+    pub fn minimum(&self) -> u64
+        ensures { result ≡ self.now.minimum }
+    {
+        self.minimum
+    }
+
+    /// The members, in byte order of their ids.
+    pub fn members(&self) -> &Members
+        ensures { result.now ≡ values self.now.members }
+    {
+        &self.members
+    }
+
+    /// The member of an id; none where nobody of it is in.
+    pub fn member(&self, id: &str) -> Option<&Member>
+        ensures { option_copied result ≡ get self.now.members id.now }
+    {
+        find(self.members.as_slice(), id)
+    }
+
+    /// The proposals that aren't accepted yet, in the order of their numbers.
+    pub fn pending(&self) -> &[Proposal]
+        ensures { result.now ≡ self.now.pending }
+    {
+        self.pending.as_slice()
+    }
+
+    /// The value of a key; none where no proposal of it was accepted.
+    pub fn value(&self, key: &str) -> Option<&Accepted>
+        ensures { option_copied result ≡ get self.now.values key.now }
+    {
+        let entry = find(&self.values, key)?;
+        Some(&entry.accepted)
+    }
+
+    /// The same quorum once more, with its own memory.
+    pub fn copy(&self, alloc: Global) -> Result<Quorum, NoMemory>
+        ensures { IfOk result (λ copy. copy ≡ self.now) }
+    {
+        let members = self.members.copy(alloc)?;
+        let pending = copy_proposals(alloc, &self.pending)?;
+        let values = copy_values(alloc, &self.values)?;
+        Ok(Quorum {
+            number: self.number,
+            minimum: self.minimum,
+            members,
+            pending,
+            values,
+        })
+    }
+}
+
+fn copy_proposals(alloc: Global, proposals: &[Proposal]) -> Result<Vec<Proposal>, NoMemory>
+    ensures { IfOk result (λ copies. copies.items ≡ proposals.now) }
+{
+    let mut copies = Vec::with_capacity(alloc, proposals.len())?;
+    for proposal in proposals {
+        let copy = proposal.copy(alloc)?;
+        copies.push(copy)?;
+    }
+    Ok(copies)
+}
+
+fn copy_values(alloc: Global, values: &[KeyValue]) -> Result<Vec<KeyValue>, NoMemory>
+    ensures { IfOk result (λ copies. copies.items ≡ values.now) }
+{
+    let mut copies = Vec::with_capacity(alloc, values.len())?;
+    for value in values {
+        let key = value.key.copy(alloc)?;
+        let accepted = value.accepted.copy(alloc)?;
+        copies.push(KeyValue { key, accepted })?;
+    }
+    Ok(copies)
+}
