@@ -1,18 +1,19 @@
 -- How a run goes on: from its start, over one line more, and over the lines that are handed to the sink.
-use Rattle.std.proofs.Common.{◌≡◌, ℕ, ◌+◌, ◌≤◌, List, [], ◌∷◌, ◌++◌, length, refl, sym, ◌∙◌, ap, append-nil, append_assoc, Bool, true, false, Option, None, Some, Result, Ok, Err, arith, length-append}
+use Rattle.std.proofs.Common.{◌≡◌, ℕ, ◌+◌, ◌≤◌, List, [], ◌∷◌, ◌++◌, refl, sym, ◌∙◌, ap, append-nil, append_assoc, false, Option, None, Some, arith, length-append}
 use Rattle.std.specs.Option.{option_map}
 use Rattle.std.specs.Str.Lines.{lines}
-use Rattle.fluid_io.specs.Causes.{Rose, Tells}
-use Rattle.fluid_io.specs.Streams.{Reading, Writing, Appends, AppendsFront}
+use Rattle.fluid_io.specs.Causes.{Tells}
+use Rattle.fluid_io.specs.Streams.{Reading, Writing, Appends}
 use Rattle.fluid_io.specs.Reader.{Reader}
 use Rattle.fluid_io.specs.Lines.{ahead, lines_ahead}
-use Rattle.fluid_io.specs.declared.lines.TheConstants.{LONGEST_TEXT, MOST_LINES}
+use Rattle.fluid_io.specs.declared.lines.TheConstants.{LONGEST_TEXT}
 use Rattle.fluid_types.specs.Ledger.{Ledger}
 use Rattle.fluid_rules.specs.Rules.{ledger}
 use Rattle.fluidd.specs.declared.document.Document.{Document}
 use Rattle.fluidd.specs.declared.limits.Limits.{Limits}
 use Rattle.fluidd.specs.Input.{records}
-use Rattle.fluidd.specs.Progress.{Stands, IsWithin, Reached, TakesLine, Progress}
+use Rattle.fluidd.specs.Progress.{Stands, IsWithin, TakesLine, Progress}
+use Rattle.fluidd.proofs.WholeLines.{read-none, read-more}
 
 -- ---- what is written
 
@@ -41,6 +42,7 @@ starts limits input output document stands within = record {
   gone = [];
   reached = record { number = refl; limit = refl; reading = refl; accepted = tt; stands = rw ledger-none stands };
   split = split-start input.left;
+  read = read-none input.left;
   appended = appends-none output.written;
   reads = omega arith;
   writes = omega arith;
@@ -56,7 +58,7 @@ split-more before line None = refl
 split-more before line (Some more) = ap Some (sym (append_assoc before (line ∷ []) more))
 
 pub takes : (limits : Limits) (input : Reading) (output : Writing) (r r' : Reader) (d d' : Document) (s s' : Reading) (sink : Writing) →
-    (p : Progress limits input output r d s sink) → TakesLine limits p.before p.gone (lines_ahead r s) (lines_ahead r' s') r' d' →
+    (p : Progress limits input output r d s sink) → TakesLine limits p.before p.gone (ahead r s) (ahead r' s') r' d' →
     s.faults ≤ s'.faults → (IsWithin r.count d → IsWithin (r.count + 1) d') → Progress limits input output r' d' s' sink
 takes limits input output r r' d d' s s' sink p t later within =
     let number : r'.count ≡ r.count + 1 = t.reached.number ∙ length-append p.before (t.line ∷ []) ∙ ap (λ n. n + 1) (sym p.reached.number) in
@@ -64,7 +66,8 @@ takes limits input output r r' d d' s s' sink p t later within =
       before = p.before ++ t.line ∷ [];
       gone = p.gone;
       reached = t.reached;
-      split = p.split ∙ ap (option_map (λ more. p.before ++ more)) t.first ∙ split-more p.before t.line (lines_ahead r' s');
+      split = p.split ∙ ap (option_map (λ more. p.before ++ more)) t.passes.first ∙ split-more p.before t.line (lines_ahead r' s');
+      read = read-more input.left (ahead r s) (ahead r' s') p.before t.line t.passes p.read;
       appended = p.appended;
       reads = omega (arith, p.reads, later);
       writes = p.writes;
@@ -89,6 +92,7 @@ hands_on limits input output r d d' s sink sink' p later within stands appends =
     stands = stands p.gone _ p.reached.stands;
   };
   split = p.split;
+  read = p.read;
   appended = appends-both p.gone d.waiting.items output.written sink.written sink'.written p.appended appends;
   reads = p.reads;
   writes = omega (arith, p.writes, later);

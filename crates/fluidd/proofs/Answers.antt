@@ -1,17 +1,16 @@
 -- What the answer of the reader of lines tells of the first line that was ahead.
-use Rattle.std.proofs.Common.{◌≡◌, ℕ, ◌+◌, List, [], ◌∷◌, ◌++◌, length, refl, sym, ◌∙◌, ap, Bool, true, false, Option, None, Some, Result, Ok, Err, arith, ◌≤◌, nat_lt}
+use Rattle.std.proofs.Common.{◌≡◌, ℕ, ◌+◌, List, [], ◌∷◌, length, refl, sym, ◌∙◌, ap, Bool, true, false, Option, None, Some, Result, Ok, Err, arith, ◌≤◌, nat_lt}
 use Rattle.std.proofs.lemmas.Bool.Decides.{nat_tests}
 use Rattle.std.specs.Prelude.{if◌then◌else◌}
 use Rattle.std.specs.Str.{is_utf8}
 use Rattle.std.specs.Str.Lines.{lines}
-use Rattle.std.specs.Option.{option_map}
 use Rattle.std.proofs.Common.{length-append}
 use Rattle.fluid_io.specs.Causes.{Tells}
 use Rattle.fluid_io.specs.Reader.{Reader}
-use Rattle.fluid_io.specs.Lines.{line_answer, first_answer, next_answer, AnswersBytes, IsReaderAfter}
+use Rattle.fluid_io.specs.Lines.{line_answer, first_answer, next_answer, AnswersBytes, IsReaderAfter, PassesLine}
 use Rattle.fluid_io.specs.declared.lines.TheConstants.{LONGEST_TEXT, MOST_LINES}
 use Rattle.fluid_io.specs.declared.line.Line.{Line}
-use Rattle.fluid_io.specs.declared.line.Line.TheVariants.{Text, End}
+use Rattle.fluid_io.specs.declared.line.Line.TheVariants.{Text}
 use Rattle.fluid_io.specs.declared.line.LineFault.{LineFault}
 use Rattle.fluid_io.specs.declared.line.LineFault.TheVariants as line
 use Rattle.fluid_rules.specs.Rules.{ledger}
@@ -19,7 +18,7 @@ use Rattle.fluidd.specs.declared.document.Document.{Document}
 use Rattle.fluidd.specs.declared.limits.Limits.{Limits}
 use Rattle.fluidd.specs.declared.refusal.Refusal.{Refusal}
 use Rattle.fluidd.specs.declared.refusal.Refusal.TheVariants.{TooLong, NotUtf8, TooManyLines}
-use Rattle.fluidd.specs.Input.{records, entry_of, refusal, first_of, text_refusal, Accepts}
+use Rattle.fluidd.specs.Input.{records, entry_of, refusal, first_of, text_refusal}
 use Rattle.fluidd.specs.Progress.{Reached, RefusesLine, TakesLine, Stands, with_entry_of}
 use Rattle.fluidd.proofs.Grown.{accepts-push, ledger-line}
 
@@ -185,15 +184,15 @@ given limits before gone r d told t reached a =
       few = text-few (nat_lt LONGEST_TEXT (length t)) (is_utf8 t) (length before + 1) t t answers;
     }
 
-pub takes_line : (limits : Limits) (before : List (List ℕ)) (gone : List ℕ) (r r' : Reader) (d d' : Document) (told : Option (List ℕ)) (old new : Option (List (List ℕ)))
+pub takes_line : (limits : Limits) (before : List (List ℕ)) (gone : List ℕ) (r r' : Reader) (d d' : Document) (told old new : Option (List ℕ))
     (t : List ℕ) → Reached limits before gone r d → AnswersBytes r told (Ok (Text t)) → IsReaderAfter r r' (Ok (Text t)) →
-    old ≡ option_map (λ more. t ∷ more) new → text_refusal limits (ledger (records before)) t ≡ None →
+    PassesLine t old new → text_refusal limits (ledger (records before)) t ≡ None →
     Stands gone (with_entry_of (ledger (records before)) (entry_of t)) d' → TakesLine limits before gone old new r' d'
-takes_line limits before gone r r' d d' told old new t reached a after first accepted stands =
+takes_line limits before gone r r' d d' told old new t reached a after passes accepted stands =
     let g = given limits before gone r d told t reached a in
     record {
       line = t;
-      first = first;
+      passes = passes;
       reached = record {
         number = after.count ∙ ap (λ n. n + 1) reached.number ∙ sym (length-append before (t ∷ []));
         limit = after.limit ∙ reached.limit;

@@ -1,5 +1,5 @@
 -- What a sequencer that stands for a ledger keeps of its clients: as many rows as clients are joined, and a row for each.
-use Rattle.std.proofs.Common.{◌≡◌, ℕ, ◌+◌, List, [], ◌∷◌, ◌++◌, length, map, refl, sym, ◌∙◌, ap, Bool, true, false, not, cond, Option, None, Some, is_some, is_none, ◌≤◌, arith}
+use Rattle.std.proofs.Common.{◌≡◌, ℕ, ◌+◌, List, [], ◌∷◌, length, map, refl, ◌∙◌, ap, not, cond, Option, None, Some, is_some, is_none, ◌≤◌, arith}
 use Rattle.std.specs.FinMap.{from_entries, find, get, len, len-empty, len-insert, get-from_entries}
 use Rattle.fluid_types.specs.Ledger.{Ledger}
 use Rattle.fluid_types.specs.declared.verdicts.Verdict.{Verdict}
@@ -7,7 +7,7 @@ use Rattle.fluid_types.specs.declared.verdicts.Verdict.TheVariants.{Sequenced, N
 use Rattle.fluid_types.specs.declared.entries.Raw.{Raw}
 use Rattle.fluid_types.specs.declared.entries.Raw.TheVariants.{Join, Leave, Submit, Report}
 use Rattle.fluid_rules.specs.Past.{IsBelowEach, AreInOrder}
-use Rattle.fluid_rules.specs.Rules.{is_joined, joined}
+use Rattle.fluid_rules.specs.Rules.{joined}
 use Rattle.fluid_rules.proofs.Minimum.{joined-in_order}
 use Rattle.fluid_clients.specs.Table.{byte_order}
 use Rattle.fluid_clients.proofs.Laws.{byte_order_total}

@@ -1,22 +1,25 @@
 -- What is owed where a run ends, and what was written when it is handed on.
-use Rattle.std.proofs.Common.{◌≡◌, ℕ, ◌+◌, ◌≤◌, List, [], ◌∷◌, ◌++◌, length, refl, sym, ◌∙◌, ap, append-nil, append_assoc, Option, None, Some, inl, inr, subst, ◌⊎◌, arith}
+use Rattle.std.proofs.Common.{◌≡◌, ℕ, ◌≤◌, List, [], ◌++◌, refl, sym, ◌∙◌, ap, append-nil, append_assoc, Option, None, Some, Err, inl, inr, subst, ◌⊎◌, arith}
 use Rattle.std.specs.Option.{option_map}
 use Rattle.std.specs.Str.Lines.{lines}
 use Rattle.fluid_io.specs.Causes.{Rose, Tells}
 use Rattle.fluid_io.specs.Streams.{Reading, Writing, Appends, AppendsFront}
 use Rattle.fluid_io.specs.Reader.{Reader}
-use Rattle.fluid_io.specs.Lines.{ahead, lines_ahead}
+use Rattle.fluid_io.specs.Lines.{ahead, lines_ahead, IsCutOff}
 use Rattle.fluid_rules.specs.Rules.{ledger}
 use Rattle.fluidd.specs.declared.document.Document.{Document}
 use Rattle.fluidd.specs.declared.limits.Limits.{Limits}
 use Rattle.fluidd.specs.declared.refusal.Refusal.{Refusal}
 use Rattle.fluidd.specs.declared.status.Status.{Status}
 use Rattle.fluidd.specs.declared.status.Status.TheVariants as status
-use Rattle.fluidd.specs.Input.{records, refusal, Accepts}
-use Rattle.fluidd.specs.Output.{verdict_lines, lines_for, IsWhole, IsRefused, IsBegun, IsCut, Wrote, Finished}
+use Rattle.fluidd.specs.declared.sequence.Stop.{Stop}
+use Rattle.fluidd.specs.declared.sequence.Stop.TheVariants as stop
+use Rattle.fluidd.specs.Input.{records, Accepts}
+use Rattle.fluidd.specs.Output.{lines_for, IsWhole, IsRefused, IsBegun, IsInterrupted, IsCut, Wrote, Finished}
 use Rattle.fluidd.specs.Refusals.{bad_line}
-use Rattle.fluidd.specs.Progress.{Stands, Reached, RefusesLine, EndsInput, Progress, Owes, Settled}
+use Rattle.fluidd.specs.Progress.{Stands, RefusesLine, Steps, Progress, Owes, Ends, Settled}
 use Rattle.fluidd.proofs.Advances.{appends-both}
+use Rattle.fluidd.proofs.WholeLines.{cut-off, begun-cut}
 
 -- ---- the lines of the input, where they are told
 
@@ -83,6 +86,15 @@ owes-begun limits input output r d d' s sink p stands = record {
   sort = begun limits p.gone r d' s p.before input.left p.split p.reached.accepted stands.lines;
 }
 
+pub owes-interrupted : (limits : Limits) (input : Reading) (output : Writing) (r : Reader) (d d' : Document) (s s' : Reading) (sink : Writing) →
+    (p : Progress limits input output r d s sink) → Stands p.gone (ledger (records p.before)) d' → IsCutOff r s s' →
+    Owes (IsInterrupted limits s'.left) input.left output.written sink.written d'.waiting.items
+owes-interrupted limits input output r d d' s s' sink p stands cut = record {
+  gone = p.gone;
+  appended = p.appended;
+  sort = cut-off limits input.left (p.gone ++ d'.waiting.items) r s s' p.before p.reached.limit p.read cut p.reached.accepted stands.lines;
+}
+
 pub owes-whole : (limits : Limits) (input : Reading) (output : Writing) (r : Reader) (d d' : Document) (s : Reading) (sink : Writing) →
     (p : Progress limits input output r d s sink) → Stands p.gone (ledger (records p.before)) d' → Tells (ahead r s) (λ bytes. lines bytes ≡ []) →
     Owes (IsWhole limits) input.left output.written sink.written d'.waiting.items
@@ -100,6 +112,19 @@ owes-refused limits input output r d d' s sink number why p stands refuses = rec
   appended = p.appended;
   sort = refused limits p.gone r d' s p.before input.left number why p.split p.reached.accepted stands.lines refuses;
 }
+
+pub rose : (first before now : ℕ) → first ≤ before → Rose before now → Rose first now
+rose first before now h k = omega arith
+
+-- a step that ended the reading
+pub stopped : (limits : Limits) (input : Reading) (output : Writing) (r r' : Reader) (d d' : Document) (s s' : Reading) (sink : Writing) (why : Stop) →
+    (p : Progress limits input output r d s sink) → Steps limits p.before p.gone r s r' s' d' (Err why) → Ends limits input output d' s' sink (Err why)
+stopped limits input output r r' d d' s s' sink (stop.Refused number why) p h =
+    (owes-refused limits input output r d d' s sink number why p h.1 h.0, owes-begun limits input output r d d' s sink p h.1)
+stopped limits input output r r' d d' s s' sink stop.ReadFault p h =
+    (rose input.faults s.faults s'.faults p.reads h.0.rose, owes-interrupted limits input output r d d' s s' sink p h.1 h.0)
+stopped limits input output r r' d d' s s' sink stop.WriteFault p h = absurd h
+stopped limits input output r r' d d' s s' sink stop.NoMemory p h = owes-begun limits input output r d d' s sink p h
 
 -- ---- what was written when it is handed on
 
@@ -145,7 +170,7 @@ pub finished-cut : (limits : Limits) (input source : Reading) (output sink after
 finished-cut limits input source output sink after waiting status.Done not h front = cut limits _ (from_whole limits) _ _ _ _ waiting h.0 front
 finished-cut limits input source output sink after waiting status.Usage not h front = absurd h
 finished-cut limits input source output sink after waiting status.Refused not h front = cut limits _ (λ input output r. inr r) _ _ _ _ waiting h front
-finished-cut limits input source output sink after waiting status.ReadFault not h front = cut limits _ (λ input output b. inl b) _ _ _ _ waiting h.1 front
+finished-cut limits input source output sink after waiting status.ReadFault not h front = cut limits _ (λ input output b. inl (begun-cut limits source.left input output b)) _ _ _ _ waiting h.1 front
 finished-cut limits input source output sink after waiting status.WriteFault not h front = absurd (not refl)
 finished-cut limits input source output sink after waiting status.NoMemory not h front = cut limits _ (λ input output b. inl b) _ _ _ _ waiting h front
 
@@ -156,6 +181,3 @@ pub progress-cut : (limits : Limits) (input : Reading) (output : Writing) (r : R
 progress-cut limits input output r d s sink after p front =
     cut limits (IsBegun limits) (λ input output b. inl b) input.left output.written sink.written after.written d.waiting.items
     (owes-begun limits input output r d d s sink p p.reached.stands) front
-
-pub rose : (first before now : ℕ) → first ≤ before → Rose before now → Rose first now
-rose first before now h k = omega arith

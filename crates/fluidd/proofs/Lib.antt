@@ -4,3 +4,4 @@ mod Clients
 mod Advances
 mod Endings
 mod Statuses
+mod WholeLines

@@ -1,19 +1,23 @@
 -- What a status says, read off its number.
-use Rattle.std.proofs.Common.{◌≡◌, ℕ, ◌+◌, ◌≤◌, List, [], ◌∷◌, ◌++◌, refl, sym, ap, append-nil, append_assoc, Option, None, Some, inl, inr, ◌⊎◌, arith}
+use Rattle.std.proofs.Common.{◌≡◌, ℕ, List, [], ◌∷◌, ◌++◌, refl, ap, ◌∙◌, subst, append-nil, append_assoc, Option, None, Some, inl, inr, arith}
 use Rattle.std.specs.Str.Lines.{lines}
-use Rattle.fluid_io.specs.Causes.{Rose, Tells}
-use Rattle.fluid_io.specs.Streams.{Reading, Writing, Appends}
+use Rattle.fluid_io.specs.Lines.{EndsInLineFeed}
+use Rattle.fluid_io.specs.Streams.{Reading, Writing}
 use Rattle.fluidd.specs.declared.limits.Limits.{Limits}
 use Rattle.fluidd.specs.declared.status.Status.{Status}
 use Rattle.fluidd.specs.declared.status.Status.TheVariants as status
 use Rattle.fluidd.specs.Input.{refusal, Accepts}
-use Rattle.fluidd.specs.Output.{IsWhole, IsRefused, IsBegun, IsCut, Wrote, Finished, code_of, IsQuiet, HasRefused, Sequences}
+use Rattle.fluidd.specs.Output.{IsWhole, IsRefused, IsBegun, IsInterrupted, Wrote, Finished, code_of, HasRefused, Sequences}
+use Rattle.fluidd.proofs.WholeLines.{begun-cut, front-of, lines-whole}
 
 -- a line that is accepted isn't refused
 accepts-at : (limits : Limits) (before ls : List (List ℕ)) (line : List ℕ) (behind : List (List ℕ)) → Accepts limits before (ls ++ line ∷ behind) →
     refusal limits (before ++ ls) line ≡ None
 accepts-at limits before [] line behind a = rw append-nil a.0
 accepts-at limits before (l ∷ ls) line behind a = rw (← append_assoc before (l ∷ []) ls) (accepts-at limits (before ++ l ∷ []) ls line behind a.1)
+
+some-same : (source : Option (List ℕ)) (a b : List ℕ) → source ≡ Some a → source ≡ Some b → a ≡ b
+some-same source a b h k = cc
 
 not_both : (limits : Limits) (bytes : List ℕ) → Accepts limits [] (lines bytes) → HasRefused limits bytes → ⊥
 not_both limits bytes all r =
@@ -30,6 +34,34 @@ wrote-refused limits bytes left old new is h =
     let r = w.2 in
     record { before = r.before; line = r.line; behind = r.behind; why = r.why; split = r.split; refused = r.refused }
 
+-- a refused line is one of more lines too
+refused-more : (limits : Limits) (whole more : List ℕ) → EndsInLineFeed whole → HasRefused limits whole → HasRefused limits (whole ++ more)
+refused-more limits whole more fed r = record {
+  before = r.before;
+  line = r.line;
+  behind = r.behind ++ lines more;
+  why = r.why;
+  split = lines-whole whole more (inr (inl fed)) ∙ ap (λ ls. ls ++ lines more) r.split ∙ append_assoc r.before (r.line ∷ r.behind) (lines more);
+  refused = r.refused;
+}
+
+wrote-begun : (limits : Limits) (left source old new : Option (List ℕ)) → Wrote (IsInterrupted limits source) left old new → Wrote (IsBegun limits) left old new
+wrote-begun limits None source old new h = tt
+wrote-begun limits (Some input) source old new h = (h.0, h.1, begun-cut limits source input h.0 h.2)
+
+-- a whole line that was read isn't refused where the run was interrupted
+none-refused : (limits : Limits) (source : Option (List ℕ)) (whole part rest output : List ℕ) → source ≡ Some rest → EndsInLineFeed whole →
+    IsInterrupted limits source (whole ++ (part ++ rest)) output → HasRefused limits whole → ⊥
+none-refused limits source whole part rest output is fed h r =
+    let same : h.rest ≡ rest = some-same source h.rest rest h.are_left is in
+    let f = front-of whole part rest h.whole h.part fed h.plain (h.split ∙ ap (λ b. h.whole ++ (h.part ++ b)) same) in
+    not_both limits (whole ++ f.more) (subst (λ b. Accepts limits [] (lines b)) f.split h.accepted) (refused-more limits whole f.more fed r)
+
+wrote-interrupted : (limits : Limits) (left source old new : Option (List ℕ)) (whole part rest : List ℕ) → left ≡ Some (whole ++ (part ++ rest)) → source ≡ Some rest →
+    EndsInLineFeed whole → Wrote (IsInterrupted limits source) left old new → HasRefused limits whole → ⊥
+wrote-interrupted limits left source old new whole part rest is source_is fed h r =
+    let w = rw is at h in none-refused limits source whole part rest w.0 source_is fed w.2 r
+
 pub sequences : (limits : Limits) (input : Reading) (output : Writing) (source : Reading) (sink : Writing) (s : Status) →
     Finished limits input output source sink s → Sequences limits input output source sink (code_of s)
 sequences limits input output source sink status.Done h = record {
@@ -38,10 +70,12 @@ sequences limits input output source sink status.Done h = record {
   refused = λ e. absurd (omega arith);
   read_fault = λ e. absurd (omega arith);
   write_fault = λ e. absurd (omega arith);
+  interrupted = λ e. absurd (omega arith);
   begun = λ e. absurd (omega arith);
   cut = λ e. absurd (omega arith);
   known = inl refl;
   complete = λ bytes is all quiet calm. inl refl;
+  tells = λ whole part rest is left fed refused calm. absurd (not_both limits (whole ++ (part ++ rest)) (wrote-whole limits _ _ _ _ is h.0) (refused-more limits whole (part ++ rest) fed refused));
   refuses = λ bytes is refused quiet calm. absurd (not_both limits bytes (wrote-whole limits bytes _ _ _ is h.0) refused);
 }
 sequences limits input output source sink status.Usage h = absurd h
@@ -51,10 +85,12 @@ sequences limits input output source sink status.Refused h = record {
   refused = λ e. h;
   read_fault = λ e. absurd (omega arith);
   write_fault = λ e. absurd (omega arith);
+  interrupted = λ e. absurd (omega arith);
   begun = λ e. absurd (omega arith);
   cut = λ e. absurd (omega arith);
   known = inr (inl refl);
   complete = λ bytes is all quiet calm. absurd (not_both limits bytes all (wrote-refused limits bytes _ _ _ is h));
+  tells = λ whole part rest is left fed refused calm. inl refl;
   refuses = λ bytes is refused quiet calm. inl refl;
 }
 sequences limits input output source sink status.ReadFault h = record {
@@ -63,10 +99,12 @@ sequences limits input output source sink status.ReadFault h = record {
   refused = λ e. absurd (omega arith);
   read_fault = λ e. h.0;
   write_fault = λ e. absurd (omega arith);
-  begun = λ e. h.1;
+  interrupted = λ e. h.1;
+  begun = λ e. wrote-begun _ _ _ _ _ h.1;
   cut = λ e. absurd (omega arith);
   known = inr (inr (inl refl));
   complete = λ bytes is all quiet calm. absurd (quiet h.0);
+  tells = λ whole part rest is left fed refused calm. absurd (wrote-interrupted limits _ _ _ _ whole part rest is left fed h.1 refused);
   refuses = λ bytes is refused quiet calm. absurd (quiet h.0);
 }
 sequences limits input output source sink status.WriteFault h = record {
@@ -75,10 +113,12 @@ sequences limits input output source sink status.WriteFault h = record {
   refused = λ e. absurd (omega arith);
   read_fault = λ e. absurd (omega arith);
   write_fault = λ e. h.0;
+  interrupted = λ e. absurd (omega arith);
   begun = λ e. absurd (omega arith);
   cut = λ e. h.1;
   known = inr (inr (inr (inl refl)));
   complete = λ bytes is all quiet calm. absurd (calm h.0);
+  tells = λ whole part rest is left fed refused calm. absurd (calm h.0);
   refuses = λ bytes is refused quiet calm. absurd (calm h.0);
 }
 sequences limits input output source sink status.NoMemory h = record {
@@ -87,9 +127,11 @@ sequences limits input output source sink status.NoMemory h = record {
   refused = λ e. absurd (omega arith);
   read_fault = λ e. absurd (omega arith);
   write_fault = λ e. absurd (omega arith);
+  interrupted = λ e. absurd (omega arith);
   begun = λ e. h;
   cut = λ e. absurd (omega arith);
   known = inr (inr (inr (inr refl)));
   complete = λ bytes is all quiet calm. inr refl;
+  tells = λ whole part rest is left fed refused calm. inr refl;
   refuses = λ bytes is refused quiet calm. inr refl;
 }

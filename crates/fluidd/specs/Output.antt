@@ -1,9 +1,10 @@
 -- What is written for an input.
-use Rattle.std.specs.Prelude.{◌≡◌, ◌⊎◌, ℕ, ◌+◌, List, [], ◌∷◌, ◌++◌, length, Option, Some, None}
+use Rattle.std.specs.Prelude.{◌≡◌, ◌⊎◌, ℕ, ◌+◌, ◌≤◌, List, [], ◌∷◌, ◌++◌, length, Option, Some, None}
 use Rattle.std.specs.List.{flat_map}
 use Rattle.std.specs.Str.Lines.{lines}
 use Rattle.std.specs.Prelude.{Bool, false, codes, bytes_eq}
 use Rattle.fluid_io.specs.Causes.{Rose, Tells}
+use Rattle.fluid_io.specs.Lines.{EndsInLineFeed, IsPlain}
 use Rattle.fluid_io.specs.Streams.{Reading, Writing, Appends, AppendsFront}
 use Rattle.fluid_types.specs.Ledger.{Ledger}
 use Rattle.fluid_types.specs.Printed.{verdict_line}
@@ -53,6 +54,24 @@ pub record IsBegun (limits : Limits) (input output : List ℕ) : Type 0 where
   pub accepted : Accepts limits [] before
   pub text : output ≡ lines_for before
 
+-- these bytes are whole lines: there are none, a line feed stands at their end, or no byte is behind them
+abbrev pub AreWhole : List ℕ → (behind : List ℕ) → Type 0
+AreWhole bytes behind = (bytes ≡ []) ⊎ (EndsInLineFeed bytes ⊎ (behind ≡ []))
+
+-- all of the input but for what is left was read: these whole lines, none of which is refused, and then a part of a line,
+-- which has no line feed and is at most one byte longer than a line may be. The output is the verdict lines for these lines
+pub record IsInterrupted (limits : Limits) (left : Option (List ℕ)) (input output : List ℕ) : Type 0 where
+  pub whole : List ℕ
+  pub part : List ℕ
+  pub rest : List ℕ
+  pub are_left : left ≡ Some rest
+  pub split : input ≡ whole ++ (part ++ rest)
+  pub are_whole : AreWhole whole (part ++ rest)
+  pub plain : IsPlain part
+  pub few : length part ≤ 1048577
+  pub accepted : Accepts limits [] (lines whole)
+  pub text : output ≡ lines_for (lines whole)
+
 -- the output is a beginning of one of those
 pub record IsCut (limits : Limits) (input output : List ℕ) : Type 0 where
   pub rest : List ℕ
@@ -66,14 +85,15 @@ Wrote Sort (Some input) old new = (output : List ℕ) × Appends output old new 
 -- ---- the whole of a run
 
 -- what a run with `sequence` did, by its status: at 0 all was read and written; at 3 a line was refused; at 4 the source's
--- and at 5 the sink's count of faults rose; at 6 memory was wanting. At all but 5 the output ends at a line's end
+-- and at 5 the sink's count of faults rose; at 6 memory was wanting. At all but 5 the output ends at a line's end, and at
+-- 4 no whole line that was read is refused
 abbrev pub Finished : Limits → Reading → Writing → Reading → Writing → Status → Type 0
 Finished limits input output source sink status.Done =
     Wrote (IsWhole limits) input.left output.written sink.written × Tells source.left (λ bytes. bytes ≡ [])
 Finished limits input output source sink status.Usage = ⊥
 Finished limits input output source sink status.Refused = Wrote (IsRefused limits) input.left output.written sink.written
 Finished limits input output source sink status.ReadFault =
-    Rose input.faults source.faults × Wrote (IsBegun limits) input.left output.written sink.written
+    Rose input.faults source.faults × Wrote (IsInterrupted limits source.left) input.left output.written sink.written
 Finished limits input output source sink status.WriteFault =
     Rose output.faults sink.faults × Wrote (IsCut limits) input.left output.written sink.written
 Finished limits input output source sink status.NoMemory = Wrote (IsBegun limits) input.left output.written sink.written
@@ -117,6 +137,8 @@ pub record Sequences (limits : Limits) (input : Reading) (output : Writing) (sou
   -- 4: the source failed; 5: the sink failed
   pub read_fault : status ≡ 4 → Rose input.faults source.faults
   pub write_fault : status ≡ 5 → Rose output.faults sink.faults
+  -- 4: the output is the verdict lines for the whole lines that were read, and none of these is refused
+  pub interrupted : status ≡ 4 → Wrote (IsInterrupted limits source.left) input.left output.written sink.written
   -- 4 and 6: the output is a beginning of the whole that ends at a line's end
   pub begun : (status ≡ 4) ⊎ (status ≡ 6) → Wrote (IsBegun limits) input.left output.written sink.written
   -- 5: it is a beginning of the whole
@@ -126,6 +148,9 @@ pub record Sequences (limits : Limits) (input : Reading) (output : Writing) (sou
   -- where no line is refused and nothing failed, only memory can be wanting
   pub complete : (bytes : List ℕ) → input.left ≡ Some bytes → Accepts limits [] (lines bytes) →
       IsQuiet input.faults source.faults → IsQuiet output.faults sink.faults → (status ≡ 0) ⊎ (status ≡ 6)
+  -- where a whole line that was read is refused, that is told, unless memory is wanting or the sink failed
+  pub tells : (whole part rest : List ℕ) → input.left ≡ Some (whole ++ (part ++ rest)) → source.left ≡ Some rest → EndsInLineFeed whole →
+      HasRefused limits whole → IsQuiet output.faults sink.faults → (status ≡ 3) ⊎ (status ≡ 6)
   -- where a line is refused and nothing failed, that is told, unless memory is wanting
   pub refuses : (bytes : List ℕ) → input.left ≡ Some bytes → HasRefused limits bytes →
       IsQuiet input.faults source.faults → IsQuiet output.faults sink.faults → (status ≡ 3) ⊎ (status ≡ 6)

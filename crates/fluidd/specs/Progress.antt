@@ -4,7 +4,7 @@ use Rattle.std.specs.Str.Lines.{lines}
 use Rattle.fluid_io.specs.Causes.{Rose, Tells}
 use Rattle.fluid_io.specs.Streams.{Reading, Writing, Appends}
 use Rattle.fluid_io.specs.Reader.{Reader}
-use Rattle.fluid_io.specs.Lines.{ahead, lines_ahead}
+use Rattle.fluid_io.specs.Lines.{ahead, lines_ahead, IsCutOff, PassesLine}
 use Rattle.fluid_io.specs.declared.lines.TheConstants.{LONGEST_TEXT, MOST_LINES}
 use Rattle.fluid_types.specs.Ledger.{Ledger}
 use Rattle.std.specs.Prelude.{is_none}
@@ -24,7 +24,7 @@ use Rattle.fluidd.specs.declared.status.Status.TheVariants as status
 use Rattle.fluidd.specs.declared.sequence.Stop.{Stop}
 use Rattle.fluidd.specs.declared.sequence.Stop.TheVariants as stop
 use Rattle.fluidd.specs.Input.{records, entry_of, counted, entry_refusal, text_refusal, refusal, Accepts}
-use Rattle.fluidd.specs.Output.{verdict_lines, IsWhole, IsRefused, IsBegun, IsCut, Wrote}
+use Rattle.fluidd.specs.Output.{verdict_lines, AreWhole, IsWhole, IsRefused, IsBegun, IsInterrupted, IsCut, Wrote}
 use Rattle.fluidd.specs.Refusals.{bad_line}
 
 -- ---- a document
@@ -78,10 +78,10 @@ pub record Reached (limits : Limits) (before : List (List ℕ)) (gone : List ℕ
   pub accepted : Accepts limits [] before
   pub stands : Stands gone (ledger (records before)) document
 
--- a line more was taken: it was the first of those ahead
-pub record TakesLine (limits : Limits) (before : List (List ℕ)) (gone : List ℕ) (old new : Option (List (List ℕ))) (reader : Reader) (document : Document) : Type 0 where
+-- a line more was taken: it was passed over in the bytes that were ahead
+pub record TakesLine (limits : Limits) (before : List (List ℕ)) (gone : List ℕ) (old new : Option (List ℕ)) (reader : Reader) (document : Document) : Type 0 where
   pub line : List ℕ
-  pub first : old ≡ option_map (λ more. line ∷ more) new
+  pub passes : PassesLine line old new
   pub reached : Reached limits (before ++ line ∷ []) gone reader document
   pub few : reader.count ≤ MOST_LINES
 
@@ -103,13 +103,22 @@ pub record EndsInput (limits : Limits) (before : List (List ℕ)) (gone : List �
 
 -- what one step of a run did
 abbrev pub Steps : Limits → List (List ℕ) → List ℕ → Reader → Reading → Reader → Reading → Document → Result Bool Stop → Type 0
-Steps limits before gone r s r' s' document (Ok true) = TakesLine limits before gone (lines_ahead r s) (lines_ahead r' s') r' document
+Steps limits before gone r s r' s' document (Ok true) = TakesLine limits before gone (ahead r s) (ahead r' s') r' document
 Steps limits before gone r s r' s' document (Ok false) = EndsInput limits before gone (ahead r s) (ahead r' s') document
 Steps limits before gone r s r' s' document (Err (stop.Refused number why)) =
     RefusesLine limits before (ahead r s) number why × Stands gone (ledger (records before)) document
-Steps limits before gone r s r' s' document (Err stop.ReadFault) = Rose s.faults s'.faults × Stands gone (ledger (records before)) document
+Steps limits before gone r s r' s' document (Err stop.ReadFault) = IsCutOff r s s' × Stands gone (ledger (records before)) document
 Steps limits before gone r s r' s' document (Err stop.WriteFault) = ⊥
 Steps limits before gone r s r' s' document (Err stop.NoMemory) = Stands gone (ledger (records before)) document
+
+-- these lines are those of a part from the front of the bytes, which ends at a line's end, and the rest is ahead
+pub record IsReadTo (bytes : List ℕ) (ahead : Option (List ℕ)) (before : List (List ℕ)) : Type 0 where
+  pub whole : List ℕ
+  pub rest : List ℕ
+  pub are_ahead : ahead ≡ Some rest
+  pub split : bytes ≡ whole ++ rest
+  pub are_whole : AreWhole whole rest
+  pub are_lines : lines whole ≡ before
 
 -- a run between two lines, from the input and the output with which it began
 pub record Progress (limits : Limits) (input : Reading) (output : Writing) (reader : Reader) (document : Document) (source : Reading) (sink : Writing) : Type 0 where
@@ -117,6 +126,7 @@ pub record Progress (limits : Limits) (input : Reading) (output : Writing) (read
   pub gone : List ℕ
   pub reached : Reached limits before gone reader document
   pub split : option_map lines input.left ≡ option_map (λ more. before ++ more) (lines_ahead reader source)
+  pub read : Tells input.left (λ bytes. IsReadTo bytes (ahead reader source) before)
   pub appended : Appends gone output.written sink.written
   pub reads : input.faults ≤ source.faults
   pub writes : output.faults ≤ sink.faults
@@ -137,7 +147,7 @@ Ends limits input output document source sink (Err (stop.Refused number why)) =
     Owes (λ bytes text. IsRefused limits bytes (text ++ bad_line number why)) input.left output.written sink.written document.waiting.items
     × Owes (IsBegun limits) input.left output.written sink.written document.waiting.items
 Ends limits input output document source sink (Err stop.ReadFault) =
-    Rose input.faults source.faults × Owes (IsBegun limits) input.left output.written sink.written document.waiting.items
+    Rose input.faults source.faults × Owes (IsInterrupted limits source.left) input.left output.written sink.written document.waiting.items
 Ends limits input output document source sink (Err stop.WriteFault) =
     Rose output.faults sink.faults × Wrote (IsCut limits) input.left output.written sink.written
 Ends limits input output document source sink (Err stop.NoMemory) =
@@ -150,7 +160,7 @@ Settled limits input output source sink waiting status.Done =
 Settled limits input output source sink waiting status.Usage = ⊥
 Settled limits input output source sink waiting status.Refused = Owes (IsRefused limits) input.left output.written sink.written waiting
 Settled limits input output source sink waiting status.ReadFault =
-    Rose input.faults source.faults × Owes (IsBegun limits) input.left output.written sink.written waiting
+    Rose input.faults source.faults × Owes (IsInterrupted limits source.left) input.left output.written sink.written waiting
 Settled limits input output source sink waiting status.WriteFault =
     Rose output.faults sink.faults × Wrote (IsCut limits) input.left output.written sink.written
 Settled limits input output source sink waiting status.NoMemory = Owes (IsBegun limits) input.left output.written sink.written waiting

@@ -1,5 +1,5 @@
 //! A document, as a run of `sequence` keeps it.
-ghost use Rattle.std.specs.Prelude.{◌≡◌, ℕ, ◌+◌, ◌-◌, ◌*◌, ◌^◌, ◌<◌, ◌≤◌, List, [], ◌∷◌, ◌++◌, OnOk, OnErr};
+ghost use Rattle.std.specs.Prelude.{◌≡◌, ℕ, ◌+◌, ◌-◌, ◌*◌, ◌^◌, ◌<◌, ◌≤◌, List, [], ◌∷◌, ◌++◌, length, OnOk, OnErr};
 ghost use Rattle.fluid_io.specs.Causes.{HasCause};
 ghost use Rattle.fluid_io.specs.Streams.{Appends, AppendsFront};
 ghost use Rattle.fluid_types.specs.Ledger.{Ledger};
@@ -160,14 +160,17 @@ impl Document {
     }
 
     /// How many bytes wait.
-    pub(crate) fn waiting(&self) -> usize {
+    pub(crate) fn waiting(&self) -> usize
+        ensures { result ≡ length self.now.waiting.items }
+    {
         self.waiting.len()
     }
 
-    /// Hands the lines that wait to the sink. After a fault none of them waits any more.
+    /// Hands the lines that wait to the sink. None of them waits any more, not even after a fault.
     pub(crate) fn hand_on<K: Sink>(&mut self, output: &mut K) -> Result<(), Failed>
         ensures cause { HasCause (K.seen output.old).faults (K.seen output.new).faults result }
         ensures within { (n : ℕ) → IsWithin n self.old → IsWithin n self.new }
+        ensures none { self.new.waiting.items ≡ [] }
         ensures stands { OnOk result ((gone : List ℕ) (l : Ledger) → Stands gone l self.old →
             Stands (gone ++ self.old.waiting.items) l self.new) }
         ensures gone { OnOk result (Appends self.old.waiting.items (K.seen output.old).written (K.seen output.new).written) }

@@ -17,13 +17,20 @@ mod tests;
 use fluid_io::{StdSink, StdSource};
 use fluid_json::Text;
 use run::run;
+use status::Status;
 use std::process::ExitCode;
 use std::{env, io};
 
 fn main(rt: HostRuntime) -> ExitCode {
     let alloc = rt.alloc();
-    // Arguments that aren't text are no command, and neither are no words.
-    let words = read_words(&rt).unwrap_or(Vec::new(alloc));
+    let words = match read_words(&rt) {
+        Ok(words) => words,
+        Err(fault) if fault.kind() == io::ErrorKind::OutOfMemory => {
+            return ExitCode::from(Status::NoMemory.code());
+        }
+        // Arguments that aren't text are no command, and neither are no words.
+        Err(_) => Vec::new(alloc),
+    };
     let mut input = StdSource::new(rt.stdin());
     let mut output = StdSink::new(rt.stdout());
     let status = run(&rt, alloc, &words, &mut input, &mut output);

@@ -1,7 +1,8 @@
 //! The top call of the program.
 ghost use Rattle.std.specs.Prelude.{◌≡◌, true, false};
 ghost use Rattle.fluidd.specs.Input.{full};
-ghost use Rattle.fluidd.specs.Output.{IsWhole, IsRefused, Wrote, Sequences, ShowsUsage, is_sequence, usage_line};
+ghost use Rattle.fluid_io.specs.Causes.{Rose};
+ghost use Rattle.fluidd.specs.Output.{IsWhole, IsRefused, IsInterrupted, IsBegun, Wrote, Sequences, ShowsUsage, is_sequence, usage_line};
 
 use crate::limits::Limits;
 use crate::sequence::sequence;
@@ -26,6 +27,10 @@ pub fn run<R, S: Source, K: Sink>(
 ) -> u8
     ensures whole { result ≡ 0 → Wrote (IsWhole full) (S.seen input.old).left (K.seen output.old).written (K.seen output.new).written }
     ensures refused { result ≡ 3 → Wrote (IsRefused full) (S.seen input.old).left (K.seen output.old).written (K.seen output.new).written }
+    ensures interrupted { result ≡ 4 → Wrote (IsInterrupted full (S.seen input.new).left) (S.seen input.old).left (K.seen output.old).written (K.seen output.new).written }
+    ensures read_fault { result ≡ 4 → Rose (S.seen input.old).faults (S.seen input.new).faults }
+    ensures write_fault { result ≡ 5 → Rose (K.seen output.old).faults (K.seen output.new).faults }
+    ensures begun { result ≡ 6 → Wrote (IsBegun full) (S.seen input.old).left (K.seen output.old).written (K.seen output.new).written }
     ensures sequence { is_sequence words.now ≡ true →
         Sequences full (S.seen input.old) (K.seen output.old) (S.seen input.new) (K.seen output.new) result }
     ensures usage { is_sequence words.now ≡ false → ShowsUsage (K.seen output.old) (K.seen output.new) result }

@@ -1,5 +1,5 @@
 //! The command `sequence`: raw records in, a verdict line out for each.
-ghost use Rattle.std.specs.Prelude.{◌≡◌, ◌⊎◌, ℕ, ◌+◌, ◌-◌, ◌*◌, ◌^◌, ◌<◌, ◌≤◌, List, [], ◌∷◌, ◌++◌, OnOk, IfErr};
+ghost use Rattle.std.specs.Prelude.{◌≡◌, ◌⊎◌, ℕ, ◌+◌, ◌-◌, ◌*◌, ◌^◌, ◌<◌, ◌≤◌, List, [], ◌∷◌, ◌++◌, length, OnOk, IfErr};
 ghost use Rattle.fluid_io.specs.Streams.{Reading, Writing};
 ghost use Rattle.fluid_io.specs.Reader.{Reader};
 ghost use Rattle.fluidd.specs.Output.{Finished};
@@ -62,6 +62,7 @@ fn hand_on_if_many<K: Sink>(document: &mut Document, output: &mut K) -> Result<(
     ensures goes_on { OnOk result ((limits : Limits) (input : Reading) (start : Writing) (reader : Reader) (source : Reading) →
         Progress limits input start reader document.old source (K.seen output.old) →
         Progress limits input start reader document.new source (K.seen output.new)) }
+    ensures few { length document.new.waiting.items < PIECE }
     ensures fails { IfErr result (λ stop. (limits : Limits) (input : Reading) (start : Writing) (reader : Reader) (source : Reading) →
         Progress limits input start reader document.old source (K.seen output.old) →
         Ends limits input start document.new source (K.seen output.new) (Err stop)) }

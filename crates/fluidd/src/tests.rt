@@ -2,9 +2,11 @@
 ghost use Rattle.std.specs.Prelude.{◌<◌};
 
 use crate::run::{run, sequence_within};
-use fluid_io::{MemorySink, MemorySource};
+use fluid_io::{MemorySink, MemorySource, StdSink};
 use fluid_json::Text;
 use std::alloc::Global;
+use std::io;
+use std::io::{ErrorKind, Write};
 use std::test::Fail;
 
 // A join, and the line of its verdict in an empty document.
@@ -462,6 +464,46 @@ fn each_fault_of_the_source_leaves_whole_lines(rt: HostRuntime) -> Result<(), Fa
 }
 
 #[test]
+fn a_line_that_was_read_before_the_source_failed_is_refused(rt: HostRuntime) -> Result<(), Fail> {
+    let alloc = rt.alloc();
+    let wide = " ".repeat(alloc, 100)?;
+    let wide = format!(in alloc; "7{wide}8")?;
+    let joined = format!(in alloc; "{JOINED}\n")?;
+    let refused = format!(in alloc; "{JOINED}\nbad line 2: not JSON\n")?;
+    // A read of 96 bytes has the join and the short line, or the join and a part of the wide one.
+    for (line, read, status, output) in [
+        ("7 8", 1, 4, ""),
+        ("7 8", 2, 3, refused.as_str()),
+        (wide.as_str(), 2, 4, joined.as_str()),
+        (wide.as_str(), 3, 3, refused.as_str()),
+    ] {
+        let input = format!(in alloc; "{JOIN}\n{line}\n{JOIN}\n")?;
+        let ended = ran_in_pieces(&rt, &["sequence"], input.as_bytes(), 96, &[read], &[])?;
+        assert_eq!(rt; ended.status, status, "{line}, read {read}");
+        assert_eq!(rt; ended.output.as_str(), output, "{line}, read {read}");
+    }
+    Ok(())
+}
+
+#[test]
+fn a_name_has_at_most_64_bytes(rt: HostRuntime) -> Result<(), Fail> {
+    let alloc = rt.alloc();
+    for (length, status, output) in [
+        (64, 0, "{\"dropped\":true}\n"),
+        (65, 3, "bad line 1: bad field clientId: bad name\n"),
+    ] {
+        let name = "n".repeat(alloc, length)?;
+        let input = format!(in alloc;
+            "{{\"raw\":\"leave\",\"clientId\":\"{name}\",\"moment\":1}}\n"
+        )?;
+        let ended = ran(&rt, &["sequence"], input.as_bytes())?;
+        assert_eq!(rt; ended.status, status);
+        assert_eq!(rt; ended.output.as_str(), output);
+    }
+    Ok(())
+}
+
+#[test]
 fn each_fault_of_the_sink_leaves_a_beginning(rt: HostRuntime) -> Result<(), Fail> {
     let alloc = rt.alloc();
     let input = lines(alloc, JOIN, "")?;
@@ -478,6 +520,56 @@ fn each_fault_of_the_sink_leaves_a_beginning(rt: HostRuntime) -> Result<(), Fail
     let unwritten = ran_in_pieces(&rt, &[], b"", 64, &[], &[1])?;
     assert_eq!(rt; unwritten.status, 5);
     assert_eq!(rt; unwritten.output.as_str(), "");
+    Ok(())
+}
+
+// A writer that takes at most 64 bytes at once, and none at one of its calls.
+#[derive(Drop)]
+struct FullAt {
+    call: u64,
+    calls: u64,
+    taken: Vec<u8>,
+}
+
+impl Write for FullAt {
+    fn write(&mut self, bytes: &[u8]) -> io::Result<usize> {
+        self.calls = self.calls.saturating_add(1);
+        if self.calls == self.call {
+            return Ok(0);
+        }
+        let count = bytes.len().min(64);
+        match self.taken.extend_from_slice(&bytes[..count]) {
+            Ok(()) => Ok(count),
+            Err(_) => Err(io::Error::from(ErrorKind::OutOfMemory)),
+        }
+    }
+
+    fn flush(&mut self) -> io::Result<()> {
+        Ok(())
+    }
+}
+
+#[test]
+fn a_sink_that_takes_nothing_has_failed(rt: HostRuntime) -> Result<(), Fail> {
+    let alloc = rt.alloc();
+    let input = lines(alloc, JOIN, "")?;
+    let whole = format!(in alloc; "{JOINED}\n")?;
+    let mut words = Vec::new(alloc);
+    words.push(Text::copied(alloc, "sequence")?)?;
+    for (call, status, length) in [(1, 5, 0), (2, 5, 64), (3, 5, 128), (4, 5, 192), (5, 0, 222)] {
+        let bytes = Vec::from_slice(alloc, input.as_bytes())?;
+        let mut source = MemorySource::new(bytes, Vec::new(alloc));
+        let mut writer = FullAt {
+            call,
+            calls: 0,
+            taken: Vec::new(alloc),
+        };
+        let mut sink = StdSink::new(&mut writer);
+        let ended = run(&rt, alloc, &words, &mut source, &mut sink);
+        assert_eq!(rt; ended, status, "{call}");
+        assert_eq!(rt; writer.taken.len(), length, "{call}");
+        assert!(rt; whole.as_bytes().starts_with(&writer.taken), "{call}");
+    }
     Ok(())
 }
 

@@ -1,5 +1,3 @@
-use Rattle.std.proofs.Common.{◌≤◌, ◌+◌, ℕ, sym}
-use Rattle.fluid_ticket.specs.State.{State}
 use Rattle.fluidd.proofs.Clients.{after-next}
 use Rattle.fluidd.proofs.document.commit.Goals as goal
 

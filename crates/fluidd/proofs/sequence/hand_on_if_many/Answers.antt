@@ -1,4 +1,3 @@
-use Rattle.std.proofs.Common.{inl}
 use Rattle.fluidd.proofs.Advances.{hands_on}
 use Rattle.fluidd.proofs.Endings.{progress-cut, rose}
 use Rattle.fluidd.proofs.sequence.hand_on_if_many.Goals as goal

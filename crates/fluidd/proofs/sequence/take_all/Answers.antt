@@ -1,6 +1,6 @@
 use Rattle.std.proofs.lemmas.Result.{err_from_is_err_and}
 use Rattle.fluidd.proofs.Advances.{starts, takes, none-left}
-use Rattle.fluidd.proofs.Endings.{owes-whole}
+use Rattle.fluidd.proofs.Endings.{owes-whole, stopped}
 use Rattle.fluidd.proofs.sequence.take_all.Goals as goal
 
 pub loop-lines-init : goal.loop-lines-init
@@ -20,6 +20,12 @@ returns-in_err-hand_on_if_many-clause-ends g c =
     let e = err_from_is_err_and c.from_residual-in_err-hand_on_if_many.result c.from_residual-in_err-hand_on_if_many.ensures.1 in
     rw (e.1, e.2) (c.in_err-hand_on_if_many.ensures.fails _ _ _ _ _
     (takes _ _ _ _ _ _ _ _ _ _ p taken c.take_next.ensures.later (c.take_next.ensures.within c.loop-lines.lines.count)))
+
+pub returns-in_err-take_next-clause-ends : goal.returns-in_err-take_next-clause-ends
+returns-in_err-take_next-clause-ends g c =
+    let p = c.loop-lines.invariant in
+    let e = err_from_is_err_and c.from_residual.result c.from_residual.ensures.1 in
+    rw (e.1, e.2) (stopped _ _ _ _ c.take_next.new.lines _ _ _ _ _ _ p (c.in_err-take_next.ensures.steps p.before p.gone p.reached))
 
 pub returns-clause-ends : goal.returns-clause-ends
 returns-clause-ends g c =

@@ -1,4 +1,4 @@
-use Rattle.std.proofs.Common.{ℕ, ◌-◌}
+use Rattle.std.proofs.Common.{◌-◌}
 use Rattle.fluidd.specs.Progress.{Progress}
 use Rattle.fluidd.proofs.sequence.take_all.Given as goal
 

@@ -1,7 +1,5 @@
-use Rattle.std.proofs.Common.{sym, ◌∙◌, ap, ◌+◌, cond, add-zero}
+use Rattle.std.proofs.Common.{sym, ◌∙◌, ap, ◌+◌, add-zero}
 use Rattle.fluidd.specs.Input.{counted}
-use Rattle.fluid_ticket.specs.State.{prepared}
-use Rattle.fluid_ticket.specs.Ledger.{StandsFor}
 use Rattle.fluidd.proofs.Grown.{counted-entry, lines-grown}
 use Rattle.fluidd.proofs.document.Document.enter.Goals as goal
 
