@@ -1,0 +1,113 @@
+"""Builds, feeds and times the two programs of this benchmark: the proved `fluidd sequence`, and the hand-written baseline."""
+import filecmp
+import os
+import re
+import shutil
+import subprocess
+import sys
+from pathlib import Path
+
+TOP = Path(__file__).resolve().parent.parent
+OUT = TOP / "bench" / "out"
+BASELINE = TOP / "bench" / "baseline"
+DEBIAN_CRATES = Path("/usr/share/cargo/registry")
+
+
+class Program:
+    """One of the two programs: its name, and the words that start it."""
+
+    def __init__(self, name, words):
+        self.name = name
+        self.words = [str(word) for word in words]
+
+
+class Run:
+    """What one run took: processor seconds, user and system together, and the most memory that it held, in bytes."""
+
+    def __init__(self, seconds, memory):
+        self.seconds = seconds
+        self.memory = memory
+
+
+def say(text):
+    print(text, file=sys.stderr, flush=True)
+
+
+def proved():
+    """The proved program, which is built where it is missing."""
+    program = TOP / "crates" / "fluidd" / "out" / "fluidd"
+    if not program.exists():
+        say("bench: proving and building fluidd, which takes some minutes")
+        subprocess.run(["rt", "run", "--", "sequence"], cwd=TOP / "crates" / "fluidd", stdin=subprocess.DEVNULL,
+                       stdout=sys.stderr, check=True)
+    return Program("fluidd", [program, "sequence"])
+
+
+def baseline():
+    """The hand-written program, built from Debian's crates; nothing where these or cargo are missing."""
+    if not shutil.which("cargo"):
+        say("bench: there is no cargo, so the baseline is left out")
+        return None
+    if not any(DEBIAN_CRATES.glob("serde_json-*")):
+        say("bench: Debian's librust-serde-json-dev is not installed, so the baseline is left out")
+        return None
+    say("bench: building the baseline")
+    subprocess.run(["cargo", "build", "--quiet", "--release", "--offline",
+                    "--config", 'source.crates-io.replace-with="debian"',
+                    "--config", f'source.debian.directory="{DEBIAN_CRATES}"'], cwd=BASELINE, check=True)
+    return Program("baseline", [BASELINE / "target" / "release" / "baseline"])
+
+
+def programs():
+    """Both programs, the baseline only where it can be built."""
+    return [program for program in (proved(), baseline()) if program]
+
+
+def records(clients, operations, contents):
+    """A file of raw records, written anew."""
+    OUT.mkdir(exist_ok=True)
+    path = OUT / f"{clients}-clients-{operations}-operations-{contents}-bytes.jsonl"
+    with path.open("wb") as out:
+        subprocess.run([TOP / "bench" / "records", "--clients", str(clients), "--operations", str(operations),
+                        "--contents", str(contents)], stdout=out, check=True)
+    return path
+
+
+def run(program, source, written):
+    """Runs a program once over the file `source`; what it writes goes to the file `written`.
+
+    GNU time tells the memory, since a child that Python starts would begin with Python's own."""
+    figures = OUT / "figures"
+    with source.open("rb") as into, written.open("wb") as out:
+        subprocess.run(["/usr/bin/time", "-f", "%U %S %M", "-o", figures, *program.words], stdin=into, stdout=out, check=True)
+    user, system, kilobytes = figures.read_text().split()
+    return Run(float(user) + float(system), int(kilobytes) * 1024)
+
+
+def written_by(program):
+    return OUT / f"written-by-{program.name}"
+
+
+def compare(both, source):
+    """Stops where the programs don't write the same bytes for this input."""
+    for program in both:
+        run(program, source, written_by(program))
+    first = written_by(both[0])
+    for program in both[1:]:
+        if not filecmp.cmp(first, written_by(program), shallow=False):
+            sys.exit(f"bench: {both[0].name} and {program.name} differ on {source.name}: see {OUT}")
+
+
+def least(both, source, runs):
+    """The least time and the most memory of each program over so many runs, in turn."""
+    taken = {program.name: [] for program in both}
+    for _ in range(runs):
+        for program in both:
+            taken[program.name].append(run(program, source, written_by(program)))
+    return {name: Run(min(r.seconds for r in rs), max(r.memory for r in rs)) for name, rs in taken.items()}
+
+
+def machine():
+    """The processor that this runs on."""
+    found = re.search(r"^model name\s*:\s*(.*)$", Path("/proc/cpuinfo").read_text(), re.M)
+    return f"{found.group(1) if found else 'unknown processor'}, {os.cpu_count()} processors"
