@@ -98,13 +98,15 @@ def compare(both, source):
             sys.exit(f"bench: {both[0].name} and {program.name} differ on {source.name}: see {OUT}")
 
 
-def least(both, source, runs):
-    """The least time and the most memory of each program over so many runs, in turn."""
-    taken = {program.name: [] for program in both}
+def least(both, sources, runs):
+    """For each input the least time and the most memory of each program, by its name, over so many rounds. A round runs both
+    programs over every input, so that what else the machine does meets all of them alike."""
+    taken = [{program.name: [] for program in both} for _ in sources]
     for _ in range(runs):
-        for program in both:
-            taken[program.name].append(run(program, source, written_by(program)))
-    return {name: Run(min(r.seconds for r in rs), max(r.memory for r in rs)) for name, rs in taken.items()}
+        for source, by_name in zip(sources, taken):
+            for program in both:
+                by_name[program.name].append(run(program, source, written_by(program)))
+    return [{name: Run(min(r.seconds for r in rs), max(r.memory for r in rs)) for name, rs in by_name.items()} for by_name in taken]
 
 
 def machine():
