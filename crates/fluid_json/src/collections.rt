@@ -1,4 +1,4 @@
-ghost use Rattle.std.specs.Prelude.{◌≡◌, List, [], ◌∷◌, ◌++◌, length, IfOk, IfErr};
+ghost use Rattle.std.specs.Prelude.{◌≡◌, List, [], ◌∷◌, ◌++◌, length, IfOk, IfErr, OnErr};
 ghost use Rattle.fluid_json.specs.Tree.{trees, members, AreCanonical, HasCanonical, AreAscending};
 
 use crate::memory::NoMemory;
@@ -47,7 +47,8 @@ impl Items {
     }
 
     pub fn push(&mut self, item: Json) -> Result<(), NoMemory>
-        ensures { IfOk result (λ _. self.new ≡ self.old ++ item ∷ []) }
+        ensures pushed { IfOk result (λ _. self.new ≡ self.old ++ item ∷ []) }
+        ensures same { OnErr result (self.new ≡ self.old) }
     {
         item.canonical();
         self.vec.push(item)?;
@@ -110,7 +111,8 @@ impl Pairs {
     /// Puts a member at the end. Its key is above each key before it.
     pub fn push(&mut self, key: Text, value: Json) -> Result<(), NoMemory>
         requires { AreAscending (members (self.old ++ (key, value) ∷ [])) }
-        ensures { IfOk result (λ _. self.new ≡ self.old ++ (key, value) ∷ []) }
+        ensures pushed { IfOk result (λ _. self.new ≡ self.old ++ (key, value) ∷ []) }
+        ensures same { OnErr result (self.new ≡ self.old) }
     {
         value.canonical();
         self.vec.push((key, value))?;

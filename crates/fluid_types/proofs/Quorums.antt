@@ -11,7 +11,7 @@ use Rattle.fluid_types.specs.Names.{is_name}
 use Rattle.fluid_types.specs.Texts.{name_of}
 use Rattle.fluid_types.specs.Quorum.{member_of, left_by, proposal_of, standing, members, proposals, pending, values, quorum_of}
 use Rattle.fluid_types.specs.Blobs.{blob_text, member_tree, value_tree}
-use Rattle.fluid_types.specs.QuorumExamples.{proposed, AfterThirteen, AfterFourteen, AcceptedByItself, TwoOfOneKey, FiveIsNoProposal, ProposedAsText, WhoIsIn, BlobTexts, MembersText}
+use Rattle.fluid_types.specs.QuorumExamples.{proposed, AfterThirteen, AfterFourteen, AcceptedByItself, TwoOfOneKey, AreNoProposals, ProposedAsText, WhoIsIn, BlobTexts, MembersText}
 use Rattle.fluid_types.proofs.Tables.{get-latest, entries-latest}
 
 spells : (s : List ℕ) (t : Tree) → s ≡ json.printed t → IsCanonical t → depth t ≤ 100 → answer s ≡ Ok t
@@ -33,9 +33,9 @@ pub two_of_one_key : TwoOfOneKey
 unfolding body name_of proposal_of proposals pending values quorum_of
 two_of_one_key = get-latest _ _
 
-pub five_is_no_proposal : FiveIsNoProposal
+pub are_no_proposals : AreNoProposals
 unfolding body name_of proposal_of proposals pending values quorum_of
-five_is_no_proposal = refl
+are_no_proposals = record { five = refl; key_is_no_text = refl; no_value = refl; no_key = refl; reject = refl; propose = refl }
 
 proposed_code : answer (codes "{\"key\":\"code\",\"value\":\"v2\"}") ≡ Ok (proposed (codes "code") (codes "v2"))
 unfolding escape_byte
@@ -86,6 +86,7 @@ who_is_in = record {
   one = ap (map (λ e. e.0)) (entries-latest _) ∙ rw (first_join, second_join, first_leave) refl;
   again = ap (λ es. map (λ m. m.number) (map (λ e. e.1) es)) (entries-latest _) ∙ rw (first_join, second_join, first_leave, third_join) refl;
   left = ap (map (λ e. e.0)) (entries-latest _) ∙ rw (first_join, second_join, first_leave, third_join, second_leave) refl;
+  latest = ap (λ es. map (λ m. m.number) (map (λ e. e.1) es)) (entries-latest _) ∙ rw (first_join, third_join) refl;
 }
 
 pub members_text : MembersText

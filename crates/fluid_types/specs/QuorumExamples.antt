@@ -4,8 +4,9 @@ use Rattle.std.specs.FinMap.{get, keys}
 use Rattle.std.specs.FinMap as table
 use Rattle.fluid_json.specs.Tree.{Tree, null, whole, text, object, members}
 use Rattle.fluid_types.specs.declared.messages.Kind.{Kind}
-use Rattle.fluid_types.specs.declared.messages.Kind.TheVariants.{Op, Propose, Join, Leave}
+use Rattle.fluid_types.specs.declared.messages.Kind.TheVariants.{Op, Propose, Reject, Join, Leave}
 use Rattle.fluid_types.specs.declared.messages.Message.{Message}
+use Rattle.fluid_types.specs.declared.quorum.Proposal.{Proposal}
 use Rattle.fluid_types.specs.declared.quorum.QuorumBlob.TheVariants as blob
 use Rattle.fluid_types.specs.Quorum.{quorum}
 use Rattle.fluid_types.specs.Blobs.{blob_text}
@@ -81,9 +82,18 @@ abbrev pub ProposedAsText : Type 0
 ProposedAsText =
     map (λ p. p.key) (quorum (message Propose 1 0 (text (codes "{\"key\":\"code\",\"value\":\"v2\"}")) ∷ []) 1).pending ≡ codes "code" ∷ []
 
--- a propose with contents 5 changes nothing
-abbrev pub FiveIsNoProposal : Type 0
-FiveIsNoProposal = (quorum (message Propose 1 1 (whole (pos 5)) ∷ []) 1).pending ≡ []
+-- what one message of these contents leaves pending
+abbrev pub pending_behind : Kind → Tree → List Proposal
+pending_behind kind contents = (quorum (message kind 1 0 contents ∷ []) 1).pending
+
+-- a propose changes nothing where its contents are 5, where its key is no text, or where a member is missing; nor does another kind
+pub record AreNoProposals : Type 0 where
+  pub five : pending_behind Propose (whole (pos 5)) ≡ []
+  pub key_is_no_text : pending_behind Propose (object (members ((codes "key", null) ∷ (codes "value", null) ∷ []))) ≡ []
+  pub no_value : pending_behind Propose (object (members ((codes "key", text (codes "code")) ∷ []))) ≡ []
+  pub no_key : pending_behind Propose (object (members ((codes "value", null) ∷ []))) ≡ []
+  pub reject : pending_behind Reject (proposed (codes "code") (codes "v2")) ≡ []
+  pub propose : map (λ p. p.key) (pending_behind Propose (proposed (codes "code") (codes "v2"))) ≡ codes "code" ∷ []
 
 -- A and B join, A leaves and joins again, and B leaves
 abbrev pub joins_and_leaves : List Message
@@ -95,11 +105,19 @@ joins_and_leaves =
     ∷ system_message Leave 5 3 (codes "\"B\"")
     ∷ []
 
+-- A joins twice without a leave between
+abbrev pub joins_twice : List Message
+joins_twice =
+    system_message Join 1 0 (codes "{\"clientId\":\"A\",\"detail\":1}")
+    ∷ system_message Join 2 0 (codes "{\"clientId\":\"A\",\"detail\":2}")
+    ∷ []
+
 pub record WhoIsIn : Type 0 where
   pub both : keys (quorum joins_and_leaves 2).members ≡ codes "A" ∷ codes "B" ∷ []
   pub one : keys (quorum joins_and_leaves 3).members ≡ codes "B" ∷ []
   pub again : map (λ m. m.number) (table.values (quorum joins_and_leaves 4).members) ≡ 4 ∷ 2 ∷ []
   pub left : keys (quorum joins_and_leaves 5).members ≡ codes "A" ∷ []
+  pub latest : map (λ m. m.number) (table.values (quorum joins_twice 2).members) ≡ 2 ∷ []
 
 -- the blobs after 14 of the fourteen messages
 pub record BlobTexts : Type 0 where

@@ -1,6 +1,6 @@
 //! Worked examples of the quorum, each computed from the definitions.
 
-ghost use Rattle.fluid_types.specs.QuorumExamples.{AfterThirteen, AfterFourteen, AcceptedByItself, TwoOfOneKey, ProposedAsText, FiveIsNoProposal, WhoIsIn, BlobTexts, MembersText};
+ghost use Rattle.fluid_types.specs.QuorumExamples.{AfterThirteen, AfterFourteen, AcceptedByItself, TwoOfOneKey, ProposedAsText, AreNoProposals, WhoIsIn, BlobTexts, MembersText};
 
 /// Two values are proposed at 12 and 13, and the minimum is 11: both are pending.
 pub fn after_thirteen()
@@ -27,12 +27,12 @@ pub fn proposed_as_text()
     ensures { ProposedAsText }
 {}
 
-/// Contents that are no object.
-pub fn five_is_no_proposal()
-    ensures { FiveIsNoProposal }
+/// Contents outside the form, and another kind.
+pub fn are_no_proposals()
+    ensures { AreNoProposals }
 {}
 
-/// Clients join, leave and join again.
+/// Clients join, leave and join again, and one joins twice.
 pub fn who_is_in()
     ensures { WhoIsIn }
 {}

@@ -1,6 +1,7 @@
 // Nacks: why a submission is refused.
-ghost use Rattle.std.specs.Prelude.{◌≡◌, ◌++◌, IfOk, codes};
+ghost use Rattle.std.specs.Prelude.{◌≡◌, ◌++◌, IfOk, MatchResult, codes};
 ghost use Rattle.fluid_types.specs.Texts.{fault_text, kind_of, code_of, kind_name, rule_text};
+ghost use Rattle.fluid_types.specs.declared.nacks.NackRule.TheVariants.{Unread};
 
 use crate::{CodecFault, Submission};
 use fluid_json::{NoMemory, Text};
@@ -80,29 +81,39 @@ impl NackRule {
         self.kind().code()
     }
 
+    /// The text of a rule that has one; that of the other tells a fault.
+    #[tactic(auto, unfolding(crate::specs::Texts::rule_text))]
+    pub fn words(&self) -> Result<&'static str, CodecFault>
+        ensures { MatchResult result (λ words. words.now ≡ rule_text self.now) (λ fault. self.now ≡ Unread fault) }
+    {
+        match self {
+            NackRule::Gap => Ok("Gap in client sequence numbers"),
+            NackRule::Nonexistent => Ok("Nonexistent client"),
+            NackRule::Below => Ok("Reference below the minimum"),
+            NackRule::Ahead => Ok("Reference ahead of the order"),
+            NackRule::Scope => Ok("summary:write is missing"),
+            NackRule::Unread(fault) => Err(*fault),
+            NackRule::NotConnected => Ok("not connected"),
+            NackRule::ForeignClient => Ok("foreign client"),
+            NackRule::ReadOnly => Ok("read only connection"),
+            NackRule::Full => Ok("document is full"),
+        }
+    }
+
     /// The text that a client reads, in the member `message`.
     #[tactic(auto, unfolding(crate::specs::Texts::rule_text))]
     pub fn text(&self, alloc: Global) -> Result<Text, NoMemory>
         ensures { IfOk result (λ text. text ≡ rule_text self.now) }
     {
-        let text = match self {
-            NackRule::Gap => "Gap in client sequence numbers",
-            NackRule::Nonexistent => "Nonexistent client",
-            NackRule::Below => "Reference below the minimum",
-            NackRule::Ahead => "Reference ahead of the order",
-            NackRule::Scope => "summary:write is missing",
-            NackRule::Unread(fault) => return unread_text(alloc, fault),
-            NackRule::NotConnected => "not connected",
-            NackRule::ForeignClient => "foreign client",
-            NackRule::ReadOnly => "read only connection",
-            NackRule::Full => "document is full",
-        };
-        Text::copied(alloc, text)
+        match self.words() {
+            Ok(words) => Text::copied(alloc, words),
+            Err(fault) => unread_text(alloc, fault),
+        }
     }
 }
 
-fn unread_text(alloc: Global, fault: &CodecFault) -> Result<Text, NoMemory>
-    ensures { IfOk result (λ text. text ≡ codes "bad event: " ++ fault_text fault.now) }
+fn unread_text(alloc: Global, fault: CodecFault) -> Result<Text, NoMemory>
+    ensures { IfOk result (λ text. text ≡ codes "bad event: " ++ fault_text fault) }
 {
     let cause = fault.text(alloc)?;
     let text = format!(in alloc; "bad event: {}", cause.as_str())?;

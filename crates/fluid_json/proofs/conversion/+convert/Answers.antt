@@ -14,7 +14,7 @@ convert_items-loop-item-preserved t c = record {
       c.loop-item.invariant.done
       ∙ ap (λ vs. option_map (onto_trees c.loop-item.converted) (of_items (items_view vs))) c.in-Some.ensures.steps.0
       ∙ item_converted c.loop-item.converted c.in_ok-item.item (view c.in-Some.item) (items_view c.next.new.self.rest.items) c.in_ok-item.ensures
-      ∙ ap (λ ts. option_map (onto_trees ts) (of_items (items_view c.next.new.self.rest.items))) (sym c.in_ok-push.ensures);
+      ∙ ap (λ ts. option_map (onto_trees ts) (of_items (items_view c.next.new.self.rest.items))) (sym c.in_ok-push.ensures.pushed);
 }
 
 pub convert_items-returns : goal.convert_items-returns
@@ -31,7 +31,7 @@ convert_members-push-requires t c =
 
 pub convert_members-loop-key-preserved : goal.convert_members-loop-key-preserved
 convert_members-loop-key-preserved t c =
-    let grown = c.in_ok-push.ensures ∙ ap (λ k. c.loop-key.converted ++ (k, c.in_ok-value.value) ∷ []) c.new.ensures in record {
+    let grown = c.in_ok-push.ensures.pushed ∙ ap (λ k. c.loop-key.converted ++ (k, c.in_ok-value.value) ∷ []) c.new.ensures in record {
       can_next = tt;
       is_finite = tt;
       done =
