@@ -1,5 +1,5 @@
 // Lists of submissions and messages.
-ghost use Rattle.std.specs.Prelude.{◌≡◌, ◌∷◌, [], ◌++◌, IfOk};
+ghost use Rattle.std.specs.Prelude.{◌≡◌, ◌∷◌, [], ◌++◌, IfOk, OnErr};
 
 use fluid_json::NoMemory;
 use fluid_types::{Message, Submission};
@@ -33,7 +33,8 @@ impl Submissions {
 
     /// Puts one at the end.
     pub fn push(&mut self, submission: Submission) -> Result<(), NoMemory>
-        ensures { IfOk result (λ _. self.new ≡ self.old ++ submission ∷ []) }
+        ensures pushed { IfOk result (λ _. self.new ≡ self.old ++ submission ∷ []) }
+        ensures same { OnErr result (self.new ≡ self.old) }
     {
         self.vec.push(submission)?;
         Ok(())

@@ -7,7 +7,7 @@ use crate::forms::{Form, a_text};
 use crate::rows::Print;
 use fluid_json::{Bytes, Json, NoMemory, Printer};
 use fluid_types::{CodecFault, Field, What};
-use hex::{FromHex, FromHexError, decode, encode};
+use hex::{FromHex, FromHexError, decode, encode, encode_to_slice};
 use std::alloc::Global;
 
 /// 40 digits, none of them an upper-case letter.
@@ -88,8 +88,9 @@ impl Print for [u8; 20] {
 
     ghost tree = { hex_tree };
 
-    fn print(&self, alloc: Global, out: &mut Printer) -> Result<(), NoMemory> {
-        let digits = encode(alloc, self.as_slice())?;
-        out.text(digits.as_str())
+    fn print(&self, _alloc: Global, out: &mut Printer) -> Result<(), NoMemory> {
+        let mut digits = [0u8; 40];
+        encode_to_slice(self, &mut digits).unwrap();
+        out.text(str::from_utf8(&digits).unwrap())
     }
 }

@@ -124,9 +124,11 @@ impl Members for NackRule {
 
     #[tactic(auto, unfolding(fluid_types::specs::Printed::content_rows))]
     fn print_members(&self, alloc: Global, out: &mut Printer) -> Result<(), NoMemory> {
-        let text = self.text(alloc)?;
         member(alloc, out, Field::Code, &self.code())?;
-        member(alloc, out, Field::Message, &text)?;
+        match self.words() {
+            Ok(words) => member(alloc, out, Field::Message, &words)?,
+            Err(_) => member(alloc, out, Field::Message, &self.text(alloc)?)?,
+        }
         member(alloc, out, Field::Type, &self.kind().name())?;
         Ok(())
     }
