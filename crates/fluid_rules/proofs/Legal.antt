@@ -63,6 +63,10 @@ pub legal-growth : (P : Ledger → Type 0) →
 legal-growth P step first second legal holds =
     grown P step first second (legal-first first second legal) holds (legal-behind first second legal)
 
+-- a legal ledger and what is legal behind it
+pub legal-append : (first second : Ledger) → IsLegal first → IsLegalBehind first second → IsLegal (first ++ second)
+legal-append first second legal behind = grown IsLegal (λ l entry _ before h. legal-push l entry before h) first second legal legal behind
+
 -- ---- the ledger of raw entries
 
 ledger_behind-append : (before : Ledger) (first second : List Raw) →

@@ -1,7 +1,8 @@
 -- What the verdict on a submission tells, read from its table of cases.
 use Rattle.std.proofs.Common.{◌≡◌, ℕ, ◌+◌, ◌≤◌, zero, suc, ℤ, pos, negsuc, Bool, true, false, not, ◌&&◌, List, [], ◌∷◌, refl, sym, ◌∙◌, ap, ◌⊎◌, inl, inr, arith, int_lt, if◌then◌else◌}
 use Rattle.std.proofs.lemmas.Bool.{ltb-false}
-use Rattle.fluid_types.specs.declared.entries.Raw.TheVariants.{Submit}
+use Rattle.fluid_types.specs.declared.entries.Raw.{Raw}
+use Rattle.fluid_types.specs.declared.entries.Raw.TheVariants.{Join, Leave, Submit, Report}
 use Rattle.fluid_types.specs.declared.entries.Submission.{Submission}
 use Rattle.fluid_types.specs.declared.nacks.Nack.{Nack}
 use Rattle.fluid_types.specs.declared.nacks.NackRule.{NackRule}
@@ -11,7 +12,7 @@ use Rattle.fluid_types.specs.declared.verdicts.Verdict.{Verdict}
 use Rattle.fluid_types.specs.declared.verdicts.Verdict.TheVariants.{Sequenced, Nacked, Dropped}
 use Rattle.fluid_types.specs.Ledger.{Ledger, seq}
 use Rattle.fluid_rules.specs.Past.{is_below, count_of}
-use Rattle.fluid_rules.specs.Rules.{first_case, leaves_reference, minimum, unsettled, message, nack, is_duplicate, leaves_gap, is_nonexistent, is_below_minimum, is_ahead, lacks_scope, submission_verdict}
+use Rattle.fluid_rules.specs.Rules.{first_case, leaves_reference, minimum, unsettled, message, nack, is_duplicate, leaves_gap, is_nonexistent, is_below_minimum, is_ahead, lacks_scope, submission_verdict, is_joined, verdict}
 
 -- a sequenced submission: no case before the last fits
 abbrev Chain : Bool → Bool → Bool → Bool → Bool → Bool → Verdict → Verdict → Verdict → Verdict → Verdict → Verdict → Verdict
@@ -66,6 +67,30 @@ sequenced-was ledger c submission moment m h =
     (nack ledger submission Gap) (nack ledger submission Nonexistent) (nack ledger submission Below) (nack ledger submission Ahead) (nack ledger submission Scope)
     (message ledger (Submit c submission moment)) m h in
     record { is_message = found.0; not_below = found.1.four_not; not_ahead = found.1.five_not }
+
+joined_message : (b : Bool) (x m : Message) → (if b then Dropped else Sequenced x) ≡ Sequenced m → m ≡ x
+joined_message true x m is = cc
+joined_message false x m is = cc
+
+left_message : (b : Bool) (x m : Message) → (if b then Sequenced x else Dropped) ≡ Sequenced m → m ≡ x
+left_message true x m is = cc
+left_message false x m is = cc
+
+-- a verdict that is a message is the message of its entry
+pub verdict-is_message : (ledger : Ledger) (raw : Raw) (m : Message) → verdict ledger raw ≡ Sequenced m → m ≡ message ledger raw
+unfolding verdict
+verdict-is_message ledger (Join id scopes detail moment) m is = joined_message (is_joined ledger id) _ m is
+verdict-is_message ledger (Leave id moment) m is = left_message (is_joined ledger id) _ m is
+verdict-is_message ledger (Submit id submission moment) m is = (sequenced-was ledger id submission moment m (sym is)).is_message
+verdict-is_message ledger (Report summary found moment) m is = cc
+
+-- its number is the next
+pub message-number : (ledger : Ledger) (raw : Raw) → (message ledger raw).number ≡ seq ledger + 1
+unfolding message unsettled
+message-number ledger (Join id scopes detail moment) = refl
+message-number ledger (Leave id moment) = refl
+message-number ledger (Submit id submission moment) = refl
+message-number ledger (Report summary found moment) = refl
 
 pub record WasNacked (ledger : Ledger) (c : List ℕ) (n : Nack) : Type 0 where
   pub minimum_is : n.minimum ≡ pos (minimum ledger)

@@ -1,11 +1,12 @@
 -- The laws of the sequencing rules, each about every ledger.
-use Rattle.std.specs.Prelude.{◌≡◌, ◌≤◌, ℕ, List, [], ◌∷◌, ◌++◌}
+use Rattle.std.specs.Prelude.{◌≡◌, ◌+◌, ◌≤◌, ◌↔◌, ℕ, List, [], ◌∷◌, ◌++◌, Some, length}
 use Rattle.fluid_types.specs.declared.entries.Raw.{Raw}
+use Rattle.fluid_types.specs.declared.messages.Message.{Message}
 use Rattle.fluid_types.specs.declared.nacks.Nack.{Nack}
 use Rattle.fluid_types.specs.declared.verdicts.Verdict.TheVariants.{Sequenced, Nacked}
-use Rattle.fluid_types.specs.Ledger.{Ledger, raws, seq}
-use Rattle.fluid_rules.specs.Past.{IsLeast, has_id, AreInOrder}
-use Rattle.fluid_rules.specs.Rules.{is_joined, client, refusals, joined, minimum, message, verdict, IsLegal, ledger}
+use Rattle.fluid_types.specs.Ledger.{Ledger, messages_of, order, raws, seq}
+use Rattle.fluid_rules.specs.Past.{Entry, Client, IsLeast, client_behind, has_id, AreInOrder}
+use Rattle.fluid_rules.specs.Rules.{is_joined, client, refusals, joined, minimum, message, verdict, IsLegal, IsLegalBehind, ledger}
 
 -- the minimum is the least reference of a joined client, and the last sequence number where nobody is joined
 abbrev pub MinimumIsLeast : Type 0
@@ -56,3 +57,44 @@ LedgerIsOnlyLegal = (entries : List Raw) → IsOnlyLegal entries
 -- one raw entry more gets its verdict over the ledger of those before it
 abbrev pub LedgerGrows : Type 0
 LedgerGrows = (entries : List Raw) (raw : Raw) → ledger (entries ++ raw ∷ []) ≡ ledger entries ++ (raw, verdict (ledger entries) raw) ∷ []
+
+-- ---- one entry more at the end of a ledger
+
+-- in the lists that are read out of it
+pub record Grows (l : Ledger) (entry : Entry) : Type 0 where
+  pub raws_grow : raws (l ++ entry ∷ []) ≡ raws l ++ entry.0 ∷ []
+  pub order_grows : order (l ++ entry ∷ []) ≡ order l ++ messages_of entry.1
+  pub seq_grows : seq (l ++ entry ∷ []) ≡ seq l + length (messages_of entry.1)
+
+abbrev pub ListsGrow : Type 0
+ListsGrow = (l : Ledger) (entry : Entry) → Grows l entry
+
+-- in what it says of a client: `client_behind` is what follows from what it said before and the minimum
+abbrev pub ClientGrows : Type 0
+ClientGrows = (l : Ledger) (entry : Entry) (c : List ℕ) → client (l ++ entry ∷ []) c ≡ client_behind entry (minimum l) c (client l c)
+
+-- it is legal exactly where it was and the entry has the verdict over it
+abbrev pub LegalGrows : Type 0
+LegalGrows = (l : Ledger) (entry : Entry) → IsLegal (l ++ entry ∷ []) ↔ (IsLegal l × (entry.1 ≡ verdict l entry.0))
+
+-- ---- parts and bounds
+
+-- a ledger of two parts is legal exactly where the first is legal and the second is legal behind it
+abbrev pub LegalInParts : Type 0
+LegalInParts = (first second : Ledger) → IsLegal (first ++ second) ↔ (IsLegal first × IsLegalBehind first second)
+
+-- a verdict that is a message is the message of its entry
+abbrev pub VerdictIsMessage : Type 0
+VerdictIsMessage = (l : Ledger) (raw : Raw) (m : Message) → verdict l raw ≡ Sequenced m → m ≡ message l raw
+
+-- a message has the next number
+abbrev pub MessageIsNext : Type 0
+MessageIsNext = (l : Ledger) (raw : Raw) → (message l raw).number ≡ seq l + 1
+
+-- no more messages than entries
+abbrev pub SeqIsBounded : Type 0
+SeqIsBounded = (l : Ledger) → seq l ≤ length l
+
+-- in a legal ledger no client refers beyond the last sequence number
+abbrev pub ReferencesAreBounded : Type 0
+ReferencesAreBounded = (l : Ledger) → IsLegal l → (c : List ℕ) (said : Client) → client l c ≡ Some said → said.reference ≤ seq l

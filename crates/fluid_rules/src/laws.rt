@@ -1,5 +1,5 @@
 // The laws of the rules. Each is the contract of a function that does nothing.
-ghost use Rattle.fluid_rules.specs.Laws.{MinimumIsLeast, MinimumIsBounded, MinimumNeverFalls, NackLeavesOrder, RefusedOnce, MessageHasMinimum, JoinedInOrder, LedgerIsOnlyLegal, LedgerGrows};
+ghost use Rattle.fluid_rules.specs.Laws.{MinimumIsLeast, MinimumIsBounded, MinimumNeverFalls, NackLeavesOrder, RefusedOnce, MessageHasMinimum, JoinedInOrder, LedgerIsOnlyLegal, LedgerGrows, ListsGrow, ClientGrows, LegalGrows, LegalInParts, VerdictIsMessage, MessageIsNext, SeqIsBounded, ReferencesAreBounded};
 ghost use Rattle.fluid_rules.specs.ScribeLaws.{UnansweredGrows, AcksGrow, UnansweredByNone, AnswersSayWhatIsMeant};
 
 use fluid_tree::laws::ids_are_read_back;
@@ -47,6 +47,46 @@ pub fn ledger_is_only_legal()
 /// One raw entry more gets its verdict over the ledger of those before it.
 pub fn ledger_grows()
     ensures { LedgerGrows }
+{}
+
+/// One entry more adds itself to the raw entries and its message to the order.
+pub fn lists_grow()
+    ensures { ListsGrow }
+{}
+
+/// One entry more changes what is said of a client only by itself and the minimum.
+pub fn client_grows()
+    ensures { ClientGrows }
+{}
+
+/// One entry more leaves a ledger legal exactly where it has the verdict over it.
+pub fn legal_grows()
+    ensures { LegalGrows }
+{}
+
+/// A ledger of two parts is legal exactly where the first is legal and the second is legal behind it.
+pub fn legal_in_parts()
+    ensures { LegalInParts }
+{}
+
+/// A verdict that is a message is the message of its entry.
+pub fn verdict_is_message()
+    ensures { VerdictIsMessage }
+{}
+
+/// A message has the next number.
+pub fn message_is_next()
+    ensures { MessageIsNext }
+{}
+
+/// A ledger has no more messages than entries.
+pub fn seq_is_bounded()
+    ensures { SeqIsBounded }
+{}
+
+/// In a legal ledger no client refers beyond the last sequence number.
+pub fn references_are_bounded()
+    ensures { ReferencesAreBounded }
 {}
 
 /// One message more takes away the summarize that it answers, and adds itself where it is one.
