@@ -85,6 +85,15 @@ pub record IsReaderAfter (old new : Reader) (answer : Result Line LineFault) : T
   pub count : new.count ≡ count_after old.count answer
   pub failed : new.failed ≡ (old.failed || is_err answer)
 
+-- the count of faults of the source stays as it was with each answer but the fault of reading
+abbrev pub StaysQuiet : {A : Type 0} → (before now : ℕ) → Result A LineFault → Type 0
+StaysQuiet before now (Ok value) = now ≡ before
+StaysQuiet before now (Err ReadFault) = ⊤
+StaysQuiet before now (Err (TooLong number)) = now ≡ before
+StaysQuiet before now (Err (NotUtf8 number)) = now ≡ before
+StaysQuiet before now (Err NoMemory) = now ≡ before
+StaysQuiet before now (Err (TooMany number)) = now ≡ before
+
 -- bytes were passed over from the front of those before a reader; none was lost or given twice
 pub record Advances (old new : Option (List ℕ)) : Type 0 where
   pub passed : List ℕ

@@ -1,8 +1,8 @@
 //! Bytes that were read ahead, and how a line is taken from them.
 ghost use Rattle.std.specs.Prelude.{◌≡◌, ℕ, ◌+◌, ◌-◌, ◌*◌, ◌^◌, ◌<◌, ◌≤◌, ◌==◌, List, [], length, IfOk, OnOk, OnErr};
-ghost use Rattle.fluid_io.specs.Causes.{HasCause, Tells};
+ghost use Rattle.fluid_io.specs.Causes.{HasExactCause, Tells};
 ghost use Rattle.fluid_io.specs.Chunk.{behind_held, SearchesLine, TakesPiece};
-ghost use Rattle.fluid_io.specs.Lines.{IsPlain};
+ghost use Rattle.fluid_io.specs.Lines.{IsPlain, StaysQuiet};
 
 use crate::{Failed, LineFault, Source};
 use memchr::memchr;
@@ -50,7 +50,7 @@ impl Chunk {
 
     /// Reads ahead where nothing is held. Then nothing is held only where the source has ended or failed.
     pub(crate) fn fill<S: Source>(&mut self, source: &mut S) -> Result<(), Failed>
-        ensures cause { HasCause (S.seen source.old).faults (S.seen source.new).faults result }
+        ensures cause { HasExactCause (S.seen source.old).faults (S.seen source.new).faults result }
         ensures same { behind_held self.new (S.seen source.new) ≡ behind_held self.old (S.seen source.old) }
         ensures ended { OnOk result (self.new ≡ [] → Tells (behind_held self.new (S.seen source.new)) (λ bytes. bytes ≡ [])) }
         ensures used { OnErr result (behind_held self.new (S.seen source.new) ≡ (S.seen source.new).left) }
@@ -95,6 +95,7 @@ impl Chunk {
     ) -> Result<Ending, LineFault>
         requires { line.old.items ≡ [] }
         ensures later { (S.seen source.old).faults ≤ (S.seen source.new).faults }
+        ensures quiet { StaysQuiet (S.seen source.old).faults (S.seen source.new).faults result }
         ensures plain { IsPlain line.new.items }
         ensures does { SearchesLine limit (S.seen source.old) (S.seen source.new) (behind_held self.old (S.seen source.old))
             (behind_held self.new (S.seen source.new)) line.new.items result }

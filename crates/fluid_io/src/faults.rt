@@ -4,8 +4,7 @@
 #[derive(Clone, Copy, Debug, PartialEq, Eq)]
 pub struct Failed;
 
-/// Two counts of faults of one object, read round a call that failed: `after` is the greater one, or both
-/// stand at `u64::MAX`, where a count stands still.
+/// Two counts of faults of one object, read before and after a call that failed. At `u64::MAX` a count stands still.
 #[derive(Clone, Copy, Debug, PartialEq, Eq)]
 pub struct FaultNote {
     pub before: u64,

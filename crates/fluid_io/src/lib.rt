@@ -1,8 +1,8 @@
 //! The outside as the service sees it: where bytes come from (`source`), where they go (`sink`) and what time it
 //! is (`clock`), each in memory for tests and over std for programs, and the lines of a source (`lines`).
 //! A contract sees the bytes of an object that tells them, and of each object a count of its faults, which never
-//! falls: a call fails only where this count rose in it (`faults`). `plan` says which calls fail in memory,
-//! `line` what a reader of lines answers, and `chunk` has the bytes that it read ahead.
+//! falls: it rises in a call that fails, and stays as it was in one that doesn't (`faults`). `plan` says which calls
+//! fail in memory, `line` what a reader of lines answers, and `chunk` has the bytes that it read ahead.
 #![tactic(auto)]
 
 mod chunk;

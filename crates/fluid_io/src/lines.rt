@@ -3,7 +3,7 @@ ghost use Rattle.std.specs.Prelude.{◌≡◌, ℕ, ◌+◌, ◌-◌, ◌*◌, �
 ghost use Rattle.std.specs.Str.{is_utf8};
 ghost use Rattle.std.specs.Str.Lines.{strip_carriage_return};
 ghost use Rattle.fluid_io.specs.Chunk.{ended_answer};
-ghost use Rattle.fluid_io.specs.Lines.{ahead, line_answer, Advances, GivesLine, IsNext, IsReaderAfter, StaysEnded};
+ghost use Rattle.fluid_io.specs.Lines.{ahead, line_answer, Advances, GivesLine, IsNext, IsReaderAfter, StaysEnded, StaysQuiet};
 
 use crate::chunk::{Chunk, Ending};
 use crate::{Line, LineFault, Source};
@@ -61,6 +61,7 @@ impl Lines {
     /// The next line of `source`, or the end. Behind a fault it answers the end without a read.
     pub fn next<S: Source>(&mut self, alloc: Global, source: &mut S) -> Result<Line, LineFault>
         ensures later { (S.seen source.old).faults ≤ (S.seen source.new).faults }
+        ensures quiet { StaysQuiet (S.seen source.old).faults (S.seen source.new).faults result }
         ensures reader { IsReaderAfter self.old self.new result }
         ensures advances { Advances (ahead self.old (S.seen source.old)) (ahead self.new (S.seen source.new)) }
         ensures answer { IsNext self.old (S.seen source.old) (S.seen source.new) result }
@@ -83,6 +84,7 @@ impl Lines {
     fn read_next<S: Source>(&mut self, alloc: Global, source: &mut S) -> Result<Line, LineFault>
         requires { self.old.failed ≡ false }
         ensures later { (S.seen source.old).faults ≤ (S.seen source.new).faults }
+        ensures quiet { StaysQuiet (S.seen source.old).faults (S.seen source.new).faults result }
         ensures limit { self.new.limit ≡ self.old.limit }
         ensures count { self.new.count ≡ self.old.count }
         ensures failed { self.new.failed ≡ false }

@@ -1,6 +1,6 @@
 //! Where bytes go.
 ghost use Rattle.std.specs.Prelude.{◌≡◌, ℕ, ◌+◌, ◌-◌, ◌*◌, ◌^◌, ◌<◌, ◌≤◌, List, [], length};
-ghost use Rattle.fluid_io.specs.Causes.{HasCause, Rose};
+ghost use Rattle.fluid_io.specs.Causes.{HasExactCause, Rose};
 ghost use Rattle.fluid_io.specs.Streams.{Writing, WriteDoes, WriteAllDoes};
 ghost use Rattle.fluid_io.specs.Memory.{MemoryWrites, MemoryFlushes};
 
@@ -17,18 +17,18 @@ pub trait Sink {
     /// Takes bytes from the front of `bytes`, and says how many. It takes some of a piece that has any: a sink
     /// that can take no more fails. After a fault nothing was taken.
     fn write(&mut self, bytes: &[u8]) -> Result<usize, Failed>
-        ensures cause { HasCause (seen self.old).faults (seen self.new).faults result }
+        ensures cause { HasExactCause (seen self.old).faults (seen self.new).faults result }
         ensures does { WriteDoes (seen self.old) (seen self.new) bytes.now result };
 
     /// Hands on what the sink holds back.
     fn flush(&mut self) -> Result<(), Failed>
-        ensures cause { HasCause (seen self.old).faults (seen self.new).faults result }
+        ensures cause { HasExactCause (seen self.old).faults (seen self.new).faults result }
         ensures same { (seen self.new).written ≡ (seen self.old).written };
 }
 
 /// Writes all of `bytes`. After a fault a part from their front was written, maybe none or all of them.
 pub fn write_all<K: Sink>(sink: &mut K, bytes: &[u8]) -> Result<(), Failed>
-    ensures cause { HasCause (K.seen sink.old).faults (K.seen sink.new).faults result }
+    ensures cause { HasExactCause (K.seen sink.old).faults (K.seen sink.new).faults result }
     ensures does { WriteAllDoes (K.seen sink.old) (K.seen sink.new) bytes.now result }
 {
     let mut rest = bytes;
@@ -101,7 +101,7 @@ impl Sink for MemorySink {
 
     /// Fails where the plan says so, and where memory is missing, which counts as a fault.
     fn write(&mut self, bytes: &[u8]) -> Result<usize, Failed>
-        ensures cause { HasCause self.old.plan.faults self.new.plan.faults result }
+        ensures cause { HasExactCause self.old.plan.faults self.new.plan.faults result }
         ensures does { WriteDoes (record { written = Some self.old.written; faults = self.old.plan.faults })
             (record { written = Some self.new.written; faults = self.new.plan.faults }) bytes.now result }
         ensures exact { MemoryWrites self.old self.new (length bytes.now) result }
@@ -121,7 +121,7 @@ impl Sink for MemorySink {
 
     /// Fails exactly where the plan says so.
     fn flush(&mut self) -> Result<(), Failed>
-        ensures cause { HasCause self.old.plan.faults self.new.plan.faults result }
+        ensures cause { HasExactCause self.old.plan.faults self.new.plan.faults result }
         ensures same { Some self.new.written ≡ Some self.old.written }
         ensures exact { MemoryFlushes self.old self.new result }
     {

@@ -1,11 +1,11 @@
 //! Where bytes come from.
 ghost use Rattle.std.specs.Prelude.{◌≡◌, ℕ, ◌+◌, ◌-◌, ◌*◌, ◌^◌, ◌<◌, ◌≤◌, List, length};
-ghost use Rattle.fluid_io.specs.Causes.{HasCause};
+ghost use Rattle.fluid_io.specs.Causes.{HasExactCause};
 ghost use Rattle.fluid_io.specs.Streams.{Reading, ReadDoes};
 ghost use Rattle.fluid_io.specs.Memory.{MemoryReads};
 
 use crate::{Failed, FaultPlan};
-use std::io::{ErrorKind, Read};
+use std::io::Read;
 use std::marker::Model;
 
 /// A stream of bytes that comes in. Whether a source tells its bytes never changes.
@@ -16,7 +16,7 @@ pub trait Source {
     /// Puts at most `into.len()` bytes to the front of `into`, and says how many. With none into a buffer that
     /// has room the source has ended. Behind the bytes the buffer holds anything. After a fault nothing was read.
     fn read(&mut self, into: &mut [u8]) -> Result<usize, Failed>
-        ensures cause { HasCause (seen self.old).faults (seen self.new).faults result }
+        ensures cause { HasExactCause (seen self.old).faults (seen self.new).faults result }
         ensures does { ReadDoes (seen self.old) (seen self.new) into.new result };
 }
 
@@ -78,7 +78,7 @@ impl Source for MemorySource {
     /// Fails exactly where the plan says so. Else it gives as much as the buffer has room for, a piece has and
     /// is left.
     fn read(&mut self, into: &mut [u8]) -> Result<usize, Failed>
-        ensures cause { HasCause self.old.plan.faults self.new.plan.faults result }
+        ensures cause { HasExactCause self.old.plan.faults self.new.plan.faults result }
         ensures does { ReadDoes (record { left = Some self.old.left; faults = self.old.plan.faults })
             (record { left = Some self.new.left; faults = self.new.plan.faults }) into.new result }
         ensures exact { MemoryReads self.old self.new (length into.new) result }
