@@ -15,7 +15,7 @@ pub either_way : (a b : Bool) → cond a true b ≡ a || b
 either_way true b = refl
 either_way false b = refl
 
-goes_on : (before : List (List ℕ)) (n : List ℕ) (ns : List (List ℕ)) → is_refused before n ≡ false → first_refused before (n ∷ ns) ≡ first_refused (n ∷ before) ns
+pub goes_on : (before : List (List ℕ)) (n : List ℕ) (ns : List (List ℕ)) → is_refused before n ≡ false → first_refused before (n ∷ ns) ≡ first_refused (n ∷ before) ns
 unfolding first_refused
 goes_on before n ns h = rw h refl
 
@@ -23,7 +23,7 @@ stops_here : (before : List (List ℕ)) (n : List ℕ) (ns : List (List ℕ)) �
 unfolding first_refused
 stops_here before n ns h = rw h refl
 
-none_left : (before : List (List ℕ)) → first_refused before [] ≡ None
+pub none_left : (before : List (List ℕ)) → first_refused before [] ≡ None
 unfolding first_refused
 none_left before = refl
 

@@ -7,4 +7,5 @@ mod Formed
 mod Parted
 mod Sound
 mod Complete
+mod Named
 mod Digits

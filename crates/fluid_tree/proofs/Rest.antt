@@ -64,7 +64,7 @@ unfit_entry total seen before rest body e r some is unfit =
     r.left ∙ next.1.1 ∙ ap (entry_or (entries_of total next.0) (total - length rest) before rest) is
     ∙ unfit_or (fits_behind before e) (entries_of total next.0 (before ++ e ∷ []) (drop (length (entry_bytes e)) rest)) (Err (BadObject (total - length rest))) unfit
 
-any_last : (p : List ℕ → Bool) (xs : List (List ℕ)) (y : List ℕ) → list_any p (xs ++ y ∷ []) ≡ p y || list_any p xs
+pub any_last : (p : List ℕ → Bool) (xs : List (List ℕ)) (y : List ℕ) → list_any p (xs ++ y ∷ []) ≡ p y || list_any p xs
 any_last p [] y = refl
 any_last p (x ∷ xs) y = ap (λ b. p x || b) (any_last p xs y) ∙ turned (p x) (p y) (list_any p xs)
   where

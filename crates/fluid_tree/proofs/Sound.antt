@@ -229,7 +229,7 @@ fits_by : (c : Bool) (x y : Result (List ObjectEntry) TreeFault) (es : List Obje
 fits_by true x y es never h = (refl, h)
 fits_by false x y es never h = absurd (never h)
 
-entry_by : (f : List ObjectEntry → List ℕ → Result (List ObjectEntry) TreeFault) (place : ℕ) (before : List ObjectEntry) (s : List ℕ) (o : Option ObjectEntry) (es : List ObjectEntry)
+pub entry_by : (f : List ObjectEntry → List ℕ → Result (List ObjectEntry) TreeFault) (place : ℕ) (before : List ObjectEntry) (s : List ℕ) (o : Option ObjectEntry) (es : List ObjectEntry)
     → entry_or f place before s o ≡ Ok es → (e : ObjectEntry) × ((o ≡ Some e) × ((fits_behind before e ≡ true) × (f (before ++ e ∷ []) (drop (length (entry_bytes e)) s) ≡ Ok es)))
 entry_by f place before s None es h = cc
 entry_by f place before s (Some e) es h =

@@ -1,8 +1,9 @@
 -- What reading and writing objects have to do with each other.
-use Rattle.std.specs.Prelude.{◌≡◌, ℕ, ◌^◌, ◌<◌, List, [], ◌∷◌, ◌++◌, length, flat_map, true, Some, Ok}
+use Rattle.std.specs.Prelude.{◌≡◌, ℕ, ◌^◌, ◌<◌, List, [], ◌∷◌, ◌++◌, length, map, flat_map, true, Some, None, Ok}
 use Rattle.std.specs.Str.{IsUtf8}
 use Rattle.hex.specs.Hex.{IsBytes, encode_lower}
 use Rattle.fluid_tree.specs.Ids.{id_read}
+use Rattle.fluid_tree.specs.Names.{first_refused}
 use Rattle.fluid_tree.specs.Object.{entry_bytes, object_bytes}
 use Rattle.fluid_tree.specs.Reading.{fits_behind, object_read}
 use Rattle.fluid_tree.specs.declared.object.Object.{Object}
@@ -26,6 +27,10 @@ IsReadBack = (o : Object) → IsWhole o → object_read (object_bytes o) ≡ Ok 
 -- bytes from which an object is read are the bytes of that object
 abbrev pub IsOfBytes : Type 0
 IsOfBytes = (s : List ℕ) (o : Object) → object_read s ≡ Ok o → object_bytes o ≡ s
+
+-- the entries that are read have names, and no name twice
+abbrev pub AreNamed : Type 0
+AreNamed = (s : List ℕ) (entries : List ObjectEntry) → object_read s ≡ Ok (Tree entries) → first_refused [] (map (λ e. e.name) entries) ≡ None
 
 -- the text of 20 bytes is read as these bytes
 abbrev pub IsIdReadBack : Type 0

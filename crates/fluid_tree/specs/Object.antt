@@ -44,6 +44,10 @@ unfoldable pub object_bytes : Object → List ℕ
 object_bytes (Blob content) = with_header (codes "blob") content
 object_bytes (Tree entries) = tree_bytes entries
 
+abbrev pub is_tree_object : Object → Bool
+is_tree_object (Blob content) = false
+is_tree_object (Tree entries) = true
+
 abbrev pub object_id : Object → List ℕ
 object_id o = sha1 (object_bytes o)
 

@@ -14,7 +14,7 @@ use fluid_json::{Bytes, Text};
 use std::alloc::Global;
 
 /// How many trees may stand inside one another.
-pub(crate) const MOST_TREES: usize = 32;
+pub const MOST_TREES: usize = 32;
 
 /// The id of a summary tree.
 pub fn id_of(alloc: Global, node: &Node) -> Result<Id, TreeFault>

@@ -1,10 +1,15 @@
 //! What holds of the definitions, said by functions that do nothing.
 
-ghost use Rattle.fluid_tree.specs.Laws.{IsIdReadBack, IsOfBytes, IsReadBack};
+ghost use Rattle.fluid_tree.specs.Laws.{AreNamed, IsIdReadBack, IsOfBytes, IsReadBack};
 
 /// Bytes from which an object is read are the bytes of that object: nothing else is accepted.
 pub fn only_objects_are_read()
     ensures { IsOfBytes }
+{}
+
+/// None of the names of the entries that are read is refused.
+pub fn names_that_are_read_are_names()
+    ensures { AreNamed }
 {}
 
 /// The bytes of an object are read as that object.

@@ -19,7 +19,7 @@ mod writing;
 
 pub use fault::TreeFault;
 pub use id::{Id, SummaryRef};
-pub use identity::id_of;
+pub use identity::{MOST_TREES, id_of};
 pub use json_form::from_json;
 pub use node::{Entries, Node, Path};
 pub use object::{Object, ObjectEntries, ObjectEntry};

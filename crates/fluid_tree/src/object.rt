@@ -1,4 +1,5 @@
 ghost use Rattle.std.specs.Prelude.{◌≡◌, List, [], ◌∷◌, ◌++◌, IfOk};
+ghost use Rattle.fluid_tree.specs.Object.{is_tree_object};
 
 use crate::id::Id;
 use fluid_json::{Bytes, NoMemory, Text};
@@ -10,6 +11,14 @@ use std::marker::Model;
 pub enum Object {
     Blob(Bytes),
     Tree(ObjectEntries),
+}
+
+impl Object {
+    pub fn is_tree(&self) -> bool
+        ensures { result ≡ is_tree_object self.now }
+    {
+        matches!(self, Object::Tree(_))
+    }
 }
 
 /// One entry of a tree's object. `tree` says that its mode is `40000`; a blob's is `100644`.
