@@ -172,6 +172,10 @@ fn each_fault_has_its_text(rt: HostRuntime) -> Result<(), Fail> {
             "bad field found: not a truth value",
         ),
         (
+            CodecFault::BadField(Field::SequenceNumber, What::OutOfRange),
+            "bad field sequenceNumber: out of range",
+        ),
+        (
             CodecFault::BadField(Field::Type, What::NotAllowed),
             "bad field type: not allowed",
         ),

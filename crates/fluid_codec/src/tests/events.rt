@@ -184,8 +184,16 @@ fn a_submission_is_refused_for_its_first_fault(rt: HostRuntime) -> Result<(), Fa
                 "bad field referenceSequenceNumber: missing",
             ),
             (
+                r#"["submitOp","c0",[{"clientSequenceNumber":1,"referenceSequenceNumber":null}]]"#,
+                "bad field referenceSequenceNumber: not a whole number",
+            ),
+            (
                 r#"["submitOp","c0",[{"clientSequenceNumber":1,"referenceSequenceNumber":-2,"type":1}]]"#,
                 "bad field referenceSequenceNumber: out of range",
+            ),
+            (
+                r#"["submitOp","c0",[{"clientSequenceNumber":1,"referenceSequenceNumber":0,"type":1}]]"#,
+                "bad field type: not a text",
             ),
             (
                 r#"["submitOp","c0",[{"clientSequenceNumber":1,"referenceSequenceNumber":0,"type":"op"},{"clientSequenceNumber":2,"referenceSequenceNumber":0}]]"#,
@@ -321,12 +329,17 @@ fn a_connect_is_heard_with_its_members(rt: HostRuntime) -> Result<(), Fail> {
 }
 
 #[test]
-fn a_client_that_only_reads_is_heard(rt: HostRuntime) -> Result<(), Fail> {
-    let heard = read_event(
+fn a_mode_is_heard(rt: HostRuntime) -> Result<(), Fail> {
+    let reads = read_event(
         rt.alloc(),
         r#"["connect_document",{"id":"d","mode":"read","scopes":[]}]"#,
     )?;
-    assert!(rt; matches!(heard, Event::Connect { write: false, .. }));
+    assert!(rt; matches!(reads, Event::Connect { write: false, .. }));
+    let writes = read_event(
+        rt.alloc(),
+        r#"["connect_document",{"id":"d","mode":"write","scopes":[]}]"#,
+    )?;
+    assert!(rt; matches!(writes, Event::Connect { write: true, .. }));
     Ok(())
 }
 

@@ -120,6 +120,10 @@ fn a_message_has_a_minimum_and_a_reference(rt: HostRuntime) -> Result<(), Fail> 
                 r#"{"clientId":null,"clientSequenceNumber":0,"minimumSequenceNumber":0,"referenceSequenceNumber":-2}"#,
                 "bad field referenceSequenceNumber: out of range",
             ),
+            (
+                r#"{"clientId":null,"clientSequenceNumber":0,"minimumSequenceNumber":0,"referenceSequenceNumber":9007199254740992}"#,
+                "bad field referenceSequenceNumber: out of range",
+            ),
         ],
     )
 }
@@ -143,6 +147,10 @@ fn a_message_has_a_number_and_a_moment(rt: HostRuntime) -> Result<(), Fail> {
                 "bad field sequenceNumber: out of range",
             ),
             (
+                r#"{"clientId":null,"clientSequenceNumber":0,"minimumSequenceNumber":0,"referenceSequenceNumber":0,"sequenceNumber":9007199254740992}"#,
+                "bad field sequenceNumber: out of range",
+            ),
+            (
                 r#"{"clientId":null,"clientSequenceNumber":0,"minimumSequenceNumber":0,"referenceSequenceNumber":0,"sequenceNumber":1,"type":"x"}"#,
                 "bad field timestamp: missing",
             ),
@@ -152,6 +160,10 @@ fn a_message_has_a_number_and_a_moment(rt: HostRuntime) -> Result<(), Fail> {
             ),
             (
                 r#"{"clientId":null,"clientSequenceNumber":0,"minimumSequenceNumber":0,"referenceSequenceNumber":0,"sequenceNumber":1,"timestamp":-1}"#,
+                "bad field timestamp: out of range",
+            ),
+            (
+                r#"{"clientId":null,"clientSequenceNumber":0,"minimumSequenceNumber":0,"referenceSequenceNumber":0,"sequenceNumber":1,"timestamp":9007199254740992}"#,
                 "bad field timestamp: out of range",
             ),
         ],
