@@ -13,3 +13,6 @@ pub mod Refusals
 pub mod Settled
 pub mod Summaries
 pub mod SummariesComputed
+pub mod Pending
+pub mod Acknowledged
+pub mod Answered

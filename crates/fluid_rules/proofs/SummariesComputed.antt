@@ -14,7 +14,7 @@ use Rattle.fluid_types.specs.Blobs.{blob_text}
 use Rattle.fluid_types.proofs.Tables.{entries-latest}
 use Rattle.fluid_tree.specs.Ids.{id_read}
 use Rattle.fluid_rules.specs.Scribe.{proposed_by, answered_by, unanswered, ack_of, acks_behind, acks, answer_to, answer, rule_text}
-use Rattle.fluid_rules.specs.ScribeExamples.{VersionAtReference, OnThePending, AfterTheAck, StaleHeads, RefusalText, AckText, MalformedContents, OldReferences}
+use Rattle.fluid_rules.specs.ScribeExamples.{asking, empty_tree_text, VersionAtReference, OnThePending, AfterTheAck, StaleHeads, AskedAsText, SaidToReports, MalformedContents, OldReferences, LastAcks}
 
 joined : spelled (codes "{\"clientId\":\"B\",\"detail\":null}") ≡ Ok (object (pairs ((codes "clientId", text (codes "B")) ∷ (codes "detail", null) ∷ [])))
 unfolding escape_byte
@@ -41,15 +41,19 @@ after_the_ack = record { nothing_pending = refl; acknowledged = refl; its_number
 
 pub stale_heads : StaleHeads
 unfolding body name_of proposed_by answered_by unanswered ack_of acks_behind acks answer_to answer id_read decode_pairs encode_with rule_text
-stale_heads = record { refused = refl; whatever_is_found = refl; again = refl }
+stale_heads = record { nothing_to_build_on = refl; refused = refl; whatever_is_found = refl; old_as_well = refl; again = refl }
 
-pub refusal_text : RefusalText
-unfolding name_of rule_text escape_byte digits
-refusal_text = refl
+spelled_asking : spelled (codes "{\"handle\":\"4b825dc642cb6eb9a060e54bf8d69288fbee4904\",\"head\":\"\"}") ≡ Ok (asking empty_tree_text [])
+unfolding escape_byte
+spelled_asking = answers_itself 101 (asking empty_tree_text []) ((refl, tt), (tt, (tt, (tt, tt)))) (omega arith) (omega arith)
 
-pub ack_text : AckText
-unfolding name_of encode_with escape_byte digits
-ack_text = refl
+pub asked_as_text : AskedAsText
+unfolding body name_of proposed_by answered_by unanswered ack_of acks_behind acks answer_to answer id_read decode_pairs
+asked_as_text = rw spelled_asking refl
+
+pub said_to_reports : SaidToReports
+unfolding name_of rule_text encode_with escape_byte digits
+said_to_reports = record { dropped = refl; acknowledged = refl; malformed = refl; stale_head = refl; old_reference = refl; missing = refl }
 
 pub malformed_contents : MalformedContents
 unfolding body name_of proposed_by answered_by unanswered ack_of acks_behind acks answer_to answer id_read decode_pairs encode_with
@@ -58,3 +62,7 @@ malformed_contents = record { nothing = refl; not_found_either = refl; upper = r
 pub old_references : OldReferences
 unfolding body name_of proposed_by answered_by unanswered ack_of acks_behind acks answer_to answer id_read decode_pairs encode_with
 old_references = record { below = refl; below_and_missing = refl; equal = refl }
+
+pub last_acks : LastAcks
+unfolding body name_of proposed_by answered_by unanswered ack_of acks_behind acks answer_to answer id_read decode_pairs encode_with
+last_acks = record { first_head = refl; last_head = refl; between = refl; numbers = refl; last_number = refl; first_number = refl }

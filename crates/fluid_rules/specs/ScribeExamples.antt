@@ -1,5 +1,5 @@
 -- Worked examples of the scribe: small orders, and what is answered.
-use Rattle.std.specs.Prelude.{◌≡◌, ℕ, zero, suc, ◌+◌, ◌-◌, pos, negsuc, true, false, List, [], ◌∷◌, ◌++◌, Some, None, option_map, codes}
+use Rattle.std.specs.Prelude.{◌≡◌, ℕ, zero, suc, ◌+◌, ◌-◌, pos, negsuc, true, false, List, [], ◌∷◌, ◌++◌, Option, Some, None, option_map, map, codes}
 use Rattle.std.specs.FinMap.{keys}
 use Rattle.fluid_json.specs.Tree.{Tree, null, text, object, members}
 use Rattle.fluid_json.specs.Printed as json
@@ -10,8 +10,10 @@ use Rattle.fluid_types.specs.declared.quorum.QuorumBlob.TheVariants as blob
 use Rattle.fluid_types.specs.Quorum.{quorum}
 use Rattle.fluid_types.specs.Blobs.{blobs, blob_text}
 use Rattle.fluid_types.specs.QuorumExamples.{message, op, system_message}
-use Rattle.fluid_rules.specs.Scribe.{pending, acks, number_of, version, answer, ack_contents, refusal_contents}
+use Rattle.fluid_rules.specs.Scribe.{pending, acks, number_of, version, answer, ack_contents, refusal_contents, reported}
+use Rattle.fluid_rules.specs.declared.answers.SummaryRule.{SummaryRule}
 use Rattle.fluid_rules.specs.declared.answers.SummaryRule.TheVariants.{Malformed, StaleHead, OldReference, Missing}
+use Rattle.fluid_rules.specs.declared.answers.Answer.{Answer}
 use Rattle.fluid_rules.specs.declared.answers.Answer.TheVariants.{Dropped, Ack, Refused}
 
 -- the id of the empty tree, as bytes and as a text, and that of the empty blob
@@ -78,24 +80,49 @@ pub record AfterTheAck : Type 0 where
 abbrev pub asked_at_27 : ℕ → Tree → List Message
 asked_at_27 reference contents = twenty_six ++ summarize 27 reference contents ∷ []
 
--- then a summarize with an empty head is refused, and the same report again is dropped
+-- then a summarize with an empty head is refused, whatever its reference, and the same report again is dropped
 abbrev pub stale : List Message
 stale = asked_at_27 25 (asking empty_tree_text [])
 
+-- before the first acknowledgement any other head than the empty one is refused
 pub record StaleHeads : Type 0 where
+  pub nothing_to_build_on : answer (before_it ++ summarize 25 20 (asking empty_tree_text empty_blob_text) ∷ []) 25 true ≡ Refused StaleHead
   pub refused : answer stale 27 true ≡ Refused StaleHead
   pub whatever_is_found : answer stale 27 false ≡ Refused StaleHead
+  pub old_as_well : answer (asked_at_27 19 (asking empty_tree_text [])) 27 true ≡ Refused StaleHead
   pub again : answer (stale ++ reply SummaryNack 28 (refusal_contents 27 StaleHead) ∷ []) 27 true ≡ Dropped
 
-abbrev pub RefusalText : Type 0
-RefusalText =
-    json.printed (refusal_contents 27 StaleHead)
-    ≡ codes "{\"code\":400,\"message\":\"head is not the last acknowledged summary\",\"summaryProposal\":{\"summarySequenceNumber\":27}}"
+-- contents that are a text which spells such an object ask for the same
+abbrev pub asked_as_text : List Message
+asked_as_text = before_it ++ summarize 25 20 (text (codes "{\"handle\":\"4b825dc642cb6eb9a060e54bf8d69288fbee4904\",\"head\":\"\"}")) ∷ []
 
-abbrev pub AckText : Type 0
-AckText =
-    json.printed (ack_contents 25 empty_blob)
-    ≡ codes "{\"handle\":\"e69de29bb2d1d6434b8b29ae775ad8c2e48c5391\",\"summaryProposal\":{\"summarySequenceNumber\":25}}"
+abbrev pub AskedAsText : Type 0
+AskedAsText = answer asked_as_text 25 true ≡ Ack (version empty_tree (blobs asked_as_text 20))
+
+-- the message that a report gets, with its contents as a text
+abbrev pub said : ℕ → Answer → Option (Kind × List ℕ)
+said summary answer = option_map (λ message. (message.0, json.printed message.1)) (reported summary answer)
+
+abbrev pub refused : SummaryRule → Option (Kind × List ℕ)
+refused rule = said 27 (Refused rule)
+
+pub record SaidToReports : Type 0 where
+  pub dropped : said 25 Dropped ≡ None
+  pub acknowledged :
+      said 25 (Ack empty_blob)
+      ≡ Some (SummaryAck, codes "{\"handle\":\"e69de29bb2d1d6434b8b29ae775ad8c2e48c5391\",\"summaryProposal\":{\"summarySequenceNumber\":25}}")
+  pub malformed :
+      refused Malformed
+      ≡ Some (SummaryNack, codes "{\"code\":400,\"message\":\"summarize contents are malformed\",\"summaryProposal\":{\"summarySequenceNumber\":27}}")
+  pub stale_head :
+      refused StaleHead
+      ≡ Some (SummaryNack, codes "{\"code\":400,\"message\":\"head is not the last acknowledged summary\",\"summaryProposal\":{\"summarySequenceNumber\":27}}")
+  pub old_reference :
+      refused OldReference
+      ≡ Some (SummaryNack, codes "{\"code\":400,\"message\":\"reference is below the last acknowledged summary\",\"summaryProposal\":{\"summarySequenceNumber\":27}}")
+  pub missing :
+      refused Missing
+      ≡ Some (SummaryNack, codes "{\"code\":400,\"message\":\"summary tree is not stored\",\"summaryProposal\":{\"summarySequenceNumber\":27}}")
 
 -- contents null, an id in upper case, an id of 39 digits, and no head
 pub record MalformedContents : Type 0 where
@@ -112,3 +139,19 @@ pub record OldReferences : Type 0 where
   pub equal :
       answer (asked_at_27 20 (asking empty_tree_text empty_blob_text)) 27 true
       ≡ Ack (version empty_tree (blobs (asked_at_27 20 (asking empty_tree_text empty_blob_text)) 20))
+
+-- a summarize at 27 with the reference 22 is acknowledged at 28 with another handle, and one with the reference 23 is at 30 with that handle once more
+abbrev pub twenty_eight : List Message
+twenty_eight = asked_at_27 22 (asking empty_tree_text empty_blob_text) ++ reply SummaryAck 28 (ack_contents 27 empty_tree) ∷ []
+
+abbrev pub thirty : List Message
+thirty = twenty_eight ++ (summarize 29 23 (asking empty_tree_text empty_tree_text) ∷ reply SummaryAck 30 (ack_contents 29 empty_tree) ∷ [])
+
+-- then the head is the second handle and no longer the first, and a handle's number is that of its last acknowledgement
+pub record LastAcks : Type 0 where
+  pub first_head : answer (twenty_eight ++ summarize 29 23 (asking empty_tree_text empty_blob_text) ∷ []) 29 true ≡ Refused StaleHead
+  pub last_head : answer (twenty_eight ++ summarize 29 23 (asking empty_tree_text empty_tree_text) ∷ []) 29 false ≡ Refused Missing
+  pub between : answer (twenty_eight ++ summarize 29 21 (asking empty_tree_text empty_tree_text) ∷ []) 29 true ≡ Refused OldReference
+  pub numbers : map (λ ack. ack.number) (acks thirty) ≡ 20 ∷ 22 ∷ 23 ∷ []
+  pub last_number : number_of thirty empty_tree ≡ Some 23
+  pub first_number : number_of thirty empty_blob ≡ Some 20

@@ -1,6 +1,6 @@
 // Worked examples of the rules, each computed from the definitions.
 ghost use Rattle.fluid_rules.specs.Examples.{OneJoin, FirstMessage, TwoJoins, TwoWriters, BelowMinimum, AfterRefusal, WholeStory, WithoutScope};
-ghost use Rattle.fluid_rules.specs.ScribeExamples.{VersionAtReference, OnThePending, AfterTheAck, StaleHeads, RefusalText, AckText, MalformedContents, OldReferences};
+ghost use Rattle.fluid_rules.specs.ScribeExamples.{VersionAtReference, OnThePending, AfterTheAck, StaleHeads, AskedAsText, SaidToReports, MalformedContents, OldReferences, LastAcks};
 
 /// One join: number 1, minimum 0.
 pub fn one_join()
@@ -62,14 +62,14 @@ pub fn stale_heads()
     ensures { StaleHeads }
 {}
 
-/// The contents of a summaryNack.
-pub fn refusal_text()
-    ensures { RefusalText }
+/// A summarize whose contents are a text.
+pub fn asked_as_text()
+    ensures { AskedAsText }
 {}
 
-/// The contents of a summaryAck.
-pub fn ack_text()
-    ensures { AckText }
+/// The messages that reports get.
+pub fn said_to_reports()
+    ensures { SaidToReports }
 {}
 
 /// Contents that ask for no summary.
@@ -80,4 +80,9 @@ pub fn malformed_contents()
 /// A reference below the last acknowledged one, and one that isn't.
 pub fn old_references()
     ensures { OldReferences }
+{}
+
+/// Two handles, one of them acknowledged twice: the last acknowledgement decides.
+pub fn last_acks()
+    ensures { LastAcks }
 {}

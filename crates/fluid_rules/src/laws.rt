@@ -1,6 +1,6 @@
 // The laws of the rules. Each is the contract of a function that does nothing.
 ghost use Rattle.fluid_rules.specs.Laws.{MinimumIsLeast, MinimumIsBounded, MinimumNeverFalls, NackLeavesOrder, RefusedOnce, MessageHasMinimum, JoinedInOrder, LedgerIsOnlyLegal, LedgerGrows, ListsGrow, ClientGrows, LegalGrows, LegalInParts, VerdictIsMessage, MessageIsNext, SeqIsBounded, ReferencesAreBounded};
-ghost use Rattle.fluid_rules.specs.ScribeLaws.{UnansweredGrows, AcksGrow, UnansweredByNone, AnswersSayWhatIsMeant};
+ghost use Rattle.fluid_rules.specs.ScribeLaws.{UnansweredGrows, AcksGrow, UnansweredByNone, PendingIsLeast, AcksAreSummaryAcks, OrdersAreAnsweredInTurn, AnswersSayWhatIsMeant};
 
 use fluid_tree::laws::ids_are_read_back;
 
@@ -102,6 +102,21 @@ pub fn acks_grow()
 /// Where no answer stands before its summarize, those are unanswered that no message of the order answers.
 pub fn unanswered_by_none()
     ensures { UnansweredByNone }
+{}
+
+/// Where numbers rise as well, the pending summarize is the least numbered one that no message of the order answers.
+pub fn pending_is_least()
+    ensures { PendingIsLeast }
+{}
+
+/// Where each summaryAck acknowledges a summarize that waits, the acknowledgements are the summaryAcks of the order, and the last one is the last of these.
+pub fn acks_are_summary_acks()
+    ensures { AcksAreSummaryAcks }
+{}
+
+/// The order of a legal ledger is one in which all this holds.
+pub fn orders_are_answered_in_turn()
+    ensures { OrdersAreAnsweredInTurn }
 {}
 
 /// The contents of an answer name their summarize, and those of a summaryAck its handle.
