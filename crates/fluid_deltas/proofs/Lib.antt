@@ -1,0 +1,6 @@
+mod Numbering
+mod Telling
+mod Putting
+mod Texts
+mod Reading
+mod Slices

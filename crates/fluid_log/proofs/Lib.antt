@@ -1,0 +1,5 @@
+mod Covering
+mod Finding
+pub mod Lending
+mod Rows
+mod Values
