@@ -6,7 +6,7 @@ use Rattle.fluid_io.specs.Causes.{Tells}
 pub record Content : Type 0 where
   -- the records of the log, oldest first
   pub log : List (List ℕ)
-  -- the texts of the first messages, by their numbers from 1
+  -- what was put as the texts of the first messages, by their numbers from 1
   pub deltas : List (List ℕ)
   -- the texts of the checkpoints, by their numbers from 0
   pub checkpoints : List (List ℕ)

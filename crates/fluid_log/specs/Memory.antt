@@ -1,5 +1,5 @@
 -- The keeper in memory: what it keeps, and which of its calls fail.
-use Rattle.std.specs.Prelude.{◌≡◌, ℕ, ◌==◌, Bool, true, false, ⊤, List, length, Some, Result, Ok, Err, if◌then◌else◌}
+use Rattle.std.specs.Prelude.{◌≡◌, ℕ, ◌==◌, Bool, true, false, List, length, Some, Result, Ok, Err, if◌then◌else◌}
 use Rattle.std.specs.List.{list_any}
 use Rattle.fluid_io.specs.Causes.{one_more}
 use Rattle.fluid_io.specs.Plan.{Planned, next_fails, called_by_plan}
@@ -50,11 +50,17 @@ pub record IsPlanned (old new : MemoryKeeping) : Type 0 where
   pub plan : new.plan ≡ called_by_plan old.plan
   pub adding : new.adding ≡ old.adding
 
--- a call fails where the plan says so and answers where it doesn't, aside from want of memory
+-- a call fails exactly where the plan says so; one that is to fail doesn't come to want memory
 abbrev pub FollowsPlan : {A : Type 0} → Planned → Result A KeeperFault → Type 0
 FollowsPlan plan (Ok answer) = next_fails plan ≡ false
 FollowsPlan plan (Err Failed) = next_fails plan ≡ true
-FollowsPlan plan (Err NoMemory) = ⊤
+FollowsPlan plan (Err NoMemory) = next_fails plan ≡ false
+
+-- an append likewise, but that one which is to fail and to add its record all the same may find no memory for it
+abbrev pub AppendsByPlan : {A : Type 0} → MemoryKeeping → Result A KeeperFault → Type 0
+AppendsByPlan m (Ok answer) = next_fails m.plan ≡ false
+AppendsByPlan m (Err Failed) = next_fails m.plan ≡ true
+AppendsByPlan m (Err NoMemory) = next_fails m.plan ≡ true → next_adds m ≡ true
 
 -- what an append that failed leaves
 abbrev pub LeavesTorn : List ℕ → MemoryKeeping → MemoryKeeping → KeeperFault → Type 0

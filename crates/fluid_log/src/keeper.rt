@@ -12,8 +12,9 @@ use std::alloc::Global;
 /// The most bytes of one record, delta or checkpoint: 1 GiB.
 pub const LONGEST_KEPT: usize = 1 << 30;
 
-/// What keeps one document: a log that grows at its end and can be cut, the texts of its first messages (the
-/// deltas), and its checkpoints. Whether a keeper tells its content never changes, and its counts never fall.
+/// What keeps one document: a log that grows at its end and can be cut, the deltas, which are put one by one for the
+/// messages from number 1 on, and the checkpoints. All three are bytes of any kind. Whether a keeper tells its content
+/// never changes, and its counts never fall.
 pub trait Keeper {
     /// The content, where the keeper tells it, its three lengths and its counts.
     ghost seen: { Self → Keeping };

@@ -3,7 +3,7 @@ ghost use Rattle.std.specs.Prelude.{◌≡◌, ℕ, ◌+◌, ◌-◌, ◌<◌, �
 ghost use Rattle.fluid_io.specs.Causes.{HasCause};
 ghost use Rattle.fluid_io.specs.Plan.{next_fails};
 ghost use Rattle.fluid_log.specs.Calls.{IsCaused, KeepsSame, AppendDoes, CutDoes, PutDeltaDoes, StoreDoes, Gives, reads_after};
-ghost use Rattle.fluid_log.specs.Memory.{memory_seen, fresh_memory, IsPlanned, FollowsPlan, LeavesTorn};
+ghost use Rattle.fluid_log.specs.Memory.{memory_seen, fresh_memory, IsPlanned, FollowsPlan, AppendsByPlan, LeavesTorn};
 
 use crate::{Keeper, KeeperFault, LONGEST_KEPT};
 use fluid_io::{Failed, FaultPlan};
@@ -11,7 +11,7 @@ use fluid_json::Bytes;
 use std::alloc::Global;
 use std::marker::Model;
 
-/// A keeper in memory, which tells its content. Its calls fail by plan: those that can fail at all are counted, from 1 on.
+/// A keeper in memory, which tells its content. Its calls that can fail are counted, from 1 on, and fail by plan.
 #[derive(Drop)]
 pub struct MemoryKeeper {
     log: Vec<Bytes>,
@@ -36,8 +36,9 @@ impl Model for MemoryKeeper {
 }
 
 impl MemoryKeeper {
-    /// Nothing is kept yet. The calls whose numbers are in `failing` fail; of these, the appends whose numbers are in
-    /// `adding` too add their record all the same.
+    /// Nothing is kept yet. The calls whose numbers are in `failing` answer `Failed`, and no others do; of these, the
+    /// appends whose numbers are in `adding` too add their record all the same, or answer `NoMemory` where they find none
+    /// for it.
     pub fn new(alloc: Global, failing: Vec<u64>, adding: Vec<u64>) -> MemoryKeeper
         ensures { result ≡ fresh_memory failing.items adding.items }
     {
@@ -109,7 +110,7 @@ impl Keeper for MemoryKeeper {
         ensures reads { self.new.reads ≡ self.old.reads }
         ensures does { AppendDoes bytes.now (memory_seen self.old) (memory_seen self.new) result }
         ensures planned { IsPlanned self.old self.new }
-        ensures fails { FollowsPlan self.old.plan result }
+        ensures fails { AppendsByPlan self.old result }
         ensures torn { IfErr result (LeavesTorn bytes.now self.old self.new) }
     {
         let next = self.plan.calls().saturating_add(1);
@@ -124,7 +125,15 @@ impl Keeper for MemoryKeeper {
         Ok(())
     }
 
-    fn read(&mut self, alloc: Global, place: u64) -> Result<Bytes, KeeperFault> {
+    fn read(&mut self, alloc: Global, place: u64) -> Result<Bytes, KeeperFault>
+        requires { place < length self.old.content.log }
+        ensures cause { IsCaused self.old.plan.faults self.new.plan.faults result }
+        ensures reads { self.new.reads ≡ reads_after self.old.reads result }
+        ensures same { KeepsSame (memory_seen self.old) (memory_seen self.new) }
+        ensures gives { Gives (λ content. content.log) place (memory_seen self.old) result }
+        ensures planned { IsPlanned self.old self.new }
+        ensures fails { FollowsPlan self.old.plan result }
+    {
         if self.plan.fails() {
             return Err(KeeperFault::Failed);
         }
@@ -133,7 +142,14 @@ impl Keeper for MemoryKeeper {
         Ok(bytes)
     }
 
-    fn cut(&mut self, count: u64) -> Result<(), Failed> {
+    fn cut(&mut self, count: u64) -> Result<(), Failed>
+        requires { count ≤ length self.old.content.log }
+        ensures cause { HasCause self.old.plan.faults self.new.plan.faults result }
+        ensures reads { self.new.reads ≡ self.old.reads }
+        ensures does { CutDoes count (memory_seen self.old) (memory_seen self.new) result }
+        ensures planned { IsPlanned self.old self.new }
+        ensures fails { is_err result ≡ next_fails self.old.plan }
+    {
         if self.plan.fails() {
             return Err(Failed);
         }
@@ -141,7 +157,13 @@ impl Keeper for MemoryKeeper {
         Ok(())
     }
 
-    fn put_delta(&mut self, alloc: Global, _number: u64, bytes: &[u8]) -> Result<(), KeeperFault> {
+    fn put_delta(&mut self, alloc: Global, _number: u64, bytes: &[u8]) -> Result<(), KeeperFault>
+        ensures cause { IsCaused self.old.plan.faults self.new.plan.faults result }
+        ensures reads { self.new.reads ≡ self.old.reads }
+        ensures does { PutDeltaDoes bytes.now (memory_seen self.old) (memory_seen self.new) result }
+        ensures planned { IsPlanned self.old self.new }
+        ensures fails { FollowsPlan self.old.plan result }
+    {
         if self.plan.fails() {
             return Err(KeeperFault::Failed);
         }
@@ -149,7 +171,16 @@ impl Keeper for MemoryKeeper {
         Ok(())
     }
 
-    fn delta(&mut self, alloc: Global, number: u64) -> Result<Bytes, KeeperFault> {
+    fn delta(&mut self, alloc: Global, number: u64) -> Result<Bytes, KeeperFault>
+        requires first { 0 < number }
+        requires last { number ≤ length self.old.content.deltas }
+        ensures cause { IsCaused self.old.plan.faults self.new.plan.faults result }
+        ensures reads { self.new.reads ≡ self.old.reads }
+        ensures same { KeepsSame (memory_seen self.old) (memory_seen self.new) }
+        ensures gives { Gives (λ content. content.deltas) (number - 1) (memory_seen self.old) result }
+        ensures planned { IsPlanned self.old self.new }
+        ensures fails { FollowsPlan self.old.plan result }
+    {
         if self.plan.fails() {
             return Err(KeeperFault::Failed);
         }
@@ -157,7 +188,13 @@ impl Keeper for MemoryKeeper {
         Ok(bytes)
     }
 
-    fn store_checkpoint(&mut self, alloc: Global, bytes: &[u8]) -> Result<u64, KeeperFault> {
+    fn store_checkpoint(&mut self, alloc: Global, bytes: &[u8]) -> Result<u64, KeeperFault>
+        ensures cause { IsCaused self.old.plan.faults self.new.plan.faults result }
+        ensures reads { self.new.reads ≡ self.old.reads }
+        ensures does { StoreDoes bytes.now (memory_seen self.old) (memory_seen self.new) result }
+        ensures planned { IsPlanned self.old self.new }
+        ensures fails { FollowsPlan self.old.plan result }
+    {
         if self.plan.fails() {
             return Err(KeeperFault::Failed);
         }
@@ -166,7 +203,15 @@ impl Keeper for MemoryKeeper {
         Ok(number)
     }
 
-    fn checkpoint(&mut self, alloc: Global, number: u64) -> Result<Bytes, KeeperFault> {
+    fn checkpoint(&mut self, alloc: Global, number: u64) -> Result<Bytes, KeeperFault>
+        requires { number < length self.old.content.checkpoints }
+        ensures cause { IsCaused self.old.plan.faults self.new.plan.faults result }
+        ensures reads { self.new.reads ≡ self.old.reads }
+        ensures same { KeepsSame (memory_seen self.old) (memory_seen self.new) }
+        ensures gives { Gives (λ content. content.checkpoints) number (memory_seen self.old) result }
+        ensures planned { IsPlanned self.old self.new }
+        ensures fails { FollowsPlan self.old.plan result }
+    {
         if self.plan.fails() {
             return Err(KeeperFault::Failed);
         }

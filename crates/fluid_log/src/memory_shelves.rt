@@ -50,17 +50,19 @@ impl MemoryShelves {
         }
     }
 
-    /// Puts a keeper in for a document that has none yet. After `NoMemory` the keeper is gone.
+    /// Puts a keeper in for a document that has none yet. After `NoMemory` the shelves are as they were, and the keeper is
+    /// gone.
     pub fn add(&mut self, name: DocName, keeper: MemoryKeeper) -> Result<(), NoMemory>
         requires { get self.old.places name ≡ None }
         ensures added { OnOk result (self.new.places ≡ insert self.old.places name (In keeper)) }
-        ensures same { OnErr result (self.new.places ≡ self.old.places) }
+        ensures same { OnErr result (self.new ≡ self.old) }
         ensures plan { self.new.plan ≡ self.old.plan }
-        ensures faults { self.new.faults ≡ max self.old.faults keeper.plan.faults }
+        ensures faults { OnOk result (self.new.faults ≡ max self.old.faults keeper.plan.faults) }
         ensures whole { AreWhole (shelves_seen self.old) → AreWhole (shelves_seen self.new) }
     {
-        self.faults = self.faults.max(keeper.faults());
+        let faults = keeper.faults();
         self.places.add(name, Place::In(keeper))?;
+        self.faults = self.faults.max(faults);
         Ok(())
     }
 
@@ -86,7 +88,7 @@ impl Shelves for MemoryShelves {
         self.faults
     }
 
-    /// Fails exactly where the plan says so.
+    /// Answers `Failed` exactly where the plan says so.
     fn keeper(&mut self, alloc: Global, name: &DocName) -> Result<MemoryKeeper, KeeperFault>
         requires { IsIn (shelves_seen self.old) name.now }
         ensures cause { IsCaused self.old.faults self.new.faults result }
@@ -94,6 +96,8 @@ impl Shelves for MemoryShelves {
         ensures covered { IsCovered (shelves_seen self.new) }
         ensures asks { AsksPlan self.old self.new result }
         ensures kept { IfOk result (λ keeper. keeper ≡ keeper_at (get self.old.places name.now)) }
+        ensures out { IfOk result (λ keeper. self.new.places ≡ insert self.old.places name.now (Out keeper.plan.faults)) }
+        ensures same { OnErr result (self.new.places ≡ self.old.places) }
     {
         if self.plan.fails() {
             self.faults = self.faults.saturating_add(1);

@@ -15,8 +15,8 @@ pub trait Shelves {
     /// The keepers that are in, where the shelves tell them, those that are out, and the count of faults.
     ghost seen: { Self → Shelving };
 
-    /// How many faults were counted. They are at least those of each keeper that is in, and those with which each one that is
-    /// out was given.
+    /// How many faults were counted. They are at least those of each keeper that is in and told, and those with which each
+    /// one that is out was given.
     fn faults(&self) -> u64
         ensures count { result ≡ (seen self.now).faults }
         ensures covered { IsCovered (seen self.now) };
