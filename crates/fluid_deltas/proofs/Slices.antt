@@ -11,7 +11,7 @@ use Rattle.fluid_io.specs.Causes.{Tells}
 use Rattle.fluid_log.specs.Keeping.{Content, Keeping, HasLengths, IsSized}
 use Rattle.fluid_deltas.specs.declared.fault.DeltaFault.{DeltaFault}
 use Rattle.fluid_deltas.specs.declared.fault.DeltaFault.TheVariants.{DeltaFailed, NoMemory, BadDelta, Worn}
-use Rattle.fluid_deltas.specs.Pushed.{Pushed, pushed, AreNumbered, IsKeepable, AreInOrder, IsText, AreDeltasOf, StandFor, slice}
+use Rattle.fluid_deltas.specs.Pushed.{Pushed, pushed, AreNumbered, IsKeepable, AreInOrder, IsText, AreDeltasOf, AreEndOf, StandFor, slice}
 use Rattle.fluid_deltas.specs.Stored.{delta_message, in_front, then_others, delta_messages}
 use Rattle.fluid_deltas.specs.Ranges.{AreNumbersOf, IsAnswer, IsSlice, held_between, deltas_between, followed_by, range_of}
 use Rattle.fluid_deltas.specs.Flushes.{lacking, put_behind, Puts, PutsFront, AreAll}
@@ -57,12 +57,12 @@ behind_numbered xs before count f numbered le is =
 
 -- ---- the messages in memory
 
-length_of : (d : Pushed) (order : List Message) (content : Content) → StandFor d order content → length order ≡ pushed d
-length_of d order content stands = ap length stands.splits ∙ length-append stands.first d.held ∙ ap (λ n. n + length d.held) stands.before
+length_end : (d : Pushed) (order : List Message) → AreEndOf d order → length order ≡ pushed d
+length_end d order end = ap length end.splits ∙ length-append end.first d.held ∙ ap (λ n. n + length d.held) end.before
 
 held_of : (d : Pushed) (order : List Message) (content : Content) → StandFor d order content → d.held ≡ drop d.before order
 held_of d order content stands =
-    sym (ap (λ n. drop n order) (sym stands.before) ∙ ap (drop (length stands.first)) stands.splits ∙ drop-append_seam stands.first d.held)
+    sym (ap (λ n. drop n order) (sym stands.end.before) ∙ ap (drop (length stands.end.first)) stands.end.splits ∙ drop-append_seam stands.end.first d.held)
 
 held_between_of : (d : Pushed) (order : List Message) (content : Content) (start end : ℕ) → StandFor d order content
     → held_between d start end ≡ take (end - max start d.before) (drop (max start d.before) order)
@@ -109,10 +109,10 @@ range_first : (d : Pushed) (order : List Message) (content : Content) (s e from 
 range_first d order content s e from stands number le lt =
     let texts = kept_texts order content.deltas s (e - s) stands.deltas (omega (arith, stands.reached)) in
     let messages = take (e - s) (drop s order) in
-    let numbered : AreNumbered from messages = numbered_from messages (1 + s) from (omega arith) (numbered_take (drop s order) (1 + s) (e - s) (numbered_drop order 1 s stands.numbered)) in
+    let numbered : AreNumbered from messages = numbered_from messages (1 + s) from (omega arith) (numbered_take (drop s order) (1 + s) (e - s) (numbered_drop order 1 s stands.end.numbered)) in
     ap (delta_messages from) texts
     ∙ texts_decoded from messages numbered
-    (All-take IsKeepable (e - s) (drop s order) (All-drop IsKeepable s order stands.keepable))
+    (All-take IsKeepable (e - s) (drop s order) (All-drop IsKeepable s order stands.end.keepable))
     (subst (All IsText) texts (All-take IsText (e - s) (drop s content.deltas) (All-drop IsText s content.deltas stands.deltas.texts)))
 
 range_none : (content : Content) (order : List Message) (s e from : ℕ) → e ≤ s → delta_messages from (deltas_between content s e) ≡ Ok (take (e - s) (drop s order))
@@ -184,20 +184,50 @@ push_in_order before last held m in_order next keepable = record {
   counted = omega (arith, next, length-append held (m ∷ []));
 }
 
+-- so the messages in memory are the end of the order with one more
+pub push_end : (old new : Pushed) (order : List Message) (m : Message) → new.before ≡ old.before → new.held ≡ old.held ++ m ∷ [] → m.number ≡ pushed old + 1 → IsKeepable m
+    → AreEndOf old order → AreEndOf new (order ++ m ∷ [])
+push_end old new order m before held next keepable end = record {
+  first = end.first;
+  splits = ap (λ ms. ms ++ m ∷ []) end.splits ∙ append_assoc end.first old.held (m ∷ []) ∙ ap (λ ms. end.first ++ ms) (sym held);
+  before = end.before ∙ sym before;
+  numbered = numbered_more order m 1 end.numbered (omega (arith, next, length_end old order end));
+  keepable = All-append IsKeepable order (m ∷ []) end.keepable (one_keepable m keepable);
+}
+
 pub push_stands : (old new : Pushed) (order : List Message) (content : Content) (m : Message) → new.before ≡ old.before → new.held ≡ old.held ++ m ∷ [] → m.number ≡ pushed old + 1 → IsKeepable m
     → StandFor old order content → StandFor new (order ++ m ∷ []) content
 push_stands old new order content m before held next keepable stands = record {
-  first = stands.first;
-  splits = ap (λ ms. ms ++ m ∷ []) stands.splits ∙ append_assoc stands.first old.held (m ∷ []) ∙ ap (λ ms. stands.first ++ ms) (sym held);
-  before = stands.before ∙ sym before;
+  end = push_end old new order m before held next keepable stands.end;
   deltas = record {
     rest = stands.deltas.rest ++ message_printed m ∷ [];
     first = map-append message_printed order (m ∷ []) ∙ ap (λ texts. texts ++ message_printed m ∷ []) stands.deltas.first ∙ append_assoc content.deltas stands.deltas.rest (message_printed m ∷ []);
     texts = stands.deltas.texts;
   };
   reached = omega (arith, stands.reached, before);
-  numbered = numbered_more order m 1 stands.numbered (omega (arith, next, length_of old order content stands));
-  keepable = All-append IsKeepable order (m ∷ []) stands.keepable (one_keepable m keepable);
+}
+
+-- ---- no message in memory
+
+-- nothing in memory is the end of any order of so many messages
+pub none_end : (d : Pushed) (order : List Message) → d.held ≡ [] → length order ≡ d.before → AreNumbered 1 order → All IsKeepable order → AreEndOf d order
+none_end d order held count numbered keepable = record {
+  first = order;
+  splits = sym (append-nil order) ∙ ap (λ ms. order ++ ms) (sym held);
+  before = count;
+  numbered = numbered;
+  keepable = keepable;
+}
+
+-- and of none at all
+pub nothing_end : (d : Pushed) → d.held ≡ [] → d.before ≡ 0 → AreEndOf d []
+nothing_end d held before = none_end d [] held (sym before) tt (λ k x lt. absurd (omega arith))
+
+pub nothing_stands : (d : Pushed) (content : Content) → d.held ≡ [] → d.before ≡ 0 → content.deltas ≡ [] → StandFor d [] content
+nothing_stands d content held before none = record {
+  end = nothing_end d held before;
+  deltas = record { rest = []; first = ap (λ texts. texts ++ []) (sym none); texts = subst (All IsText) (sym none) (λ k x lt. absurd (omega arith)) };
+  reached = omega (arith, before);
 }
 
 -- ---- messages that were put
@@ -232,13 +262,9 @@ put_deltas order deltas count ms are is texts =
 front_stands : (d : Pushed) (order : List Message) (content : Content) (count : ℕ) (ms : List Message) → StandFor d order content → ms ≡ take count (lacking d (length content.deltas)) → All (λ m. IsText (message_printed m)) ms
     → StandFor d order (put_behind ms content)
 front_stands d order content count ms stands is texts = record {
-  first = stands.first;
-  splits = stands.splits;
-  before = stands.before;
+  end = stands.end;
   deltas = put_deltas order content.deltas count ms stands.deltas (is ∙ ap (take count) (lacking_of d order content stands)) texts;
   reached = omega (arith, stands.reached, length-append content.deltas (map message_printed ms));
-  numbered = stands.numbered;
-  keepable = stands.keepable;
 }
 
 all_put : (d : Pushed) (order : List Message) (content : Content) (ms : List Message) → StandFor d order content → ms ≡ lacking d (length content.deltas) → AreAll order (put_behind ms content)

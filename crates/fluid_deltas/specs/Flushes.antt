@@ -1,5 +1,5 @@
 -- What a flush puts.
-use Rattle.std.specs.Prelude.{◌≡◌, ℕ, ◌+◌, ◌-◌, ◌≤◌, List, [], ◌∷◌, ◌++◌, length, take, drop, map, All, Result, Ok, Err}
+use Rattle.std.specs.Prelude.{◌≡◌, ℕ, ◌+◌, ◌-◌, ◌<◌, List, [], ◌∷◌, ◌++◌, length, take, drop, map, All, Result, Ok, Err}
 use Rattle.std.specs.Option.{option_map}
 use Rattle.fluid_types.specs.declared.messages.Message.{Message}
 use Rattle.fluid_types.specs.Printed.{message_printed}
@@ -29,10 +29,10 @@ abbrev pub PutsOne : Message → Keeping → Keeping → Result (Unit {0}) Delta
 PutsOne message old new (Ok done) = Puts (message ∷ []) old new
 PutsOne message old new (Err fault) = KeepsSame old new
 
--- some of the messages from the front were put, maybe none or all
+-- some of the messages from the front were put, maybe none, and not all
 pub record PutsFront (messages : List Message) (old new : Keeping) : Type 0 where
   pub count : ℕ
-  pub within : count ≤ length messages
+  pub within : count < length messages
   pub puts : Puts (take count messages) old new
 
 -- all were put, or after a fault some from the front

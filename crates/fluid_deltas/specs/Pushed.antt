@@ -53,18 +53,22 @@ pub record AreDeltasOf (order : List Message) (deltas : List (List ℕ)) : Type 
   pub first : map message_printed order ≡ deltas ++ rest
   pub texts : All IsText deltas
 
--- the messages in memory and a keeper's deltas together are the order
-pub record StandFor (d : Pushed) (order : List Message) (content : Content) : Type 0 where
+-- the messages in memory are the end of the order, behind its first `before` ones
+pub record AreEndOf (d : Pushed) (order : List Message) : Type 0 where
   -- the messages before those in memory
   pub first : List Message
   pub splits : order ≡ first ++ d.held
   pub before : length first ≡ d.before
-  -- the deltas reach up to those in memory
-  pub deltas : AreDeltasOf order content.deltas
-  pub reached : d.before ≤ length content.deltas
   -- every message of the order can be kept, and they are numbered from 1
   pub numbered : AreNumbered 1 order
   pub keepable : All IsKeepable order
+
+-- the messages in memory and a keeper's deltas together are the order
+pub record StandFor (d : Pushed) (order : List Message) (content : Content) : Type 0 where
+  pub end : AreEndOf d order
+  pub deltas : AreDeltasOf order content.deltas
+  -- the deltas reach up to those in memory
+  pub reached : d.before ≤ length content.deltas
 
 -- as a triple of its parts
 abbrev pub pushed_code : Coded Pushed

@@ -40,12 +40,26 @@ pub record IsNoted (before now : ℕ) (note : FaultNote) : Type 0 where
   pub last : note.after ≡ now
   pub rose : Rose note.before note.after
 
--- why a fault came: the keeper's count rose where it says so, and a delta is bad only where its text was read so
+-- why a fault came: the keeper's count rose where it says so. Which deltas can be bad is said apart
 abbrev pub IsFaultOf : (before now : ℕ) → DeltaFault → Type 0
 IsFaultOf before now (DeltaFailed note) = IsNoted before now note
 IsFaultOf before now NoMemory = ⊤
 IsFaultOf before now (BadDelta number) = ⊤
 IsFaultOf before now Worn = ⊥
+
+-- a bad delta is the one of this number
+abbrev pub IsBadAt : ℕ → DeltaFault → Type 0
+IsBadAt number (DeltaFailed note) = ⊤
+IsBadAt number NoMemory = ⊤
+IsBadAt number (BadDelta bad) = bad ≡ number
+IsBadAt number Worn = ⊥
+
+-- a bad delta is one of the range, and not of a message in memory
+abbrev pub IsBadIn : (from to before : ℕ) → DeltaFault → Type 0
+IsBadIn from to before (DeltaFailed note) = ⊤
+IsBadIn from to before NoMemory = ⊤
+IsBadIn from to before (BadDelta bad) = (from ≤ bad) × ((bad < to) × (bad ≤ before))
+IsBadIn from to before Worn = ⊥
 
 -- a bad delta is the one that the definition names. Want of memory and a keeper that failed may come before it
 abbrev pub IsBadAs : Result (List Message) DeltaFault → DeltaFault → Type 0

@@ -1,11 +1,11 @@
 //! The messages of an order in memory.
-ghost use Rattle.std.specs.Prelude.{◌≡◌, ℕ, ◌+◌, ◌-◌, ◌^◌, ◌<◌, ◌≤◌, ◌↔◌, List, [], ◌∷◌, ◌++◌, take, drop, IsSome, IfSome, IfOk, IfErr, OnOk, All};
+ghost use Rattle.std.specs.Prelude.{◌≡◌, ℕ, ◌+◌, ◌-◌, ◌^◌, ◌<◌, ◌≤◌, ◌↔◌, List, [], ◌∷◌, ◌++◌, length, take, drop, IsSome, IfSome, IfOk, IfErr, OnOk, All};
 ghost use Rattle.fluid_io.specs.Causes.{Tells};
 ghost use Rattle.fluid_types.specs.declared.messages.Message.{Message};
 ghost use Rattle.fluid_log.specs.Keeping.{Content};
 ghost use Rattle.fluid_log.specs.Calls.{KeepsSame};
-ghost use Rattle.fluid_deltas.specs.Pushed.{pushed, AreNumbered, IsKeepable, StandFor, slice};
-ghost use Rattle.fluid_deltas.specs.Ranges.{IsFaultOf, IsNotBad, IsAnswer, IsHeldAnswer, IsSlice, AreHeld, AreNumbersOf, held_between, range_of};
+ghost use Rattle.fluid_deltas.specs.Pushed.{pushed, AreNumbered, IsKeepable, AreDeltasOf, AreEndOf, StandFor, slice};
+ghost use Rattle.fluid_deltas.specs.Ranges.{IsFaultOf, IsNotBad, IsBadIn, IsAnswer, IsHeldAnswer, IsSlice, AreHeld, AreNumbersOf, held_between, range_of};
 ghost use Rattle.fluid_deltas.specs.Flushes.{lacking, PutsAll, AreAll};
 
 use crate::DeltaFault;
@@ -17,8 +17,8 @@ use fluid_types::Message;
 use std::alloc::Global;
 use std::marker::Model;
 
-/// The messages of an order that were pushed. Those in memory stand behind the first `before` ones, whose texts are a
-/// keeper's first deltas.
+/// The messages of an order that were pushed: those in memory, and the first `before` ones, which are to be a keeper's
+/// first deltas.
 #[derive(Drop)]
 pub struct Deltas {
     before: u64,
@@ -45,6 +45,8 @@ impl Deltas {
     pub fn new(alloc: Global) -> Deltas
         ensures before { result.before ≡ 0 }
         ensures held { result.held ≡ [] }
+        ensures end { AreEndOf result [] }
+        ensures stands { (content : Content) → content.deltas ≡ [] → StandFor result [] content }
     {
         Deltas {
             before: 0,
@@ -86,6 +88,7 @@ impl Deltas {
         ensures before { self.new.before ≡ self.old.before }
         ensures held { self.new.held ≡ self.old.held ++ message ∷ [] }
         ensures spare { self.old.spare ≤ self.new.spare + 1 }
+        ensures end { (order : List Message) → AreEndOf self.old order → AreEndOf self.new (order ++ message ∷ []) }
         ensures stands { (order : List Message) (content : Content) → StandFor self.old order content →
             StandFor self.new (order ++ message ∷ []) content }
     {
@@ -94,10 +97,14 @@ impl Deltas {
     }
 
     /// Forgets what is in memory and begins behind the first `count` messages: a keeper's first deltas then count as
-    /// pushed.
+    /// pushed. Where the keeper has more of them, those behind are to be pushed next.
     pub fn resume(&mut self, count: u64)
         ensures before { self.new.before ≡ count }
         ensures held { self.new.held ≡ [] }
+        ensures spare { self.old.spare ≤ self.new.spare }
+        ensures end { (order : List Message) → length order ≡ count → AreNumbered 1 order → All IsKeepable order → AreEndOf self.new order }
+        ensures stands { (order : List Message) (content : Content) → length order ≡ count → AreNumbered 1 order → All IsKeepable order →
+            AreDeltasOf order content.deltas → count ≤ length content.deltas → StandFor self.new order content }
     {
         self.held.clear();
         self.before = count;
@@ -163,7 +170,8 @@ impl Deltas {
         Ok(())
     }
 
-    /// The messages `from` up to, but without, `to`. Those that aren't in memory are read from the keeper.
+    /// The messages `from` up to, but without, `to`. Those that aren't in memory are read from the keeper; it isn't asked
+    /// where all of them are, as `held` says.
     pub fn range<K: Keeper>(
         &mut self,
         alloc: Global,
@@ -180,10 +188,11 @@ impl Deltas {
         ensures cause { IfErr result (IsFaultOf (K.seen keeper.old).faults (K.seen keeper.new).faults) }
         ensures reads { (K.seen keeper.new).reads ≡ (K.seen keeper.old).reads }
         ensures keeps { KeepsSame (K.seen keeper.old) (K.seen keeper.new) }
+        ensures bad { IfErr result (IsBadIn from to self.old.before) }
         ensures numbers { IfOk result (λ messages. AreNumbersOf from to messages.items) }
         ensures answer { Tells (K.seen keeper.old).content (λ content. IsAnswer (λ v. v.items) result (range_of self.old content from to)) }
-        ensures memory { self.old.before < from → IsHeldAnswer (λ v. v.items) (held_between self.old (from - 1) (to - 1)) result }
-        ensures untouched { self.old.before < from → K.seen keeper.new ≡ K.seen keeper.old }
+        ensures memory { AreHeld self.old from to → IsHeldAnswer (λ v. v.items) (held_between self.old (from - 1) (to - 1)) result }
+        ensures untouched { AreHeld self.old from to → K.seen keeper.new ≡ K.seen keeper.old }
         ensures slice { (order : List Message) → Tells (K.seen keeper.old).content (λ content. StandFor self.old order content →
             IsSlice (λ v. v.items) (slice order from to) result) }
     {
@@ -206,10 +215,11 @@ impl Deltas {
         ensures cause { IfErr result (IsFaultOf (K.seen keeper.old).faults (K.seen keeper.new).faults) }
         ensures reads { (K.seen keeper.new).reads ≡ (K.seen keeper.old).reads }
         ensures keeps { KeepsSame (K.seen keeper.old) (K.seen keeper.new) }
+        ensures bad { IfErr result (IsBadIn from to self.now.before) }
         ensures numbers { IfOk result (λ messages. AreNumbersOf from to messages.items) }
         ensures answer { Tells (K.seen keeper.old).content (λ content. IsAnswer (λ v. v.items) result (range_of self.now content from to)) }
-        ensures memory { self.now.before < from → IsHeldAnswer (λ v. v.items) (held_between self.now (from - 1) (to - 1)) result }
-        ensures untouched { self.now.before < from → K.seen keeper.new ≡ K.seen keeper.old }
+        ensures memory { AreHeld self.now from to → IsHeldAnswer (λ v. v.items) (held_between self.now (from - 1) (to - 1)) result }
+        ensures untouched { AreHeld self.now from to → K.seen keeper.new ≡ K.seen keeper.old }
     {
         let (start, end) = (from - 1, to - 1);
         let mut messages = read_deltas(alloc, keeper, start, end.min(self.before))?;

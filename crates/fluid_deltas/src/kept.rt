@@ -5,7 +5,7 @@ ghost use Rattle.fluid_json.specs.Unless.{IsUnless};
 ghost use Rattle.fluid_log.specs.Calls.{KeepsSame};
 ghost use Rattle.fluid_types.specs.Messages.{message_spelled};
 ghost use Rattle.fluid_deltas.specs.Stored.{numbered_as, delta_message, delta_messages};
-ghost use Rattle.fluid_deltas.specs.Ranges.{IsFaultOf, IsAnswer, IsHeldAnswer, DecodesAs, AreNumbersOf, deltas_between};
+ghost use Rattle.fluid_deltas.specs.Ranges.{IsFaultOf, IsBadAt, IsBadIn, IsAnswer, IsHeldAnswer, DecodesAs, AreNumbersOf, deltas_between};
 
 use crate::DeltaFault;
 use crate::put::failed;
@@ -54,6 +54,7 @@ fn read_delta<K: Keeper>(alloc: Global, keeper: &mut K, number: u64) -> Result<M
     ensures cause { IfErr result (IsFaultOf (K.seen keeper.old).faults (K.seen keeper.new).faults) }
     ensures reads { (K.seen keeper.new).reads ≡ (K.seen keeper.old).reads }
     ensures same { KeepsSame (K.seen keeper.old) (K.seen keeper.new) }
+    ensures bad { IfErr result (IsBadAt number) }
     ensures number { IfOk result (λ message. message.number ≡ number) }
     ensures decoded { Tells (K.seen keeper.old).content (λ content. DecodesAs content number result) }
 {
@@ -77,6 +78,7 @@ pub(crate) fn read_deltas<K: Keeper>(
     ensures cause { IfErr result (IsFaultOf (K.seen keeper.old).faults (K.seen keeper.new).faults) }
     ensures reads { (K.seen keeper.new).reads ≡ (K.seen keeper.old).reads }
     ensures same { KeepsSame (K.seen keeper.old) (K.seen keeper.new) }
+    ensures bad { IfErr result (IsBadIn (start + 1) (end + 1) end) }
     ensures numbers { IfOk result (λ messages. AreNumbersOf (start + 1) (max start end + 1) messages.items) }
     ensures decoded { Tells (K.seen keeper.old).content (λ content. IsAnswer (λ v. v.items) result (delta_messages (start + 1) (deltas_between content start end))) }
     ensures none { end ≤ start → K.seen keeper.new ≡ K.seen keeper.old }

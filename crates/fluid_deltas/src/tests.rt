@@ -203,6 +203,8 @@ fn a_delta_that_is_no_message_of_its_number_is_bad(rt: HostRuntime) -> Result<()
             keeper.put_delta(alloc, 1, text)?;
         }
         let mut deltas = pushed(alloc, 1, 1)?;
+        let none = range(alloc, &mut deltas, 1, 1, &mut keeper)?;
+        assert_eq!(rt; none.as_str(), "");
         let failed = range(alloc, &mut deltas, 1, 3, &mut keeper)?;
         assert_eq!(rt;
             failed.as_str(),

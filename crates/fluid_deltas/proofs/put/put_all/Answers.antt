@@ -39,7 +39,7 @@ returns-in_err-put-clause-puts g c =
     rw e.1
     (record {
       count = c.loop-message.message-index;
-      within = c.loop-message.auto.message-index-end;
+      within = c.loop-message-test.true;
       puts = puts_on _ (g.K.Keeper.seen c.loop-message.keeper) _ _ c.loop-message.invariant.puts c.in_err-put.ensures.puts;
     })
 
