@@ -1,6 +1,7 @@
-mod Numbering
-mod Telling
+pub mod Numbering
 mod Putting
-mod Texts
 mod Reading
 mod Slices
+pub mod Standing
+pub mod Telling
+mod Texts

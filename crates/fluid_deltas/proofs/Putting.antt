@@ -6,9 +6,9 @@ use Rattle.std.proofs.lemmas.List.{take_more, take_all, map-append}
 use Rattle.std.proofs.lemmas.List.Elements.{All-append, All-from_get_or}
 use Rattle.fluid_types.specs.declared.messages.Message.{Message}
 use Rattle.fluid_types.specs.Printed.{message_printed}
-use Rattle.fluid_log.specs.Keeping.{Content, Keeping}
+use Rattle.fluid_log.specs.Keeping.{Content, Keeping, IsText}
 use Rattle.fluid_log.specs.Calls.{KeepsSame}
-use Rattle.fluid_deltas.specs.Pushed.{IsText}
+use Rattle.fluid_log.proofs.Sameness.{same_twice}
 use Rattle.fluid_deltas.specs.Flushes.{put_behind, with_deltas, Puts}
 
 abbrev with_texts : Content → List (List ℕ) → Content
@@ -45,12 +45,7 @@ puts_nothing k = record {
 -- the keeper was left as it was
 pub puts_on : (old mid new : Keeping) (xs : List Message) → Puts xs old mid → KeepsSame mid new → Puts xs old new
 puts_on old mid new xs first second = record {
-  kept = record {
-    content = second.content ∙ first.kept.content;
-    records = second.records ∙ first.kept.records;
-    deltas = second.deltas ∙ first.kept.deltas;
-    checkpoints = second.checkpoints ∙ first.kept.checkpoints;
-  };
+  kept = same_twice (with_deltas xs old) mid new first.kept second;
   texts = first.texts;
 }
 

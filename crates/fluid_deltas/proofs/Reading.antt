@@ -9,6 +9,7 @@ use Rattle.fluid_deltas.specs.declared.fault.DeltaFault.{DeltaFault}
 use Rattle.fluid_deltas.specs.declared.fault.DeltaFault.TheVariants.{DeltaFailed, NoMemory, BadDelta, Worn}
 use Rattle.fluid_deltas.specs.Stored.{in_front, then_others, delta_messages}
 use Rattle.fluid_deltas.specs.Ranges.{AreNumbersOf, IsDelta, DecodesAs, IsBadAs, deltas_between}
+use Rattle.fluid_log.proofs.Sameness.{same_itself, same_twice}
 use Rattle.fluid_deltas.proofs.Numbering.{numbered_more}
 use Rattle.fluid_deltas.proofs.Telling.{tells_each, tells_both, tells_along}
 
@@ -78,19 +79,11 @@ pub has_read_nothing : (k : Keeping) (start end : ℕ) → HasRead k k start end
 has_read_nothing k start end = record {
   later = omega arith;
   reads = refl;
-  same = record { content = refl; records = refl; deltas = refl; checkpoints = refl };
+  same = same_itself k;
   numbers = record { numbered = tt; count = omega arith };
   decoded = tells_each k.content (ReadsOn start end start []) (λ c. sym (in_front_nothing _));
   untouched = λ is. refl;
   within = omega arith;
-}
-
-pub same_twice : (old mid new : Keeping) → KeepsSame old mid → KeepsSame mid new → KeepsSame old new
-same_twice old mid new first second = record {
-  content = second.content ∙ first.content;
-  records = second.records ∙ first.records;
-  deltas = second.deltas ∙ first.deltas;
-  checkpoints = second.checkpoints ∙ first.checkpoints;
 }
 
 numbers_more : (start place : ℕ) (done : List Message) (m : Message) → AreNumbersOf (start + 1) (place + 1) done → m.number ≡ place + 1 → AreNumbersOf (start + 1) (place + 1 + 1) (done ++ m ∷ [])

@@ -8,10 +8,10 @@ use Rattle.std.proofs.Math.Seq.{drop-append_seam, take-add}
 use Rattle.fluid_types.specs.declared.messages.Message.{Message}
 use Rattle.fluid_types.specs.Printed.{message_printed}
 use Rattle.fluid_io.specs.Causes.{Tells}
-use Rattle.fluid_log.specs.Keeping.{Content, Keeping, HasLengths, IsSized}
+use Rattle.fluid_log.specs.Keeping.{Content, Keeping, HasLengths, IsSized, IsText}
 use Rattle.fluid_deltas.specs.declared.fault.DeltaFault.{DeltaFault}
 use Rattle.fluid_deltas.specs.declared.fault.DeltaFault.TheVariants.{DeltaFailed, NoMemory, BadDelta, Worn}
-use Rattle.fluid_deltas.specs.Pushed.{Pushed, pushed, AreNumbered, IsKeepable, AreInOrder, IsText, AreDeltasOf, AreEndOf, StandFor, slice}
+use Rattle.fluid_deltas.specs.Pushed.{Pushed, pushed, AreNumbered, IsKeepable, AreInOrder, AreDeltasOf, AreEndOf, StandFor, slice}
 use Rattle.fluid_deltas.specs.Stored.{delta_message, in_front, then_others, delta_messages}
 use Rattle.fluid_deltas.specs.Ranges.{AreNumbersOf, IsAnswer, IsSlice, held_between, deltas_between, followed_by, range_of}
 use Rattle.fluid_deltas.specs.Flushes.{lacking, put_behind, Puts, PutsFront, AreAll}

@@ -3,10 +3,10 @@ use Rattle.std.specs.Prelude.{◌≡◌, ℕ, ◌+◌, ◌-◌, ◌<◌, List, [
 use Rattle.std.specs.Option.{option_map}
 use Rattle.fluid_types.specs.declared.messages.Message.{Message}
 use Rattle.fluid_types.specs.Printed.{message_printed}
-use Rattle.fluid_log.specs.Keeping.{Content, Keeping}
+use Rattle.fluid_log.specs.Keeping.{Content, Keeping, IsText}
 use Rattle.fluid_log.specs.Calls.{KeepsSame}
 use Rattle.fluid_deltas.specs.declared.fault.DeltaFault.{DeltaFault}
-use Rattle.fluid_deltas.specs.Pushed.{Pushed, IsText}
+use Rattle.fluid_deltas.specs.Pushed.{Pushed}
 
 -- the messages in memory that a keeper with so many deltas lacks
 abbrev pub lacking : Pushed → ℕ → List Message

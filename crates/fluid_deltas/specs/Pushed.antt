@@ -1,13 +1,12 @@
 -- The messages of an order, as they are pushed one by one.
-use Rattle.std.specs.Prelude.{◌≡◌, ℕ, ◌+◌, ◌-◌, ◌≤◌, ⊤, List, [], ◌∷◌, ◌++◌, length, take, drop, map, All, Ok, true, refl}
-use Rattle.std.specs.Str.{is_utf8}
+use Rattle.std.specs.Prelude.{◌≡◌, ℕ, ◌+◌, ◌-◌, ◌≤◌, ⊤, List, [], ◌∷◌, ◌++◌, length, take, drop, map, All, Ok, refl}
 use Rattle.std.specs.Coded.{Coded, code_by, coded×, coded_ℕ, coded_list}
 use Rattle.fluid_types.specs.declared.messages.Message.{Message}
 use Rattle.fluid_types.specs.contracts.messages.Message as message
 use Rattle.fluid_types.specs.Printed.{message_printed}
 use Rattle.fluid_types.specs.Messages.{message_spelled}
 use Rattle.fluid_log.specs.declared.keeper.TheConstants.{LONGEST_KEPT}
-use Rattle.fluid_log.specs.Keeping.{Content}
+use Rattle.fluid_log.specs.Keeping.{Content, IsText}
 
 pub record Pushed : Type 0 where
   -- how many messages stand before those in memory; their texts are the first deltas of a keeper
@@ -42,10 +41,6 @@ abbrev pub slice : List Message → (from to : ℕ) → List Message
 slice order from to = take (to - from) (drop (from - 1) order)
 
 -- ---- the whole order
-
--- bytes that are a text
-abbrev pub IsText : List ℕ → Type 0
-IsText bytes = is_utf8 bytes ≡ true
 
 -- the deltas are the texts of the first messages of the order
 pub record AreDeltasOf (order : List Message) (deltas : List (List ℕ)) : Type 0 where

@@ -2,4 +2,5 @@ mod Covering
 mod Finding
 pub mod Lending
 mod Rows
+pub mod Sameness
 mod Values

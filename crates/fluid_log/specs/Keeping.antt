@@ -1,5 +1,6 @@
 -- What a keeper keeps of one document, and what is known of every keeper.
-use Rattle.std.specs.Prelude.{◌≡◌, ℕ, List, [], length, Option}
+use Rattle.std.specs.Prelude.{◌≡◌, ℕ, List, [], length, Option, true}
+use Rattle.std.specs.Str.{is_utf8}
 use Rattle.fluid_io.specs.Causes.{Tells}
 
 -- the kept texts of one document
@@ -35,3 +36,7 @@ pub record HasLengths (keeping : Keeping) (content : Content) : Type 0 where
 -- a keeper that tells its content has the lengths of it
 abbrev pub IsSized : Keeping → Type 0
 IsSized keeping = Tells keeping.content (HasLengths keeping)
+
+-- bytes that are a text. A keeper keeps bytes of any kind, so of what it keeps this has to be said apart
+abbrev pub IsText : List ℕ → Type 0
+IsText bytes = is_utf8 bytes ≡ true

@@ -1,7 +1,7 @@
 use Rattle.std.proofs.Common.{◌≡◌, rules, subst}
 use Rattle.std.proofs.lemmas.Str.{is_utf8-from_IsUtf8}
 use Rattle.fluid_types.specs.Printed.{message_printed}
-use Rattle.fluid_deltas.specs.Pushed.{IsText}
+use Rattle.fluid_log.specs.Keeping.{IsText}
 use Rattle.fluid_deltas.proofs.Putting.{one_text}
 use Rattle.fluid_deltas.proofs.put.put.Goals as goal
 
