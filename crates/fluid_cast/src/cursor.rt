@@ -11,8 +11,9 @@ pub struct Cursor {
 }
 
 impl Cursor {
-    /// The numbers that come next in an order of `len` messages, at most `most`. For a cursor beyond the last number the
-    /// range is empty and begins at its place. Takes no memory.
+    /// The numbers from `next` on that an order of `len` messages has, at most `most`. For a cursor beyond the last number
+    /// the range is empty and begins at its place; for one at 0 it begins with 0, which is no message's number. Takes no
+    /// memory.
     pub fn batch(&self, len: u64, most: u64) -> Range<u64>
         requires { len < u64.MAX }
         ensures start { result.start ≡ self.now.next }
@@ -23,7 +24,7 @@ impl Cursor {
         self.next..self.next + left.min(most)
     }
 
-    /// Goes on to this number.
+    /// Goes to this number, forward or back. Takes no memory.
     pub fn advance(&mut self, to: u64)
         ensures { self.new.next ≡ to }
     {
@@ -39,7 +40,8 @@ mod tests {
     fn a_batch_is_the_next_stretch(rt: HostRuntime) {
         const LAST: u64 = u64::MAX - 1;
         // the next number, the messages of the order, the most of a batch, and the range
-        let rows: [(u64, u64, u64, u64, u64); 11] = [
+        let rows: [(u64, u64, u64, u64, u64); 12] = [
+            (0, 3, 9, 0, 4),
             (1, 0, 64, 1, 1),
             (1, 3, 64, 1, 4),
             (1, 100, 64, 1, 65),

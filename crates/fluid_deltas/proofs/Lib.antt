@@ -1,0 +1,7 @@
+pub mod Numbering
+mod Putting
+mod Reading
+mod Slices
+pub mod Standing
+pub mod Telling
+mod Texts

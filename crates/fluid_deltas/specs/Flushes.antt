@@ -1,0 +1,45 @@
+-- What a flush puts.
+use Rattle.std.specs.Prelude.{◌≡◌, ℕ, ◌+◌, ◌-◌, ◌<◌, List, [], ◌∷◌, ◌++◌, length, take, drop, map, All, Result, Ok, Err}
+use Rattle.std.specs.Option.{option_map}
+use Rattle.fluid_types.specs.declared.messages.Message.{Message}
+use Rattle.fluid_types.specs.Printed.{message_printed}
+use Rattle.fluid_log.specs.Keeping.{Content, Keeping, IsText}
+use Rattle.fluid_log.specs.Calls.{KeepsSame}
+use Rattle.fluid_deltas.specs.declared.fault.DeltaFault.{DeltaFault}
+use Rattle.fluid_deltas.specs.Pushed.{Pushed}
+
+-- the messages in memory that a keeper with so many deltas lacks
+abbrev pub lacking : Pushed → ℕ → List Message
+lacking d deltas = drop (deltas - d.before) d.held
+
+-- the texts of these messages behind the deltas
+abbrev pub put_behind : List Message → Content → Content
+put_behind messages c = record c { deltas = c.deltas ++ map message_printed messages }
+
+abbrev pub with_deltas : List Message → Keeping → Keeping
+with_deltas messages k = record k { content = option_map (put_behind messages) k.content; deltas = k.deltas + length messages }
+
+-- the messages were put, each as the text that is printed for it
+pub record Puts (messages : List Message) (old new : Keeping) : Type 0 where
+  pub kept : KeepsSame (with_deltas messages old) new
+  pub texts : All (λ m. IsText (message_printed m)) messages
+
+-- the message was put, or after a fault nothing
+abbrev pub PutsOne : Message → Keeping → Keeping → Result (Unit {0}) DeltaFault → Type 0
+PutsOne message old new (Ok done) = Puts (message ∷ []) old new
+PutsOne message old new (Err fault) = KeepsSame old new
+
+-- some of the messages from the front were put, maybe none, and not all
+pub record PutsFront (messages : List Message) (old new : Keeping) : Type 0 where
+  pub count : ℕ
+  pub within : count < length messages
+  pub puts : Puts (take count messages) old new
+
+-- all were put, or after a fault some from the front
+abbrev pub PutsAll : List Message → Keeping → Keeping → Result (Unit {0}) DeltaFault → Type 0
+PutsAll messages old new (Ok done) = Puts messages old new
+PutsAll messages old new (Err fault) = PutsFront messages old new
+
+-- the keeper's deltas are the texts of the whole order
+abbrev pub AreAll : List Message → Content → Type 0
+AreAll order content = content.deltas ≡ map message_printed order

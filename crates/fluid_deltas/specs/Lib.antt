@@ -1,0 +1,4 @@
+pub mod Pushed
+pub mod Stored
+pub mod Ranges
+pub mod Flushes

@@ -1,0 +1,87 @@
+-- What is found in entries that are in order, and what an edit at a place makes of them.
+use Rattle.std.proofs.Common.{◌≡◌, ℕ, zero, suc, ◌<◌, ◌≤◌, Bool, true, false, ◌&&◌, T, List, [], ◌∷◌, length, get_or, set, Some, None, refl, sym, ap, subst, ◌∙◌, arith}
+use Rattle.std.specs.List.{insert}
+use Rattle.std.specs.Ordering.{is_lt, ordering_reverse}
+use Rattle.std.specs.Cmp.{IsTotalOrder, tied_itself}
+use Rattle.std.specs.declared.cmp.Ordering.{Ordering}
+use Rattle.std.specs.declared.cmp.Ordering.TheVariants.{Less, Equal, Greater}
+use Rattle.std.specs.FinMap.Entries.{put, find, below_all, is_sorted}
+
+pub both : (a b : Bool) → T a → T b → T (a && b)
+both true b p q = q
+both false b p q = p
+
+pub first : (a b : Bool) → T (a && b) → T a
+first true b p = tt
+first false b p = p
+
+pub second : (a b : Bool) → T (a && b) → T b
+second true b p = p
+second false b p = absurd p
+
+less : (o : Ordering) → T (is_lt o) → o ≡ Less
+less Less p = refl
+less Equal p = absurd p
+less Greater p = absurd p
+
+-- the comparison the other way round
+pub turned : {K : Type 0} {R : K → K → Ordering} → IsTotalOrder R → (x k : K) (r : Ordering) → R x k ≡ r → R k x ≡ ordering_reverse r
+turned o x k r p = o.antisymm k x ∙ ap ordering_reverse p
+
+-- a name ties with itself
+tied : {K : Type 0} {R : K → K → Ordering} → IsTotalOrder R → (k y : K) → y ≡ k → R k y ≡ Equal
+tied {R = R} o k y is = subst (λ z. R k z ≡ Equal) (sym is) (tied_itself o k)
+
+module _ {K X : Type 0} {R : K → K → Ordering} (o : IsTotalOrder R) where
+  -- a name below all entries is below the one at a place
+  below_at : (x k : K) (es : List (K × X)) (at : ℕ) (d : K × X) → T (below_all R x es) → at < length es → (get_or es at d).0 ≡ k → R x k ≡ Less
+  below_at x k [] at d h lt is = absurd (omega arith)
+  below_at x k (e ∷ es) zero d h lt is = subst (λ y. R x y ≡ Less) is (less (R x e.0) (first _ _ h))
+  below_at x k (e ∷ es) (suc at) d h lt is = below_at x k es at d (second _ _ h) (omega arith) is
+
+  -- names rise from place to place
+  pub rises : (es : List (K × X)) (i j : ℕ) (d : K × X) → T (is_sorted R es) → i < j → j < length es → R (get_or es i d).0 (get_or es j d).0 ≡ Less
+  rises [] i j d h below lt = absurd (omega arith)
+  rises (e ∷ es) i zero d h below lt = absurd (omega arith)
+  rises (e ∷ es) zero (suc j) d h below lt = below_at e.0 _ es j d (first _ _ h) (omega arith) refl
+  rises (e ∷ es) (suc i) (suc j) d h below lt = rises es i j d (second _ _ h) (omega arith) (omega arith)
+
+  -- a name below all entries isn't found
+  pub find_above : (k : K) (es : List (K × X)) → T (below_all R k es) → find R k es ≡ None
+  find_above k [] h = refl
+  find_above k (e ∷ es) h = rw (less (R k e.0) (first _ _ h)) (find_above k es (second _ _ h))
+
+  module _ (k : K) where
+    -- the first entry is below a name that stands behind it
+    behind : (e : K × X) (es : List (K × X)) (at : ℕ) (d : K × X) → T (is_sorted R (e ∷ es)) → suc at < length (e ∷ es) → (get_or es at d).0 ≡ k → R k e.0 ≡ Greater
+    behind e es at d h lt is = turned o e.0 k Less (below_at e.0 k es at d (first _ _ h) (omega arith) is)
+
+    pub find_at : (es : List (K × X)) (at : ℕ) (d : K × X) → T (is_sorted R es) → at < length es → (get_or es at d).0 ≡ k → find R k es ≡ Some (get_or es at d).1
+    find_at [] at d h lt is = absurd (omega arith)
+    find_at (e ∷ es) zero d h lt is = rw (tied o k e.0 is)
+    find_at (e ∷ es) (suc at) d h lt is = rw (behind e es at d h lt is) (find_at es at d (second _ _ h) (omega arith) is)
+
+    pub put_at : (v : X) (es : List (K × X)) (at : ℕ) (d : K × X) → T (is_sorted R es) → at < length es → (get_or es at d).0 ≡ k → put R k v es ≡ set es at (k, v)
+    put_at v [] at d h lt is = absurd (omega arith)
+    put_at v (e ∷ es) zero d h lt is = rw (tied o k e.0 is) (ap (λ y. (y, v) ∷ es) is)
+    put_at v (e ∷ es) (suc at) d h lt is = rw (behind e es at d h lt is) (ap (λ rest. e ∷ rest) (put_at v es at d (second _ _ h) (omega arith) is))
+
+    -- entries below the name up to a place, and above it from there on
+    abbrev pub Parts : List (K × X) → ℕ → Type 0
+    Parts es at = ((j : ℕ) (d : K × X) → j < at → R (get_or es j d).0 k ≡ Less) × ((j : ℕ) (d : K × X) → at ≤ j → j < length es → R (get_or es j d).0 k ≡ Greater)
+
+    parts_behind : (e : K × X) (es : List (K × X)) (at : ℕ) → Parts (e ∷ es) (suc at) → Parts es at
+    parts_behind e es at p = (λ j d lt. p.0 (suc j) d (omega arith), λ j d le lt. p.1 (suc j) d (omega arith) (omega arith))
+
+    parts_above : (e : K × X) (es : List (K × X)) → Parts (e ∷ es) 0 → Parts es 0
+    parts_above e es p = (λ j d lt. absurd (omega arith), λ j d le lt. p.1 (suc j) d (omega arith) (omega arith))
+
+    pub find_gap : (es : List (K × X)) (at : ℕ) → Parts es at → find R k es ≡ None
+    find_gap [] at p = refl
+    find_gap (e ∷ es) zero p = rw (turned o e.0 k Greater (p.1 0 e (omega arith) (omega arith))) (find_gap es 0 (parts_above e es p))
+    find_gap (e ∷ es) (suc at) p = rw (turned o e.0 k Less (p.0 0 e (omega arith))) (find_gap es at (parts_behind e es at p))
+
+    pub put_gap : (v : X) (es : List (K × X)) (at : ℕ) → at ≤ length es → Parts es at → put R k v es ≡ insert es at (k, v)
+    put_gap v [] at le p = grind arith
+    put_gap v (e ∷ es) zero le p = rw (turned o e.0 k Greater (p.1 0 e (omega arith) (omega arith)))
+    put_gap v (e ∷ es) (suc at) le p = rw (turned o e.0 k Less (p.0 0 e (omega arith))) (ap (λ rest. e ∷ rest) (put_gap v es at (omega arith) (parts_behind e es at p)))

@@ -1,0 +1,6 @@
+pub mod Calls
+pub mod Entries
+pub mod Keeping
+pub mod Memory
+pub mod Places
+pub mod Shelving
