@@ -1,0 +1,10 @@
+mod Maps
+mod Added
+mod Kept
+mod Lists
+mod Distinct
+mod Stood
+mod Stops
+mod Fetched
+mod Looked
+mod Stays

@@ -1,0 +1,26 @@
+use Rattle.std.proofs.Common.{arith, subst, ◌∷◌, []}
+use Rattle.fluid_store.specs.Keeping.{Adds, StopsBy}
+use Rattle.fluid_store.proofs.Stops.{one_stops, one_added}
+use Rattle.fluid_store.proofs.uploading.keep_all.Goals as goal
+
+pub returns-in-Err-clause-does : goal.returns-in-Err-clause-does
+returns-in-Err-clause-does g c =
+    let o = c.object-item.result in
+    let old = g.O.Objects.seen c.args.objects.now in
+    let mid = g.O.Objects.seen c.loop-object.objects in
+    let new = g.O.Objects.seen c.keep.new.objects in
+    one_stops c.args.list.now c.loop-object.object-index o (omega arith) c.object-item.is old mid new
+    c.loop-object.invariant.counts c.loop-object.invariant.adds c.in-Err.fault (subst (λ b. StopsBy (record { id = o.id; bytes = b } ∷ []) mid new c.in-Err.fault) c.as_slice.ensures c.in-Err.ensures.does.stores)
+
+pub loop-object-preserved : goal.loop-object-preserved
+loop-object-preserved g c =
+    let o = c.object-item.result in
+    let old = g.O.Objects.seen c.args.objects.now in
+    let mid = g.O.Objects.seen c.loop-object.objects in
+    let new = g.O.Objects.seen c.keep.new.objects in
+    record {
+      counts = record { faults = omega (arith, c.loop-object.invariant.counts.faults, c.keep.ensures.counts.faults); gets = omega (arith, c.loop-object.invariant.counts.gets, c.keep.ensures.counts.gets) };
+      adds =
+          one_added c.args.list.now c.loop-object.object-index o (omega arith) c.object-item.is old mid new c.loop-object.invariant.counts c.loop-object.invariant.adds
+          (subst (λ b. Adds (record { id = o.id; bytes = b } ∷ []) mid.content new.content) c.as_slice.ensures c.in-Ok.ensures.does.stores);
+    }

@@ -1,0 +1,9 @@
+pub mod Held
+pub mod Storing
+pub mod Memory
+pub mod Standing
+pub mod Listed
+pub mod Keeping
+pub mod Fetching
+pub mod Complete
+pub mod Laws

@@ -1,0 +1,27 @@
+//! What holds of the definitions, said by functions that do nothing.
+
+ghost use Rattle.fluid_store.specs.Laws.{GoesOnStanding, NothingIsComplete, OneBlob, StaysComplete};
+
+use fluid_tree::laws::objects_are_read_back;
+
+/// What stands goes on standing where all that is held is kept.
+pub fn what_stands_goes_on_standing()
+    ensures { GoesOnStanding }
+{}
+
+/// What is complete stays complete where all that is held is kept.
+pub fn what_is_complete_stays_complete()
+    ensures { StaysComplete }
+{}
+
+/// In an empty store nothing is complete.
+pub fn nothing_is_complete_in_an_empty_store()
+    ensures { NothingIsComplete }
+{}
+
+/// A blob stands and is complete where its object alone is held.
+pub fn one_blob_is_complete()
+    ensures { OneBlob }
+{
+    objects_are_read_back();
+}

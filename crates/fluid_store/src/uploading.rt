@@ -1,0 +1,61 @@
+//! Puts a whole summary tree.
+ghost use Rattle.std.specs.Prelude.{◌≡◌};
+ghost use Rattle.fluid_store.specs.Keeping.{Counts, Stores, Uploads, refusal};
+
+use crate::keeping::keep;
+use crate::listing::{StoredObject, list_node};
+use crate::{Objects, StoreFault};
+use fluid_tree::{Id, Node, TreeFault, id_of};
+use std::alloc::Global;
+
+/// Puts the objects of a summary tree, and answers its id. Those of a tree's nodes are put, in the order of its
+/// entries, before the tree's own. It ends at the first fault; no object that was held is changed then. The tree is
+/// looked at whole before the first object is put. Handles aren't looked up in a base yet: the first one is `NoPath`.
+pub fn upload<O: Objects>(
+    alloc: Global,
+    objects: &mut O,
+    node: &Node,
+    _base: Option<&Id>,
+) -> Result<Id, StoreFault>
+    ensures counts { Counts (O.seen objects.old) (O.seen objects.new) }
+    ensures does { Uploads node.now (O.seen objects.old) (O.seen objects.new) result }
+{
+    let id = match id_of(alloc, node) {
+        Ok(id) => id,
+        Err(fault) => return Err(refusal(fault)),
+    };
+    let listed = list_node(alloc, node)?;
+    match keep_all(alloc, objects, listed.objects.as_slice()) {
+        Ok(()) => Ok(id),
+        Err(fault) => Err(fault),
+    }
+}
+
+// Puts these objects, one after the other.
+fn keep_all<O: Objects>(
+    alloc: Global,
+    objects: &mut O,
+    list: &[StoredObject],
+) -> Result<(), StoreFault>
+    ensures counts { Counts (O.seen objects.old) (O.seen objects.new) }
+    ensures does { Stores list.now (O.seen objects.old) (O.seen objects.new) result }
+{
+    for object in list {
+        match keep(alloc, objects, &object.id, object.bytes.as_slice()) {
+            Ok(()) => {}
+            Err(fault) => return Err(fault),
+        }
+    }
+    Ok(())
+}
+
+// The fault for the first fault of a summary tree.
+fn refusal(fault: TreeFault) -> StoreFault
+    ensures { result ≡ refusal fault }
+{
+    match fault {
+        TreeFault::HandleLeft(path) => StoreFault::NoPath(path),
+        TreeFault::NoMemory => StoreFault::NoMemory,
+        other => StoreFault::Tree(other),
+    }
+}
