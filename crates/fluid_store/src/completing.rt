@@ -78,6 +78,7 @@ fn entries_at<O: Objects>(
         }
         Err(StoreFault::Missing(_)) => Ok(None),
         Err(StoreFault::BadObject(_, _)) => Ok(None),
+        Err(StoreFault::Tree(_)) => Ok(None),
         Err(fault) => Err(fault),
     }
 }
