@@ -13,8 +13,8 @@ use crate::{Objects, StoreFault};
 use fluid_tree::{Entries, Id, MOST_TREES, Node, Object, ObjectEntry, TreeFault, read_object};
 use std::alloc::Global;
 
-/// The node that stands under the id, with all below it. Entries are read in their order, and the first fault ends it.
-/// An object that several entries name is read for each of them.
+/// The node that stands under the id, with all below it. Entries are looked at in their order, each with all below it
+/// before the next, and the first fault is the answer. An object that several entries name is read for each of them.
 pub fn fetch<O: Objects>(alloc: Global, objects: &mut O, id: &Id) -> Result<Node, StoreFault>
     ensures reads { Reads (O.seen objects.old) (O.seen objects.new) }
     ensures says { Answers (λ held. fetched held 32 id.now) (O.seen objects.old) (O.seen objects.new) result }
