@@ -1,23 +1,28 @@
--- Nodes that were read back, and why one wasn't.
-use Rattle.std.proofs.Common.{◌≡◌, ◌⊎◌, inl, inr, ℕ, suc, ◌+◌, ◌-◌, ◌<◌, ◌≤◌, List, [], ◌∷◌, ◌++◌, length, map, get_or, take, not, Option, Some, None, Result, Ok, Err, refl, sym, ap, ap₂, subst, ◌∙◌, arith}
-use Rattle.std.specs.Prelude.{option_and_then}
-use Rattle.std.specs.Result.{result_ok}
+-- Nodes that were read back.
+use Rattle.std.proofs.Common.{◌≡◌, ◌⊎◌, inl, inr, ℕ, zero, suc, ◌+◌, ◌<◌, ◌≤◌, max, List, [], ◌∷◌, ◌++◌, length, map, get_or, drop, Bool, true, false, cond, not, Option, Some, None, Result, Ok, Err, refl, sym, ap, ap₂, subst, ◌∙◌, arith}
+use mathlib.Core.Bool.{beq}
+use Rattle.std.specs.Prelude.{option_and_then, IfOk}
+use Rattle.std.specs.Result.{IsErrAnd, result_ok}
 use Rattle.std.specs.FinMap.{get}
-use Rattle.std.proofs.lemmas.List.{take_more, take_all}
+use Rattle.std.proofs.lemmas.List.{at_drop_more, at_drop_all}
+use Rattle.fluid_json.specs.Unless.{IsUnless}
 use Rattle.fluid_io.specs.Causes.{Tells}
 use Rattle.fluid_tree.specs.Laws.{AreNamed, IsOfBytes}
 use Rattle.fluid_tree.specs.Names.{first_refused}
 use Rattle.fluid_tree.specs.Object.{object_bytes, tree_bytes, is_tree_object}
 use Rattle.fluid_tree.specs.Reading.{object_read}
-use Rattle.fluid_tree.specs.Summary.{Summary, tree, Children, no_children, child, children, names, is_tree, depth, children_depth}
+use Rattle.fluid_tree.specs.Summary.{Summary, blob, tree, Children, no_children, child, children, names, is_tree, depth, children_depth}
 use Rattle.fluid_tree.specs.declared.object.Object.{Object}
-use Rattle.fluid_tree.specs.declared.object.Object.TheVariants.{Tree}
+use Rattle.fluid_tree.specs.declared.object.Object.TheVariants.{Blob, Tree}
 use Rattle.fluid_tree.specs.declared.object.ObjectEntry.{ObjectEntry}
+use Rattle.fluid_tree.specs.declared.fault.TreeFault.{TreeFault}
+use Rattle.fluid_tree.specs.declared.fault.TreeFault.TheVariants.{BadName, TooDeep, BadObject as LeavesGrammar, HandleLeft, Attachment, NoMemory as Memory, BadForm}
 use Rattle.fluid_store.specs.Held.{Held}
 use Rattle.fluid_store.specs.Storing.{Storing}
 use Rattle.fluid_store.specs.Standing.{Stands, AllStand, object_at}
-use Rattle.fluid_store.specs.Keeping.{IsNoted}
-use Rattle.fluid_store.specs.Fetching.{HasEntry, MissesBelow, LeavesBelow, DiffersBelow, TooDeepBelow, FetchStops, FetchSays, NodesStand, ChildSays}
+use Rattle.fluid_store.specs.Keeping.{IsNoted, LookSays}
+use Rattle.fluid_store.specs.Laws.{IsFetchedStanding}
+use Rattle.fluid_store.specs.Fetching.{◌>>=◌, read_as, found_as, found, is_of_kind, child_by, nodes_by, tree_by, node_within, fetched, Answers}
 use Rattle.fluid_store.specs.declared.fault.StoreFault.{StoreFault}
 use Rattle.fluid_store.specs.declared.fault.StoreFault.TheVariants.{StoreFailed, Clash, Missing, BadObject, Tree as OfTree, NoPath, NoMemory}
 
@@ -34,9 +39,206 @@ tells_both (Some held) P Q R f h k = f held h k
 pub tells_of : (a b : Option Held) (P : Held → Type 0) → b ≡ a → Tells b P → Tells a P
 tells_of a b P same h = subst (λ c. Tells c P) same h
 
--- ---- the bytes of an object that is held
+pub tells_all : (told : Option Held) (P : Held → Type 0) → ((held : Held) → P held) → Tells told P
+tells_all None P f = tt
+tells_all (Some held) P f = f held
 
-of_bytes : IsOfBytes → (found : Option (List ℕ)) (o : Object) → option_and_then (λ bytes. result_ok (object_read bytes)) found ≡ Some o → found ≡ Some (object_bytes o)
+-- ---- the object under an id
+
+pub object_found : (held : Held) (id : List ℕ) (o : Object) → Ok o ≡ found held id → object_at held id ≡ Some o
+object_found held id o h = by_bytes (get held id) h
+  where
+    by_read : (r : Result Object TreeFault) → Ok o ≡ read_as id r → result_ok r ≡ Some o
+    by_read (Ok p) e = let is : o ≡ p = cc in ap Some (sym is)
+    by_read (Err fault) e = cc
+
+    by_bytes : (bytes : Option (List ℕ)) → Ok o ≡ found_as id bytes → option_and_then (λ b. result_ok (object_read b)) bytes ≡ Some o
+    by_bytes None e = cc
+    by_bytes (Some bytes) e = by_read (object_read bytes) e
+
+pub none_found : (held : Held) (id : List ℕ) (fault : StoreFault) → Err fault ≡ found held id → object_at held id ≡ None
+none_found held id fault h = by_bytes (get held id) h
+  where
+    by_read : (r : Result Object TreeFault) → Err fault ≡ read_as id r → result_ok r ≡ None
+    by_read (Ok p) e = cc
+    by_read (Err f) e = refl
+
+    by_bytes : (bytes : Option (List ℕ)) → Err fault ≡ found_as id bytes → option_and_then (λ b. result_ok (object_read b)) bytes ≡ None
+    by_bytes None e = refl
+    by_bytes (Some bytes) e = by_read (object_read bytes) e
+
+pub read_through : (id : List ℕ) (r x : Result Object TreeFault) → IsUnless Memory r x → IsUnless NoMemory (read_as id r) (read_as id x)
+read_through id r x (inl m) = inl (ap (read_as id) m)
+read_through id r x (inr q) = inr (ap (read_as id) q)
+
+-- ---- answers
+
+module _ (old mid new : Storing) (same : mid.content ≡ old.content) (later : old.faults ≤ mid.faults) where
+  noted_since : (note : _) → IsNoted mid new note → IsNoted old new note
+  noted_since note n = record { before = omega (arith, later, n.before); after = n.after; rose = n.rose }
+
+  told_since : {A : Type 0} (h f : Held → Result A StoreFault) (r : Result A StoreFault) → Tells old.content (λ held. h held ≡ f held) → Tells mid.content (λ held. r ≡ h held) → Tells old.content (λ held. r ≡ f held)
+  told_since h f r carry s = tells_both old.content (λ held. h held ≡ f held) (λ held. r ≡ h held) (λ held. r ≡ f held) (λ held c k. k ∙ c) carry (tells_of old.content mid.content (λ held. r ≡ h held) same s)
+
+  -- what was answered later is the answer of the whole
+  pub goes_on : {A : Type 0} (h f : Held → Result A StoreFault) (r : Result A StoreFault) → Tells old.content (λ held. h held ≡ f held) → Answers h mid new r → Answers f old new r
+  goes_on h f (Ok a) carry s = told_since h f (Ok a) carry s
+  goes_on h f (Err (StoreFailed note)) carry s = noted_since note s
+  goes_on h f (Err (Missing id)) carry s = told_since h f (Err (Missing id)) carry s
+  goes_on h f (Err (BadObject id place)) carry s = told_since h f (Err (BadObject id place)) carry s
+  goes_on h f (Err (OfTree fault)) carry s = told_since h f (Err (OfTree fault)) carry s
+  goes_on h f (Err (Clash id kept bytes)) carry s = absurd s
+  goes_on h f (Err (NoPath path)) carry s = absurd s
+  goes_on h f (Err NoMemory) carry s = tt
+
+  abbrev pub HandsOn : {A B : Type 0} → (Held → Result A StoreFault) → (Held → Result B StoreFault) → Held → Type 0
+  HandsOn h f held = (e : StoreFault) → Err e ≡ h held → Err e ≡ f held
+
+  told_fault : {A B : Type 0} (h : Held → Result A StoreFault) (f : Held → Result B StoreFault) (e : StoreFault) → Tells old.content (HandsOn h f) → Tells mid.content (λ held. Err e ≡ h held) → Tells old.content (λ held. Err e ≡ f held)
+  told_fault h f e carry s = tells_both old.content (HandsOn h f) (λ held. Err e ≡ h held) (λ held. Err e ≡ f held) (λ held c k. c e k) carry (tells_of old.content mid.content (λ held. Err e ≡ h held) same s)
+
+  -- a fault on the way is the answer of the whole
+  pub stops : {A B : Type 0} (h : Held → Result A StoreFault) (f : Held → Result B StoreFault) (e : StoreFault) → Tells old.content (HandsOn h f) → Answers h mid new (Err e) → Answers f old new (Err e)
+  stops h f (StoreFailed note) carry s = noted_since note s
+  stops h f (Missing id) carry s = told_fault h f (Missing id) carry s
+  stops h f (BadObject id place) carry s = told_fault h f (BadObject id place) carry s
+  stops h f (OfTree fault) carry s = told_fault h f (OfTree fault) carry s
+  stops h f (Clash id kept bytes) carry s = absurd s
+  stops h f (NoPath path) carry s = absurd s
+  stops h f NoMemory carry s = tt
+
+pub handed : {A : Type 0} (f : Held → Result A StoreFault) (old new : Storing) (r : Result A StoreFault) (e : StoreFault) → IsErrAnd r (λ x. x ≡ e) → Answers f old new (Err e) → Answers f old new r
+handed f old new (Ok a) e h s = absurd h
+handed f old new (Err x) e h s = subst (λ y. Answers f old new (Err y)) (sym h) s
+
+-- looking up stops an answer, whatever it is
+pub look_stops : {A : Type 0} (f : Held → Result A StoreFault) (id : List ℕ) (old new : Storing) (e : StoreFault) → LookSays id old new (Err e) → Answers f old new (Err e)
+look_stops f id old new (StoreFailed note) h = h
+look_stops f id old new (Missing other) h = absurd h
+look_stops f id old new (BadObject other place) h = absurd h
+look_stops f id old new (OfTree fault) h = absurd h
+look_stops f id old new (Clash other kept bytes) h = absurd h
+look_stops f id old new (NoPath path) h = absurd h
+look_stops f id old new NoMemory h = tt
+
+pub none_under : (id : List ℕ) (old new : Storing) → LookSays id old new (Ok None) → Answers (λ held. found held id) old new (Err (Missing id))
+none_under id old new h = tells_then old.content (λ held. None ≡ get held id) (λ held. Err (Missing id) ≡ found held id) (λ held k. ap (found_as id) k) h
+
+as_read : (id : List ℕ) (old new : Storing) (b : Result Object TreeFault) → Tells old.content (λ held. read_as id b ≡ found held id) → Answers (λ held. found held id) old new (read_as id b)
+as_read id old new (Ok o) k = k
+as_read id old new (Err (BadName name)) k = k
+as_read id old new (Err TooDeep) k = k
+as_read id old new (Err (LeavesGrammar place)) k = k
+as_read id old new (Err (HandleLeft path)) k = k
+as_read id old new (Err Attachment) k = k
+as_read id old new (Err BadForm) k = k
+as_read id old new (Err Memory) k = tt
+
+pub some_under : (id bytes : List ℕ) (old new : Storing) (r : Result Object StoreFault) → LookSays id old new (Ok (Some bytes)) → IsUnless NoMemory r (read_as id (object_read bytes)) → Answers (λ held. found held id) old new r
+some_under id bytes old new r h (inl m) = subst (Answers (λ held. found held id) old new) (sym m) tt
+some_under id bytes old new r h (inr q) =
+    subst (Answers (λ held. found held id) old new) (sym q)
+    (as_read id old new (object_read bytes) (tells_then old.content (λ held. Some bytes ≡ get held id) (λ held. read_as id (object_read bytes) ≡ found held id) (λ held k. ap (found_as id) k) h))
+
+-- ---- an entry
+
+pub not_of_kind : (a b : Bool) (o : Object) → a ≡ is_tree_object o → not (beq a b) ≡ true → is_of_kind b o ≡ false
+not_of_kind true true o is h = cc
+not_of_kind true false o is h = ap not (sym is)
+not_of_kind false true o is h = sym is
+not_of_kind false false o is h = cc
+
+pub of_kind : (a b : Bool) (o : Object) → a ≡ is_tree_object o → not (beq a b) ≡ false → is_of_kind b o ≡ true
+of_kind true true o is h = sym is
+of_kind true false o is h = cc
+of_kind false true o is h = cc
+of_kind false false o is h = ap not (sym is)
+
+module _ (held : Held) (node : Object → Result Summary StoreFault) (entry : ObjectEntry) where
+  pub child_goes : (o : Object) → is_of_kind entry.tree o ≡ true → Ok o ≡ found held entry.id → node o ≡ child_by held node entry
+  child_goes o kind h = sym (ap (λ b. cond b (node o) (Err (BadObject entry.id 0))) kind) ∙ ap (λ r. r >>= λ object. cond (is_of_kind entry.tree object) (node object) (Err (BadObject entry.id 0))) h
+
+  pub child_differs : (o : Object) → is_of_kind entry.tree o ≡ false → Ok o ≡ found held entry.id → Err (BadObject entry.id 0) ≡ child_by held node entry
+  child_differs o kind h = sym (ap (λ b. cond b (node o) (Err (BadObject entry.id 0))) kind) ∙ ap (λ r. r >>= λ object. cond (is_of_kind entry.tree object) (node object) (Err (BadObject entry.id 0))) h
+
+pub bind_fails : {A B : Type 0} (r : Result A StoreFault) (f : A → Result B StoreFault) (e : StoreFault) → Err e ≡ r → Err e ≡ (r >>= f)
+bind_fails r f e h = ap (λ x. x >>= f) h
+
+-- ---- the entries of a tree, one after the other
+
+-- these nodes, and then those
+abbrev pub onto : List (List ℕ × Summary) → Children → Children
+onto [] ds = ds
+onto (c ∷ cs) ds = child c.0 c.1 (onto cs ds)
+
+onto_more : (cs : List (List ℕ × Summary)) (n : List ℕ) (s : Summary) (ds : Children) → onto cs (child n s ds) ≡ onto (cs ++ (n, s) ∷ []) ds
+onto_more [] n s ds = refl
+onto_more (c ∷ cs) n s ds = ap (child c.0 c.1) (onto_more cs n s ds)
+
+onto_none : (cs : List (List ℕ × Summary)) → onto cs no_children ≡ children cs
+onto_none [] = refl
+onto_none (c ∷ cs) = ap (child c.0 c.1) (onto_none cs)
+
+abbrev pub Reader : Type 0
+Reader = ObjectEntry → Result Summary StoreFault
+
+-- the nodes so far, and then those of the entries left, are those of all
+abbrev pub Goes : Reader → List ObjectEntry → ℕ → List (List ℕ × Summary) → Type 0
+Goes node es i done = nodes_by node es ≡ (nodes_by node (drop i es) >>= λ rest. Ok (onto done rest))
+
+again : {A : Type 0} (r : Result A StoreFault) → r ≡ (r >>= λ a. Ok a)
+again (Ok a) = refl
+again (Err e) = refl
+
+pub goes_start : (content : Option Held) (node : Held → Reader) (es : List ObjectEntry) (nodes : List (List ℕ × Summary)) → nodes ≡ [] → Tells content (λ held. Goes (node held) es 0 nodes)
+goes_start content node es nodes none = subst (λ ns. Tells content (λ held. Goes (node held) es 0 ns)) (sym none) (tells_all content (λ held. Goes (node held) es 0 []) (λ held. again (nodes_by (node held) es)))
+
+module _ (node : Reader) (es : List ObjectEntry) (i : ℕ) (e : ObjectEntry) (done : List (List ℕ × Summary)) (lt : i < length es) (is : e ≡ get_or es i e) (inv : Goes node es i done) where
+  at : nodes_by node (drop i es) ≡ nodes_by node (e ∷ drop (i + 1) es)
+  at = at_drop_more (nodes_by node) es i e lt ∙ ap (λ f. nodes_by node (f ∷ drop (i + 1) es)) (sym is)
+
+  pub entry_fails : (fault : StoreFault) → Err fault ≡ node e → Err fault ≡ tree_by node es
+  entry_fails fault h =
+      sym (ap (λ r. r >>= λ cs. Ok (tree cs)) (inv ∙ ap (λ r. r >>= λ rest. Ok (onto done rest)) (at ∙ ap (λ r. r >>= λ s. nodes_by node (drop (i + 1) es) >>= λ cs. Ok (child e.name s cs)) (sym h))))
+
+  behind : (r : Result Children StoreFault) (s : Summary) → ((r >>= λ cs. Ok (child e.name s cs)) >>= λ rest. Ok (onto done rest)) ≡ (r >>= λ rest. Ok (onto (done ++ (e.name, s) ∷ []) rest))
+  behind (Ok cs) s = ap Ok (onto_more done e.name s cs)
+  behind (Err f) s = refl
+
+  pub entry_goes : (s : Summary) → Ok s ≡ node e → Goes node es (i + 1) (done ++ (e.name, s) ∷ [])
+  entry_goes s h =
+      inv ∙ ap (λ r. r >>= λ rest. Ok (onto done rest)) (at ∙ ap (λ r. r >>= λ t. nodes_by node (drop (i + 1) es) >>= λ cs. Ok (child e.name t cs)) (sym h)) ∙ behind (nodes_by node (drop (i + 1) es)) s
+
+pub entry_more : (content : Option Held) (node : Held → Reader) (es : List ObjectEntry) (i : ℕ) (e : ObjectEntry) (done more : List (List ℕ × Summary)) (name : List ℕ) (s : Summary)
+    → i < length es → e ≡ get_or es i e → name ≡ e.name → more ≡ done ++ (name, s) ∷ [] → Tells content (λ held. Goes (node held) es i done) → Tells content (λ held. Ok s ≡ node held e)
+    → Tells content (λ held. Goes (node held) es (i + 1) more)
+entry_more content node es i e done more name s lt is named grown inv one =
+    let list : more ≡ done ++ (e.name, s) ∷ [] = grown ∙ ap (λ x. done ++ (x, s) ∷ []) named in
+    subst (λ ns. Tells content (λ held. Goes (node held) es (i + 1) ns)) (sym list)
+    (tells_both content (λ held. Goes (node held) es i done) (λ held. Ok s ≡ node held e) (λ held. Goes (node held) es (i + 1) (done ++ (e.name, s) ∷ [])) (λ held h k. entry_goes (node held) es i e done lt is h s k) inv one)
+
+pub entries_end : (node : Reader) (es : List ObjectEntry) (i : ℕ) (done : List (List ℕ × Summary)) → length es ≤ i → Goes node es i done → Ok (tree (children done)) ≡ tree_by node es
+entries_end node es i done le inv =
+    sym (ap (λ r. r >>= λ cs. Ok (tree cs)) (inv ∙ ap (λ r. r >>= λ rest. Ok (onto done rest)) (at_drop_all (nodes_by node) es i le)) ∙ ap (λ cs. Ok (tree cs)) (onto_none done))
+
+pub blob_within : (held : Held) (levels : ℕ) (content : List ℕ) → Ok (blob content) ≡ node_within held levels (Blob content)
+unfolding node_within
+blob_within held zero content = refl
+blob_within held (suc n) content = refl
+
+pub tree_too_deep : (held : Held) (levels : ℕ) (entries : List ObjectEntry) → levels ≡ 0 → Err (OfTree TooDeep) ≡ node_within held levels (Tree entries)
+unfolding node_within
+tree_too_deep held zero entries none = refl
+tree_too_deep held (suc n) entries none = absurd (omega (arith, none))
+
+pub tree_within : (held : Held) (levels n : ℕ) (entries : List ObjectEntry) → levels ≡ suc n → tree_by (child_by held (node_within held n)) entries ≡ node_within held levels (Tree entries)
+unfolding node_within
+tree_within held zero n entries some = absurd (omega (arith, some))
+tree_within held (suc m) n entries some = let is : n ≡ m = omega (arith, some) in ap (λ k. tree_by (child_by held (node_within held k)) entries) is
+
+-- ---- what was read stands
+
+of_bytes : IsOfBytes → (bytes : Option (List ℕ)) (o : Object) → option_and_then (λ b. result_ok (object_read b)) bytes ≡ Some o → bytes ≡ Some (object_bytes o)
 of_bytes law None o h = cc
 of_bytes law (Some bytes) o h = by_read (object_read bytes) refl h
   where
@@ -44,7 +246,7 @@ of_bytes law (Some bytes) o h = by_read (object_read bytes) refl h
     by_read (Ok p) e same = let is : p ≡ o = cc in sym (ap Some (law bytes o (e ∙ ap Ok is)))
     by_read (Err fault) e same = cc
 
-pub bytes_held : IsOfBytes → (held : Held) (id : List ℕ) (o : Object) → object_at held id ≡ Some o → get held id ≡ Some (object_bytes o)
+bytes_held : IsOfBytes → (held : Held) (id : List ℕ) (o : Object) → object_at held id ≡ Some o → get held id ≡ Some (object_bytes o)
 bytes_held law held id o h = of_bytes law (get held id) o h
 
 tree_held : IsOfBytes → (held : Held) (id : List ℕ) (entries : List ObjectEntry) → object_at held id ≡ Some (Tree entries) → get held id ≡ Some (tree_bytes entries)
@@ -66,120 +268,75 @@ named law held id entries h = by_found (get held id) h
     by_read bytes (Ok p) e same = let is : p ≡ Tree entries = cc in law bytes entries (e ∙ ap Ok is)
     by_read bytes (Err fault) e same = cc
 
-    by_found : (found : Option (List ℕ)) → option_and_then (λ bytes. result_ok (object_read bytes)) found ≡ Some (Tree entries) → first_refused [] (map (λ e. e.name) entries) ≡ None
+    by_found : (bytes : Option (List ℕ)) → option_and_then (λ b. result_ok (object_read b)) bytes ≡ Some (Tree entries) → first_refused [] (map (λ e. e.name) entries) ≡ None
     by_found None h = cc
     by_found (Some bytes) h = by_read bytes (object_read bytes) refl h
 
-pub tree_stands : IsOfBytes → AreNamed → (content : Option Held) (id : List ℕ) (o : Object) (entries : List ObjectEntry) (nodes : List (List ℕ × Summary)) (levels : ℕ) (node : Summary) → 0 < levels
-    → o ≡ Tree entries → node ≡ tree (children nodes) → Tells content (λ held. object_at held id ≡ Some o) → Tells content (NodesStand (levels - 1) entries nodes)
-    → Tells content (λ held. Stands held id node × (depth node ≤ levels))
-tree_stands law named_law content id o entries nodes levels node some is made at h =
-    subst (λ n. Tells content (λ held. Stands held id n × (depth n ≤ levels))) (sym made)
-    (tells_both content (λ held. object_at held id ≡ Some o) (NodesStand (levels - 1) entries nodes) (λ held. Stands held id (tree (children nodes)) × (depth (tree (children nodes)) ≤ levels))
-    (λ held here below.
-    let whole = here ∙ ap Some is in
-    let good = sym (ap (first_refused []) (names_stand held entries (children nodes) below.0)) ∙ named named_law held id entries whole in
-    ((good, (entries, (tree_held law held id entries whole, below.0))), omega (arith, below.1, some)))
-    at h)
+bind_ok : {A B : Type 0} (r : Result A StoreFault) (f : A → Result B StoreFault) (b : B) → Ok b ≡ (r >>= f) → (a : A) × ((Ok a ≡ r) × (Ok b ≡ f a))
+bind_ok (Ok a) f b h = (a, (refl, h))
+bind_ok (Err e) f b h = cc
 
--- ---- a fault that was met later, or below
+kind_by : (c : Bool) (x : Result Summary StoreFault) (e : StoreFault) (s : Summary) → Ok s ≡ cond c x (Err e) → (c ≡ true) × (Ok s ≡ x)
+kind_by true x e s h = (refl, h)
+kind_by false x e s h = cc
 
-module _ (old mid new : Storing) (same : mid.content ≡ old.content) (later : old.faults ≤ mid.faults) where
-  noted_since : (note : _) → IsNoted mid new note → IsNoted old new note
-  noted_since note n = record { before = omega (arith, later, n.before); after = n.after; rose = n.rose }
+kind_is : (b : Bool) (o : Object) (s : Summary) → is_of_kind b o ≡ true → is_tree s ≡ is_tree_object o → b ≡ is_tree s
+kind_is true o s h k = sym (k ∙ h)
+kind_is false (Blob content) s h k = sym k
+kind_is false (Tree entries) s h k = cc
 
-  pub stops_since : (levels : ℕ) (id : List ℕ) (fault : StoreFault) → FetchStops levels id mid new fault → FetchStops levels id old new fault
-  stops_since levels id (StoreFailed note) h = noted_since note h
-  stops_since levels id (Missing missing) h = tells_of old.content mid.content _ same h
-  stops_since levels id (BadObject bad place) h = tells_of old.content mid.content _ same h
-  stops_since levels id (OfTree fault) h = (h.0, tells_of old.content mid.content _ same h.1)
-  stops_since levels id (Clash other kept bytes) h = absurd h
-  stops_since levels id (NoPath path) h = absurd h
-  stops_since levels id NoMemory h = tt
+module _ (law : IsOfBytes) (named_law : AreNamed) (held : Held) where
+  -- what a node that was read of an object under an id is
+  abbrev Good : ℕ → List ℕ → Object → Summary → Type 0
+  Good levels id o s = (Stands held id s × (depth s ≤ levels)) × (is_tree s ≡ is_tree_object o)
 
-  pub fetched_since : (levels : ℕ) (id : List ℕ) (r : Result Summary StoreFault) → FetchSays levels id mid new r → FetchSays levels id old new r
-  fetched_since levels id (Ok node) h = tells_of old.content mid.content _ same h
-  fetched_since levels id (Err fault) h = stops_since levels id fault h
+  abbrev IsGood : ℕ → Type 0
+  IsGood levels = (id : List ℕ) (o : Object) (s : Summary) → object_at held id ≡ Some o → Ok s ≡ node_within held levels o → Good levels id o s
 
-  module _ (levels : ℕ) (id : List ℕ) (entry : ObjectEntry) (has : Tells old.content (λ held. HasEntry held id entry)) where
-    misses : (missing : List ℕ) (held : Held) → HasEntry held id entry → MissesBelow held entry.id missing → MissesBelow held id missing
-    misses missing held e m = record { trees = suc m.trees; below = (entry, (e, m.below)); none = m.none }
+  all_good : (n : ℕ) → IsGood n → (entries : List ObjectEntry) (cs : Children) → Ok cs ≡ nodes_by (child_by held (node_within held n)) entries → AllStand held entries cs × (children_depth cs ≤ n)
+  all_good n good [] cs h = let is : no_children ≡ cs = cc in subst (λ ds. AllStand held [] ds × (children_depth ds ≤ n)) is (tt, omega arith)
+  all_good n good (e ∷ entries) cs h =
+      let first = bind_ok (child_by held (node_within held n) e) _ cs h in
+      let more = bind_ok (nodes_by (child_by held (node_within held n)) entries) _ cs first.1.1 in
+      let s = first.0 in
+      let is : child e.name s more.0 ≡ cs = let k = more.1.1 in cc in
+      let at = bind_ok (found held e.id) _ s first.1.0 in
+      let kind = kind_by (is_of_kind e.tree at.0) (node_within held n at.0) (BadObject e.id 0) s at.1.1 in
+      let one = good e.id at.0 s (object_found held e.id at.0 at.1.0) kind.1 in
+      let rest = all_good n good entries more.0 more.1.0 in
+      subst (λ ds. AllStand held (e ∷ entries) ds × (children_depth ds ≤ n)) is ((refl, (kind_is e.tree at.0 s kind.0 one.1, (one.0.0, rest.0))), omega (arith, one.0.1, rest.1))
 
-    leaves : (bad : List ℕ) (place : ℕ) (held : Held) → HasEntry held id entry → LeavesBelow held entry.id bad place ⊎ DiffersBelow held entry.id bad place → LeavesBelow held id bad place ⊎ DiffersBelow held id bad place
-    leaves bad place held e (inl l) = inl (record { trees = suc l.trees; below = (entry, (e, l.below)); leaves = l.leaves })
-    leaves bad place held e (inr d) = inr (record {
-      trees = suc d.trees;
-      tree = d.tree;
-      below = (entry, (e, d.below));
-      entry = d.entry;
-      has = d.has;
-      named = d.named;
-      object = d.object;
-      is_held = d.is_held;
-      differs = d.differs;
-      first = d.first;
-    })
+  good_blob : (levels : ℕ) (id content : List ℕ) (s : Summary) → object_at held id ≡ Some (Blob content) → Ok s ≡ node_within held levels (Blob content) → Good levels id (Blob content) s
+  good_blob levels id content s here h =
+      let is : blob content ≡ s = let k = h ∙ sym (blob_within held levels content) in cc in
+      subst (λ t. Good levels id (Blob content) t) is ((bytes_held law held id (Blob content) here, omega arith), refl)
 
-    deep : (held : Held) → HasEntry held id entry → TooDeepBelow held levels entry.id → TooDeepBelow held (suc levels) id
-    deep held e t = record { deep = t.deep; below = (entry, (e, t.below)); entries = t.entries; is_held = t.is_held }
+  good_tree : (n : ℕ) → IsGood n → (id : List ℕ) (entries : List ObjectEntry) (s : Summary) → object_at held id ≡ Some (Tree entries) → Ok s ≡ node_within held (suc n) (Tree entries) → Good (suc n) id (Tree entries) s
+  good_tree n good id entries s here h =
+      let by = bind_ok (nodes_by (child_by held (node_within held n)) entries) (λ cs. Ok (tree cs)) s (h ∙ sym (tree_within held (suc n) n entries refl)) in
+      let is : tree by.0 ≡ s = let k = by.1.1 in cc in
+      let all = all_good n good entries by.0 by.1.0 in
+      let names_good = sym (ap (first_refused []) (names_stand held entries by.0 all.0)) ∙ named named_law held id entries here in
+      subst (λ t. Good (suc n) id (Tree entries) t) is (((names_good, (entries, (tree_held law held id entries here, all.0))), omega (arith, all.1)), refl)
 
-    pub stops_below : (fault : StoreFault) → FetchStops levels entry.id mid new fault → FetchStops (suc levels) id old new fault
-    stops_below (StoreFailed note) h = noted_since note h
-    stops_below (Missing missing) h = tells_both old.content _ _ _ (misses missing) has (tells_of old.content mid.content _ same h)
-    stops_below (BadObject bad place) h = tells_both old.content _ _ _ (leaves bad place) has (tells_of old.content mid.content _ same h)
-    stops_below (OfTree fault) h = (h.0, tells_both old.content _ _ _ deep has (tells_of old.content mid.content _ same h.1))
-    stops_below (Clash other kept bytes) h = absurd h
-    stops_below (NoPath path) h = absurd h
-    stops_below NoMemory h = tt
+  no_tree : (id : List ℕ) (entries : List ObjectEntry) (s : Summary) → Ok s ≡ node_within held zero (Tree entries) → Good zero id (Tree entries) s
+  no_tree id entries s h = let k = h ∙ sym (tree_too_deep held zero entries refl) in cc
 
-    pub child_said : (r : Result Summary StoreFault) → FetchSays levels entry.id mid new r → ChildSays levels id entry old new r
-    child_said (Ok node) h = tells_of old.content mid.content _ same h
-    child_said (Err fault) h = stops_below fault h
+  good : (levels : ℕ) → IsGood levels
+  good levels id (Blob content) s here h = good_blob levels id content s here h
+  good zero id (Tree entries) s here h = no_tree id entries s h
+  good (suc n) id (Tree entries) s here h = good_tree n (good n) id entries s here h
 
--- ---- the entries of a tree
+  pub fetched_stands : (levels : ℕ) (id : List ℕ) (s : Summary) → Ok s ≡ fetched held levels id → Stands held id s × (depth s ≤ levels)
+  fetched_stands levels id s h =
+      let at = bind_ok (found held id) (node_within held levels) s h in
+      (good levels id at.0 s (object_found held id at.0 at.1.0) at.1.1).0
 
-pub has_entry : (content : Option Held) (id : List ℕ) (entries : List ObjectEntry) (i : ℕ) (entry : ObjectEntry) → i < length entries → entry ≡ get_or entries i entry
-    → Tells content (λ held. object_at held id ≡ Some (Tree entries)) → Tells content (λ held. HasEntry held id entry)
-has_entry content id entries i entry lt is at = tells_then content _ _ (λ held here. record { entries = entries; is_held = here; among = (i, lt, sym is) }) at
+pub read_stands : IsFetchedStanding → (id : List ℕ) (old new : Storing) (r : Result Summary StoreFault) → Answers (λ held. fetched held 32 id) old new r
+    → IfOk r (λ node. Tells old.content (λ held. Stands held id node × (depth node ≤ 32)))
+read_stands law id old new (Ok s) h = tells_then old.content (λ held. Ok s ≡ fetched held 32 id) (λ held. Stands held id s × (depth s ≤ 32)) (λ held k. law held 32 id s k) h
+read_stands law id old new (Err e) h = tt
 
-pub other_kind : (content : Option Held) (id : List ℕ) (entry : ObjectEntry) (object : Object) → is_tree_object object ≡ not entry.tree → Tells content (λ held. HasEntry held id entry)
-    → Tells content (λ held. object_at held entry.id ≡ Some object) → Tells content (λ held. LeavesBelow held id entry.id 0 ⊎ DiffersBelow held id entry.id 0)
-other_kind content id entry object apart has at =
-    tells_both content _ _ _ (λ held e here. inr (record {
-      trees = 0;
-      tree = id;
-      below = refl;
-      entry = entry;
-      has = e;
-      named = refl;
-      object = object;
-      is_held = here;
-      differs = apart;
-      first = refl;
-    })) has at
-
-all_stand_more : (held : Held) (entries : List ObjectEntry) (nodes : List (List ℕ × Summary)) (entry : ObjectEntry) (node : Summary) → AllStand held entries (children nodes) → Stands held entry.id node → entry.tree ≡ is_tree node
-    → AllStand held (entries ++ entry ∷ []) (children (nodes ++ (entry.name, node) ∷ []))
-all_stand_more held [] [] entry node h stands kind = (refl, (kind, (stands, tt)))
-all_stand_more held [] (n ∷ nodes) entry node h stands kind = absurd h
-all_stand_more held (e ∷ entries) [] entry node h stands kind = absurd h
-all_stand_more held (e ∷ entries) (n ∷ nodes) entry node h stands kind = (h.0, (h.1.0, (h.1.1.0, all_stand_more held entries nodes entry node h.1.1.1 stands kind)))
-
-depth_more : (nodes : List (List ℕ × Summary)) (name : List ℕ) (node : Summary) (levels : ℕ) → children_depth (children nodes) ≤ levels → depth node ≤ levels → children_depth (children (nodes ++ (name, node) ∷ [])) ≤ levels
-depth_more [] name node levels h d = omega (arith, d)
-depth_more (n ∷ nodes) name node levels h d = let rest = depth_more nodes name node levels (omega (arith, h)) d in omega (arith, h, rest)
-
-pub nodes_more : (content : Option Held) (levels : ℕ) (entries : List ObjectEntry) (nodes more : List (List ℕ × Summary)) (i : ℕ) (entry : ObjectEntry) (name : List ℕ) (node : Summary)
-    → i < length entries → entry ≡ get_or entries i entry → name ≡ entry.name → is_tree node ≡ entry.tree → more ≡ nodes ++ (name, node) ∷ []
-    → Tells content (NodesStand levels (take i entries) nodes) → Tells content (λ held. Stands held entry.id node × (depth node ≤ levels)) → Tells content (NodesStand levels (take (i + 1) entries) more)
-nodes_more content levels entries nodes more i entry name node lt is named kind grown h k =
-    let all : take (i + 1) entries ≡ take i entries ++ entry ∷ [] = take_more entries i entry lt ∙ ap (λ x. take i entries ++ x ∷ []) (sym is) in
-    let list : more ≡ nodes ++ (entry.name, node) ∷ [] = grown ∙ ap (λ x. nodes ++ (x, node) ∷ []) named in
-    subst (λ es. Tells content (NodesStand levels es more)) (sym all)
-    (subst (λ ns. Tells content (NodesStand levels (take i entries ++ entry ∷ []) ns)) (sym list)
-    (tells_both content (NodesStand levels (take i entries) nodes) (λ held. Stands held entry.id node × (depth node ≤ levels)) (NodesStand levels (take i entries ++ entry ∷ []) (nodes ++ (entry.name, node) ∷ []))
-    (λ held so_far one. (all_stand_more held (take i entries) nodes entry node so_far.0 one.0 (sym kind), depth_more nodes entry.name node levels so_far.1 one.1))
-    h k))
-
-pub nodes_end : (content : Option Held) (levels : ℕ) (entries : List ObjectEntry) (nodes : List (List ℕ × Summary)) (i : ℕ) → length entries ≤ i → Tells content (NodesStand levels (take i entries) nodes) → Tells content (NodesStand levels entries nodes)
-nodes_end content levels entries nodes i le h = subst (λ es. Tells content (NodesStand levels es nodes)) (take_all i entries le) h
+pub found_then : (content : Option Held) (levels : ℕ) (id : List ℕ) (o : Object) → Tells content (λ held. Ok o ≡ found held id) → Tells content (λ held. node_within held levels o ≡ fetched held levels id)
+found_then content levels id o h =
+    tells_then content (λ held. Ok o ≡ found held id) (λ held. node_within held levels o ≡ fetched held levels id) (λ held k. ap (λ x. x >>= node_within held levels) k) h

@@ -8,7 +8,7 @@ use Rattle.std.specs.FinMap.{get, remove, len, empty, get-remove, get-empty, len
 use Rattle.std.specs.Prelude.{option_and_then}
 use Rattle.std.specs.Result.{result_ok}
 use Rattle.fluid_tree.specs.Reading.{object_read}
-use Rattle.fluid_tree.specs.declared.fault.TreeFault.TheVariants.{BadObject as LeavesGrammar}
+use Rattle.fluid_tree.specs.declared.fault.TreeFault.{TreeFault}
 use Rattle.std.specs.List.Sorted.{IsStrictlySortedBy}
 use Rattle.std.proofs.Math.Nat.{mul-le-mul_left}
 use Rattle.std.proofs.lemmas.List.{take_more}
@@ -21,11 +21,12 @@ use Rattle.fluid_tree.specs.declared.object.ObjectEntry.{ObjectEntry}
 use Rattle.fluid_store.specs.Held.{byte_order, Held}
 use Rattle.fluid_store.specs.Storing.{Storing, IsCounted}
 use Rattle.fluid_store.specs.Standing.{object_at}
-use Rattle.fluid_store.specs.Fetching.{Reads, Finds, LeavesAt}
-use Rattle.fluid_store.specs.declared.fault.StoreFault.TheVariants.{Missing, BadObject}
+use Rattle.fluid_store.specs.Fetching.{Reads, Finds, found}
+use Rattle.fluid_store.specs.declared.fault.StoreFault.{StoreFault}
+use Rattle.fluid_store.specs.declared.fault.StoreFault.TheVariants.{Missing, BadObject, Tree as OfTree}
 use Rattle.fluid_store.specs.Complete.{is_whole_blob, is_whole, is_complete, all_complete, ids_of, EntriesSay, FindsEntries}
 use Rattle.fluid_store.proofs.Maps.{byte_order_total, byte_order-IsAntisymmetric}
-use Rattle.fluid_store.proofs.Fetched.{tells_then, tells_both, tells_of}
+use Rattle.fluid_store.proofs.Fetched.{tells_then, tells_both, tells_of, object_found, none_found}
 
 -- ---- tests of all
 
@@ -143,9 +144,6 @@ some_object (Some bytes) o h = refl
 pub no_object : (found : Option (List ℕ)) → found ≡ None → option_and_then (λ bytes. result_ok (object_read bytes)) found ≡ None
 no_object found h = ap (option_and_then (λ bytes. result_ok (object_read bytes))) h
 
-bad_object : (found : Option (List ℕ)) (bytes : List ℕ) (place : ℕ) → found ≡ Some bytes → object_read bytes ≡ Err (LeavesGrammar place) → option_and_then (λ b. result_ok (object_read b)) found ≡ None
-bad_object found bytes place is bad = ap (option_and_then (λ b. result_ok (object_read b))) is ∙ ap result_ok bad
-
 pub not_complete : (held : Held) (trees : ℕ) (id : List ℕ) → object_at held id ≡ None → is_complete held trees id ≡ false
 not_complete held zero id h = complete_blob held id ∙ ap is_whole_blob h
 not_complete held (suc n) id h = complete_more held n id ∙ ap (is_whole (is_complete held n)) h
@@ -165,8 +163,8 @@ module _ (id : List ℕ) (old new : Storing) where
     gets = f.gets;
     says =
         subst (λ es. EntriesSay trees id old new (Ok (Some es))) (sym empty)
-        (tells_then old.content (λ held. object_at held id ≡ Some object) (λ held. IsSome (get held id) × (is_complete held trees id ≡ all_complete held trees (ids_of [])))
-        (λ held h. (some_object (get held id) object h, blob_complete held trees id content (h ∙ ap Some is))) f.says);
+        (tells_then old.content (λ held. Ok object ≡ found held id) (λ held. IsSome (get held id) × (is_complete held trees id ≡ all_complete held trees (ids_of [])))
+        (λ held k. let h = object_found held id object k in (some_object (get held id) object h, blob_complete held trees id content (h ∙ ap Some is))) f.says);
   }
 
   pub tree_entries : (trees : ℕ) (object : Object) (entries : List ObjectEntry) → 0 < trees → Finds id old new (Ok object) → object ≡ Tree entries → FindsEntries trees id old new (Ok (Some entries))
@@ -176,8 +174,8 @@ module _ (id : List ℕ) (old new : Storing) where
     faults = f.faults;
     gets = f.gets;
     says =
-        tells_then old.content (λ held. object_at held id ≡ Some object) (λ held. IsSome (get held id) × (is_complete held (suc n) id ≡ all_complete held (suc n) (ids_of entries)))
-        (λ held h. (some_object (get held id) object h, tree_complete held n id entries (h ∙ ap Some is))) f.says;
+        tells_then old.content (λ held. Ok object ≡ found held id) (λ held. IsSome (get held id) × (is_complete held (suc n) id ≡ all_complete held (suc n) (ids_of entries)))
+        (λ held k. let h = object_found held id object k in (some_object (get held id) object h, tree_complete held n id entries (h ∙ ap Some is))) f.says;
   }
 
   pub tree_too_deep : (trees : ℕ) (object : Object) (entries : List ObjectEntry) → trees ≡ 0 → Finds id old new (Ok object) → object ≡ Tree entries → FindsEntries trees id old new (Ok None)
@@ -187,29 +185,28 @@ module _ (id : List ℕ) (old new : Storing) where
     faults = f.faults;
     gets = f.gets;
     says =
-        tells_then old.content (λ held. object_at held id ≡ Some object) (λ held. is_complete held zero id ≡ false)
-        (λ held h. complete_blob held id ∙ ap is_whole_blob (h ∙ ap Some is)) f.says;
+        tells_then old.content (λ held. Ok object ≡ found held id) (λ held. is_complete held zero id ≡ false)
+        (λ held k. complete_blob held id ∙ ap is_whole_blob (object_found held id object k ∙ ap Some is)) f.says;
+  }
+
+  none_there : (trees : ℕ) (fault : StoreFault) → new.content ≡ old.content → old.faults ≤ new.faults → IsCounted old.gets new.gets → Tells old.content (λ held. Err fault ≡ found held id) → FindsEntries trees id old new (Ok None)
+  none_there trees fault same later counted h = record {
+    content = same;
+    faults = later;
+    gets = counted;
+    says =
+        tells_then old.content (λ held. Err fault ≡ found held id) (λ held. is_complete held trees id ≡ false)
+        (λ held k. not_complete held trees id (none_found held id fault k)) h;
   }
 
   pub nothing_there : (trees : ℕ) (missing : List ℕ) → Finds id old new (Err (Missing missing)) → FindsEntries trees id old new (Ok None)
-  nothing_there trees missing f = record {
-    content = f.content;
-    faults = f.faults;
-    gets = f.gets;
-    says =
-        tells_then old.content (λ held. get held id ≡ None) (λ held. is_complete held trees id ≡ false)
-        (λ held h. not_complete held trees id (no_object (get held id) h)) f.says.1;
-  }
+  nothing_there trees missing f = none_there trees (Missing missing) f.content f.faults f.gets f.says
 
   pub no_grammar : (trees : ℕ) (bad : List ℕ) (place : ℕ) → Finds id old new (Err (BadObject bad place)) → FindsEntries trees id old new (Ok None)
-  no_grammar trees bad place f = record {
-    content = f.content;
-    faults = f.faults;
-    gets = f.gets;
-    says =
-        tells_then old.content (λ held. LeavesAt held id place) (λ held. is_complete held trees id ≡ false)
-        (λ held l. not_complete held trees id (bad_object (get held id) l.bytes place l.is_held l.leaves)) f.says.1;
-  }
+  no_grammar trees bad place f = none_there trees (BadObject bad place) f.content f.faults f.gets f.says
+
+  pub no_object_there : (trees : ℕ) (fault : TreeFault) → Finds id old new (Err (OfTree fault)) → FindsEntries trees id old new (Ok None)
+  no_object_there trees fault f = none_there trees (OfTree fault) f.content f.faults f.gets f.says
 
 -- ---- the ids of a level, one after the other
 

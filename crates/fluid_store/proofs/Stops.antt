@@ -1,5 +1,6 @@
 -- Many objects put, one after the other, and where that ends.
-use Rattle.std.proofs.Common.{◌≡◌, ◌⊎◌, inl, inr, ℕ, ◌+◌, ◌<◌, List, [], ◌∷◌, ◌++◌, length, get_or, take, drop, Option, Some, None, Ok, Err, refl, sym, ap, subst, ◌∙◌, arith, append_assoc}
+use Rattle.std.proofs.Common.{◌≡◌, ◌⊎◌, inl, inr, ℕ, ◌+◌, ◌<◌, List, [], ◌∷◌, ◌++◌, length, get_or, take, drop, Option, Some, None, Result, Ok, Err, refl, sym, ap, subst, ◌∙◌, arith, append_assoc}
+use Rattle.std.specs.Result.{IsErrAnd}
 use Rattle.std.proofs.lemmas.List.{at_drop_more, take_more, take-append-drop}
 use Rattle.fluid_io.specs.Causes.{Tells}
 use Rattle.fluid_json.specs.Unless.{IsUnless}
@@ -10,7 +11,7 @@ use Rattle.fluid_tree.specs.declared.fault.TreeFault.TheVariants.{BadName, TooDe
 use Rattle.fluid_store.specs.Held.{Held}
 use Rattle.fluid_store.specs.Storing.{Storing}
 use Rattle.fluid_store.specs.Listed.{objects}
-use Rattle.fluid_store.specs.Keeping.{Counts, Adds, AddsFront, StopsBy, Uploaded, Uploads, with_all, refusal}
+use Rattle.fluid_store.specs.Keeping.{Counts, Adds, AddsFront, StopsBy, Stores, Uploaded, Uploads, with_all, refusal}
 use Rattle.fluid_store.specs.declared.listing.StoredObject.{StoredObject}
 use Rattle.fluid_store.specs.declared.fault.StoreFault.{StoreFault}
 use Rattle.fluid_store.specs.declared.fault.StoreFault.TheVariants.{StoreFailed, Clash, Missing, BadObject, Tree, NoPath, NoMemory}
@@ -118,3 +119,7 @@ uploaded node id os old new answered listed adds =
     let is = success_is node id answered in
     let all = subst (λ l. Adds l old.content new.content) listed adds in
     record { is_id = is; adds = all; stands = stands_in node id is old.content new.content all }
+
+pub handed_on : {A : Type 0} (os : List StoredObject) (old new : Storing) (r : Result A StoreFault) (e : StoreFault) → IsErrAnd r (λ x. x ≡ e) → StopsBy os old new e → Stores os old new r
+handed_on os old new (Ok a) e h s = absurd h
+handed_on os old new (Err x) e h s = subst (StopsBy os old new) (sym h) s

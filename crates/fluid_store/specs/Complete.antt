@@ -1,5 +1,5 @@
 -- What it means that all of a tree is held.
-use Rattle.std.specs.Prelude.{◌≡◌, ℕ, ◌≤◌, zero, suc, List, map, Bool, true, false, IsSome, Option, Some, None, Result, Ok, Err, ⊤}
+use Rattle.std.specs.Prelude.{◌≡◌, ℕ, ◌≤◌, zero, suc, List, map, Bool, true, false, IsSome, Option, Some, None, Result, Ok, Err}
 use Rattle.std.specs.BTreeSet.{BTreeSet}
 use Rattle.std.specs.FinMap.{get}
 use Rattle.std.specs.List.{list_all}
@@ -9,10 +9,9 @@ use Rattle.fluid_tree.specs.declared.object.Object.TheVariants.{Blob, Tree}
 use Rattle.fluid_tree.specs.declared.object.ObjectEntry.{ObjectEntry}
 use Rattle.fluid_store.specs.Held.{Held}
 use Rattle.fluid_store.specs.Storing.{Storing, IsCounted}
-use Rattle.fluid_store.specs.Keeping.{IsNoted}
+use Rattle.fluid_store.specs.Keeping.{LookStops}
 use Rattle.fluid_store.specs.Standing.{object_at}
 use Rattle.fluid_store.specs.declared.fault.StoreFault.{StoreFault}
-use Rattle.fluid_store.specs.declared.fault.StoreFault.TheVariants.{StoreFailed, Clash, Missing, BadObject, Tree as OfTree, NoPath, NoMemory}
 
 -- all of an object is held: where no tree may stand, that of a blob which is held in the grammar
 abbrev pub is_whole_blob : Option Object → Bool
@@ -30,16 +29,6 @@ is_whole below (Some (Tree entries)) = list_all (λ entry. below entry.id) entri
 unfoldable pub is_complete : Held → (trees : ℕ) → List ℕ → Bool
 is_complete held zero id = is_whole_blob (object_at held id)
 is_complete held (suc trees) id = is_whole (is_complete held trees) (object_at held id)
-
--- looking ends without an answer only where the store failed or memory was wanting
-abbrev pub LookStops : Storing → Storing → StoreFault → Type 0
-LookStops old new (StoreFailed note) = IsNoted old new note
-LookStops old new (Clash other kept bytes) = ⊥
-LookStops old new (Missing missing) = ⊥
-LookStops old new (BadObject bad place) = ⊥
-LookStops old new (OfTree fault) = ⊥
-LookStops old new (NoPath path) = ⊥
-LookStops old new NoMemory = ⊤
 
 -- whether all of the tree under the id is held, by the answer
 abbrev pub CompleteSays : List ℕ → Storing → Storing → Result Bool StoreFault → Type 0

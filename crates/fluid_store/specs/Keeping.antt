@@ -29,16 +29,20 @@ pub record IsNoted (old new : Storing) (note : FaultNote) : Type 0 where
 
 -- ---- one call on the objects
 
+-- looking ends without an answer only where the store failed or memory was wanting
+abbrev pub LookStops : Storing → Storing → StoreFault → Type 0
+LookStops old new (StoreFailed note) = IsNoted old new note
+LookStops old new (Clash other kept bytes) = ⊥
+LookStops old new (Missing other) = ⊥
+LookStops old new (BadObject other place) = ⊥
+LookStops old new (Tree fault) = ⊥
+LookStops old new (NoPath path) = ⊥
+LookStops old new NoMemory = ⊤
+
 -- what is held under an id, or why that isn't known
 abbrev pub LookSays : List ℕ → Storing → Storing → Result (Option (List ℕ)) StoreFault → Type 0
 LookSays id old new (Ok found) = Tells old.content (λ held. found ≡ get held id)
-LookSays id old new (Err (StoreFailed note)) = IsNoted old new note
-LookSays id old new (Err (Clash other kept bytes)) = ⊥
-LookSays id old new (Err (Missing other)) = ⊥
-LookSays id old new (Err (BadObject other place)) = ⊥
-LookSays id old new (Err (Tree fault)) = ⊥
-LookSays id old new (Err (NoPath path)) = ⊥
-LookSays id old new (Err NoMemory) = ⊤
+LookSays id old new (Err fault) = LookStops old new fault
 
 pub record Looks (id : List ℕ) (old new : Storing) (result : Result (Option (List ℕ)) StoreFault) : Type 0 where
   pub content : new.content ≡ old.content

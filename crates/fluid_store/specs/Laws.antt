@@ -1,12 +1,13 @@
 -- What the definitions say of a store that grows, and of the smallest stores.
-use Rattle.std.specs.Prelude.{◌≡◌, ℕ, zero, ◌^◌, ◌<◌, List, length, true, false}
+use Rattle.std.specs.Prelude.{◌≡◌, ℕ, zero, ◌^◌, ◌<◌, ◌≤◌, List, length, true, false, Ok}
 use Rattle.std.specs.FinMap.{empty, insert}
 use Rattle.fluid_tree.specs.Object.{object_bytes}
-use Rattle.fluid_tree.specs.Summary.{Summary, blob}
+use Rattle.fluid_tree.specs.Summary.{Summary, blob, depth}
 use Rattle.fluid_tree.specs.declared.object.Object.TheVariants.{Blob}
 use Rattle.fluid_store.specs.Held.{Held, Keeps}
 use Rattle.fluid_store.specs.Standing.{Stands}
 use Rattle.fluid_store.specs.Complete.{is_complete}
+use Rattle.fluid_store.specs.Fetching.{fetched}
 
 -- what stands goes on standing where all that is held is kept
 abbrev pub GoesOnStanding : Type 0
@@ -25,3 +26,7 @@ abbrev pub OneBlob : Type 0
 OneBlob =
     (id content : List ℕ) → length content < 2 ^ 53
     → Stands (insert empty id (object_bytes (Blob content))) id (blob content) × (is_complete (insert empty id (object_bytes (Blob content))) zero id ≡ true)
+
+-- the node that is read under an id stands there, and has no more trees inside one another than it may
+abbrev pub IsFetchedStanding : Type 0
+IsFetchedStanding = (held : Held) (levels : ℕ) (id : List ℕ) (node : Summary) → Ok node ≡ fetched held levels id → Stands held id node × (depth node ≤ levels)

@@ -16,7 +16,7 @@ use std::collections::BTreeSet;
 const MOST_LEVELS: usize = MOST_TREES + 1;
 
 /// Whether the object under the id and all objects below it are held in the grammar, at most 32 trees inside one another.
-/// It goes level by level and gets no id twice at one level.
+/// Modes aren't looked at. It goes level by level, with a set of ids for each, and ends at a level without ids.
 pub fn complete<O: Objects>(alloc: Global, objects: &mut O, id: &Id) -> Result<bool, StoreFault>
     ensures reads { Reads (O.seen objects.old) (O.seen objects.new) }
     ensures says { CompleteSays id.now (O.seen objects.old) (O.seen objects.new) result }
@@ -25,11 +25,13 @@ pub fn complete<O: Objects>(alloc: Global, objects: &mut O, id: &Id) -> Result<b
     let mut level = BTreeSet::new(alloc);
     level.insert(*id)?;
     for above in 0..MOST_LEVELS {
-        match look_through(alloc, objects, level, MOST_LEVELS - 1 - above) {
-            Ok(Some(next)) => level = next,
-            Ok(None) => return Ok(false),
-            Err(fault) => return Err(fault),
+        let Some(next) = look_through(alloc, objects, level, MOST_LEVELS - 1 - above)? else {
+            return Ok(false);
+        };
+        if next.is_empty() {
+            return Ok(true);
         }
+        level = next;
     }
     Ok(true)
 }
@@ -48,10 +50,8 @@ fn look_through<O: Objects>(
 {
     let mut next = BTreeSet::new(alloc);
     for id in level {
-        let entries = match entries_at(alloc, objects, &id, trees) {
-            Ok(Some(entries)) => entries,
-            Ok(None) => return Ok(None),
-            Err(fault) => return Err(fault),
+        let Some(entries) = entries_at(alloc, objects, &id, trees)? else {
+            return Ok(None);
         };
         add_ids(&mut next, entries.as_slice())?;
     }
@@ -78,6 +78,7 @@ fn entries_at<O: Objects>(
         }
         Err(StoreFault::Missing(_)) => Ok(None),
         Err(StoreFault::BadObject(_, _)) => Ok(None),
+        Err(StoreFault::Tree(_)) => Ok(None),
         Err(fault) => Err(fault),
     }
 }

@@ -26,7 +26,8 @@ pub enum StoreFault {
     BadObject(Id, u64),
     /// The summary tree itself is refused.
     Tree(TreeFault),
-    /// A handle names this place, which isn't in the tree that the handles are looked up in.
+    /// A handle names this place. Handles aren't looked up in an earlier tree yet, so the first one is refused wherever
+    /// it points.
     NoPath(Path),
     NoMemory,
 }

@@ -1,27 +1,27 @@
 //! Reads a summary tree back.
-ghost use Rattle.std.specs.Prelude.{◌≡◌, List, ℕ, IfOk, Some};
+ghost use Rattle.std.specs.Prelude.{◌≡◌, ◌≤◌, IfOk};
+ghost use Rattle.fluid_json.specs.Unless.{IsUnless};
 ghost use Rattle.fluid_io.specs.Causes.{Tells};
-ghost use Rattle.fluid_tree.specs.Summary.{is_tree};
-ghost use Rattle.fluid_tree.specs.declared.object.Object.TheVariants.{Tree};
-ghost use Rattle.fluid_store.specs.Standing.{object_at};
-ghost use Rattle.fluid_tree.specs.Object.{is_tree_object};
-ghost use Rattle.fluid_store.specs.Fetching.{Finds, FetchSays, HasEntry, ReadSays, NodesSay, ChildSays, Reads};
+ghost use Rattle.fluid_tree.specs.Reading.{object_read};
+ghost use Rattle.fluid_tree.specs.Summary.{depth};
+ghost use Rattle.fluid_store.specs.Standing.{Stands};
+ghost use Rattle.fluid_store.specs.Fetching.{Answers, Finds, Reads, child_by, fetched, misread, node_within, read_as, tree_by};
 
 use crate::keeping::look;
+use crate::laws::what_is_fetched_stands;
 use crate::{Objects, StoreFault};
-use fluid_tree::laws::{names_that_are_read_are_names, only_objects_are_read};
 use fluid_tree::{Entries, Id, MOST_TREES, Node, Object, ObjectEntry, TreeFault, read_object};
 use std::alloc::Global;
 
-/// The node that stands under the id, with all below it. An object that several entries name is read for each of them.
+/// The node that stands under the id, with all below it. Entries are looked at in their order, each with all below it
+/// before the next, and the first fault is the answer. An object that several entries name is read for each of them.
 pub fn fetch<O: Objects>(alloc: Global, objects: &mut O, id: &Id) -> Result<Node, StoreFault>
     ensures reads { Reads (O.seen objects.old) (O.seen objects.new) }
-    ensures says { FetchSays 32 id.now (O.seen objects.old) (O.seen objects.new) result }
+    ensures says { Answers (λ held. fetched held 32 id.now) (O.seen objects.old) (O.seen objects.new) result }
+    ensures stands { IfOk result (λ node. Tells (O.seen objects.old).content (λ held. Stands held id.now node × (depth node ≤ 32))) }
 {
-    let object = match find(alloc, objects, id) {
-        Ok(object) => object,
-        Err(fault) => return Err(fault),
-    };
+    what_is_fetched_stands();
+    let object = find(alloc, objects, id)?;
     node_of(alloc, objects, object, MOST_TREES)
 }
 
@@ -42,12 +42,22 @@ pub(crate) fn find<O: Objects>(
 
 // The object that the bytes under an id are.
 fn read_under(alloc: Global, id: &Id, bytes: &[u8]) -> Result<Object, StoreFault>
-    ensures { ReadSays id.now bytes.now result }
+    ensures { IsUnless StoreFault.NoMemory result (read_as id.now (object_read bytes.now)) }
 {
     match read_object(alloc, bytes) {
         Ok(object) => Ok(object),
-        Err(TreeFault::BadObject(place)) => Err(StoreFault::BadObject(*id, place)),
-        Err(_) => Err(StoreFault::NoMemory),
+        Err(fault) => Err(misread(id, fault)),
+    }
+}
+
+// The fault of bytes under an id that aren't an object.
+fn misread(id: &Id, fault: TreeFault) -> StoreFault
+    ensures { result ≡ misread id.now fault }
+{
+    match fault {
+        TreeFault::BadObject(place) => StoreFault::BadObject(*id, place),
+        TreeFault::NoMemory => StoreFault::NoMemory,
+        other => StoreFault::Tree(other),
     }
 }
 
@@ -60,51 +70,40 @@ fn node_of<O: Objects>(
     levels: usize,
 ) -> Result<Node, StoreFault>
     ensures reads { Reads (O.seen objects.old) (O.seen objects.new) }
-    ensures kind { IfOk result (λ node. is_tree node ≡ is_tree_object object) }
-    ensures says { (id : List ℕ) → Tells (O.seen objects.old).content (λ held. object_at held id ≡ Some object)
-        → FetchSays levels id (O.seen objects.old) (O.seen objects.new) result }
+    ensures says { Answers (λ held. node_within held levels object) (O.seen objects.old) (O.seen objects.new) result }
 {
-    only_objects_are_read();
-    names_that_are_read_are_names();
     match object {
         Object::Blob(content) => Ok(Node::blob(content)),
         Object::Tree(entries) => {
             if levels == 0 {
                 return Err(StoreFault::Tree(TreeFault::TooDeep));
             }
-            match nodes_of(alloc, objects, entries.as_slice(), levels - 1) {
-                Ok(nodes) => Ok(Node::tree(nodes)),
-                Err(fault) => Err(fault),
-            }
+            tree_of(alloc, objects, entries.as_slice(), levels - 1)
         }
     }
 }
 
-// The nodes of the entries, with their names.
+// The tree of the entries' nodes.
 #[cycle(nodes)]
-fn nodes_of<O: Objects>(
+fn tree_of<O: Objects>(
     alloc: Global,
     objects: &mut O,
     entries: &[ObjectEntry],
     levels: usize,
-) -> Result<Entries, StoreFault>
+) -> Result<Node, StoreFault>
     ensures reads { Reads (O.seen objects.old) (O.seen objects.new) }
-    ensures says { (id : List ℕ) → Tells (O.seen objects.old).content (λ held. object_at held id ≡ Some (Tree entries.now))
-        → NodesSay levels id entries.now (O.seen objects.old) (O.seen objects.new) result }
+    ensures says { Answers (λ held. tree_by (child_by held (node_within held levels)) entries.now) (O.seen objects.old) (O.seen objects.new) result }
 {
     let mut nodes = Entries::new(alloc);
     for entry in entries {
-        let node = match child_of(alloc, objects, entry, levels) {
-            Ok(node) => node,
-            Err(fault) => return Err(fault),
-        };
+        let node = child_of(alloc, objects, entry, levels)?;
         let name = entry.name.copy(alloc)?;
         nodes.push(name, node)?;
     }
-    Ok(nodes)
+    Ok(Node::tree(nodes))
 }
 
-// The node of an entry, which is of the kind that the entry's mode says.
+// The node of an entry, whose object is of the kind that the entry's mode says.
 #[cycle(nodes)]
 fn child_of<O: Objects>(
     alloc: Global,
@@ -113,14 +112,9 @@ fn child_of<O: Objects>(
     levels: usize,
 ) -> Result<Node, StoreFault>
     ensures reads { Reads (O.seen objects.old) (O.seen objects.new) }
-    ensures kind { IfOk result (λ node. is_tree node ≡ entry.now.tree) }
-    ensures says { (id : List ℕ) → Tells (O.seen objects.old).content (λ held. HasEntry held id entry.now)
-        → ChildSays levels id entry.now (O.seen objects.old) (O.seen objects.new) result }
+    ensures says { Answers (λ held. child_by held (node_within held levels) entry.now) (O.seen objects.old) (O.seen objects.new) result }
 {
-    let object = match find(alloc, objects, &entry.id) {
-        Ok(object) => object,
-        Err(fault) => return Err(fault),
-    };
+    let object = find(alloc, objects, &entry.id)?;
     if object.is_tree() != entry.tree {
         return Err(StoreFault::BadObject(entry.id, 0));
     }

@@ -1,8 +1,10 @@
 //! What holds of the definitions, said by functions that do nothing.
 
-ghost use Rattle.fluid_store.specs.Laws.{GoesOnStanding, NothingIsComplete, OneBlob, StaysComplete};
+ghost use Rattle.fluid_store.specs.Laws.{GoesOnStanding, IsFetchedStanding, NothingIsComplete, OneBlob, StaysComplete};
 
-use fluid_tree::laws::objects_are_read_back;
+use fluid_tree::laws::{
+    names_that_are_read_are_names, objects_are_read_back, only_objects_are_read,
+};
 
 /// What stands goes on standing where all that is held is kept.
 pub fn what_stands_goes_on_standing()
@@ -24,4 +26,12 @@ pub fn one_blob_is_complete()
     ensures { OneBlob }
 {
     objects_are_read_back();
+}
+
+/// What is read under an id stands there.
+pub fn what_is_fetched_stands()
+    ensures { IsFetchedStanding }
+{
+    only_objects_are_read();
+    names_that_are_read_are_names();
 }

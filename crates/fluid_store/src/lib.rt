@@ -2,8 +2,8 @@
 //! `objects` has the trait of a store, and `memory` one in memory; `fault` says why a call is refused, and `keeping` looks
 //! an object up and puts it where nothing else is held under its id. `listing` lists the objects of a summary tree in the
 //! order in which they are put, `uploading` puts them, `fetching` reads a tree back, and `completing` says whether all of
-//! one is held; `laws` says what holds of the definitions. What it means that a tree stands under an id is a definition over the finite map from ids to bytes that a
-//! store holds (`specs/Standing.antt`).
+//! one is held; `laws` says what holds of the definitions. What it means that a tree stands under an id is a definition
+//! over the finite map from ids to bytes that a store holds (`specs/Standing.antt`).
 #![tactic(auto)]
 
 mod completing;

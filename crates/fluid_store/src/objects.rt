@@ -17,7 +17,7 @@ pub trait Objects {
         ensures { Gets id.now (seen self.old) (seen self.new) result };
 
     /// Puts a copy of the bytes under the id, in place of those that were held under it. After a fault of the store they
-    /// may be held or not; after want of memory nothing has changed.
+    /// may be held or not; after want of memory nothing that is held has changed.
     fn put(&mut self, alloc: Global, id: &Id, bytes: &[u8]) -> Result<(), ObjectFault>
         ensures { Puts id.now bytes.now (seen self.old) (seen self.new) result };
 

@@ -9,8 +9,9 @@ use fluid_tree::{Id, Node, TreeFault, id_of};
 use std::alloc::Global;
 
 /// Puts the objects of a summary tree, and answers its id. Those of a tree's nodes are put, in the order of its
-/// entries, before the tree's own. It ends at the first fault; no object that was held is changed then. The tree is
-/// looked at whole before the first object is put. Handles aren't looked up in a base yet: the first one is `NoPath`.
+/// entries, before the tree's own; an object that is held is never changed. The tree is looked at whole before the first
+/// object is put, so its own first fault leaves the store alone. Handles aren't looked up in a base yet: the first one is
+/// `NoPath`.
 pub fn upload<O: Objects>(
     alloc: Global,
     objects: &mut O,
@@ -25,10 +26,8 @@ pub fn upload<O: Objects>(
         Err(fault) => return Err(refusal(fault)),
     };
     let listed = list_node(alloc, node)?;
-    match keep_all(alloc, objects, listed.objects.as_slice()) {
-        Ok(()) => Ok(id),
-        Err(fault) => Err(fault),
-    }
+    keep_all(alloc, objects, listed.objects.as_slice())?;
+    Ok(id)
 }
 
 // Puts these objects, one after the other.
@@ -41,10 +40,7 @@ fn keep_all<O: Objects>(
     ensures does { Stores list.now (O.seen objects.old) (O.seen objects.new) result }
 {
     for object in list {
-        match keep(alloc, objects, &object.id, object.bytes.as_slice()) {
-            Ok(()) => {}
-            Err(fault) => return Err(fault),
-        }
+        keep(alloc, objects, &object.id, object.bytes.as_slice())?;
     }
     Ok(())
 }

@@ -1,5 +1,5 @@
 use Rattle.std.proofs.Common.{arith}
-use Rattle.fluid_store.proofs.Looked.{blob_entries, tree_entries, tree_too_deep, nothing_there, no_grammar}
+use Rattle.fluid_store.proofs.Looked.{blob_entries, tree_entries, tree_too_deep, nothing_there, no_grammar, no_object_there}
 use Rattle.fluid_store.proofs.completing.entries_at.Goals as goal
 
 pub returns-in-Ok-Blob : goal.returns-in-Ok-Blob
@@ -23,3 +23,7 @@ pub returns-in-Err-BadObject : goal.returns-in-Err-BadObject
 returns-in-Err-BadObject g c =
     no_grammar c.args.id.now (g.O.Objects.seen c.args.objects.now) (g.O.Objects.seen c.find.new.objects) c.args.trees c.in-Err-BadObject.field-0-0 c.in-Err-BadObject.field-0-1
     (rw c.in-Err-BadObject.field-0-is at c.in-Err-BadObject.ensures)
+
+pub returns-in-Err-Tree : goal.returns-in-Err-Tree
+returns-in-Err-Tree g c =
+    no_object_there c.args.id.now (g.O.Objects.seen c.args.objects.now) (g.O.Objects.seen c.find.new.objects) c.args.trees c.in-Err-Tree.field-0-0 (rw c.in-Err-Tree.field-0-is at c.in-Err-Tree.ensures)
