@@ -1,5 +1,5 @@
 -- How a run goes on: from its start, over one line more, and over the lines that are handed to the sink.
-use Rattle.std.proofs.Common.{◌≡◌, ℕ, ◌+◌, ◌≤◌, List, [], ◌∷◌, ◌++◌, refl, sym, ◌∙◌, ap, append-nil, append_assoc, false, Option, None, Some, arith, length-append}
+use Rattle.std.proofs.Common.{◌≡◌, ℕ, ◌+◌, List, [], ◌∷◌, ◌++◌, refl, sym, ◌∙◌, ap, append-nil, append_assoc, false, Option, None, Some, arith, length-append}
 use Rattle.std.specs.Option.{option_map}
 use Rattle.std.specs.Str.Lines.{lines}
 use Rattle.fluid_io.specs.Causes.{Tells}
@@ -44,8 +44,7 @@ starts limits input output document stands within = record {
   split = split-start input.left;
   read = read-none input.left;
   appended = appends-none output.written;
-  reads = omega arith;
-  writes = omega arith;
+  quiet = record { read = refl; written = refl };
   within = within;
   few = omega arith;
 }
@@ -59,8 +58,8 @@ split-more before line (Some more) = ap Some (sym (append_assoc before (line ∷
 
 pub takes : (limits : Limits) (input : Reading) (output : Writing) (r r' : Reader) (d d' : Document) (s s' : Reading) (sink : Writing) →
     (p : Progress limits input output r d s sink) → TakesLine limits p.before p.gone (ahead r s) (ahead r' s') r' d' →
-    s.faults ≤ s'.faults → (IsWithin r.count d → IsWithin (r.count + 1) d') → Progress limits input output r' d' s' sink
-takes limits input output r r' d d' s s' sink p t later within =
+    s'.faults ≡ s.faults → (IsWithin r.count d → IsWithin (r.count + 1) d') → Progress limits input output r' d' s' sink
+takes limits input output r r' d d' s s' sink p t quiet within =
     let number : r'.count ≡ r.count + 1 = t.reached.number ∙ length-append p.before (t.line ∷ []) ∙ ap (λ n. n + 1) (sym p.reached.number) in
     record {
       before = p.before ++ t.line ∷ [];
@@ -69,8 +68,7 @@ takes limits input output r r' d d' s s' sink p t later within =
       split = p.split ∙ ap (option_map (λ more. p.before ++ more)) t.passes.first ∙ split-more p.before t.line (lines_ahead r' s');
       read = read-more input.left (ahead r s) (ahead r' s') p.before t.line t.passes p.read;
       appended = p.appended;
-      reads = omega (arith, p.reads, later);
-      writes = p.writes;
+      quiet = record { read = quiet ∙ p.quiet.read; written = p.quiet.written };
       within = rw number (within p.within);
       few = t.few;
     }
@@ -78,10 +76,10 @@ takes limits input output r r' d d' s s' sink p t later within =
 -- ---- lines that are handed on
 
 pub hands_on : (limits : Limits) (input : Reading) (output : Writing) (r : Reader) (d d' : Document) (s : Reading) (sink sink' : Writing) →
-    Progress limits input output r d s sink → sink.faults ≤ sink'.faults → ((n : ℕ) → IsWithin n d → IsWithin n d') →
+    Progress limits input output r d s sink → sink'.faults ≡ sink.faults → ((n : ℕ) → IsWithin n d → IsWithin n d') →
     ((gone : List ℕ) (l : Ledger) → Stands gone l d → Stands (gone ++ d.waiting.items) l d') →
     Appends d.waiting.items sink.written sink'.written → Progress limits input output r d' s sink'
-hands_on limits input output r d d' s sink sink' p later within stands appends = record {
+hands_on limits input output r d d' s sink sink' p quiet within stands appends = record {
   before = p.before;
   gone = p.gone ++ d.waiting.items;
   reached = record {
@@ -94,8 +92,7 @@ hands_on limits input output r d d' s sink sink' p later within stands appends =
   split = p.split;
   read = p.read;
   appended = appends-both p.gone d.waiting.items output.written sink.written sink'.written p.appended appends;
-  reads = p.reads;
-  writes = omega (arith, p.writes, later);
+  quiet = record { read = p.quiet.read; written = quiet ∙ p.quiet.written };
   within = within r.count p.within;
   few = p.few;
 }

@@ -18,7 +18,7 @@ use Rattle.fluidd.specs.declared.document.Document.{Document}
 use Rattle.fluidd.specs.declared.limits.Limits.{Limits}
 use Rattle.fluidd.specs.declared.refusal.Refusal.{Refusal}
 use Rattle.fluidd.specs.declared.refusal.Refusal.TheVariants.{TooLong, NotUtf8, TooManyLines}
-use Rattle.fluidd.specs.Input.{records, entry_of, refusal, first_of, text_refusal}
+use Rattle.fluidd.specs.Input.{records, entry_of, refusal, first_of, answer_refusal, text_refusal}
 use Rattle.fluidd.specs.Progress.{Reached, RefusesLine, TakesLine, Stands, with_entry_of}
 use Rattle.fluidd.proofs.Grown.{accepts-push, ledger-line}
 
@@ -77,34 +77,6 @@ text-few long utf8 n t x h = few (nat_lt MOST_LINES n) refl long utf8 h
     few true e false false h = cc
     few false e long utf8 h = grind (arith, nat_tests, e)
 
--- what a line is refused for, by what it is
-abbrev refusal_of : Bool → Bool → Bool → Option Refusal
-refusal_of long utf8 many = if long then Some TooLong else (if utf8 then (if many then Some TooManyLines else None) else Some NotUtf8)
-
-too_long-refusal : (long utf8 many : Bool) (m n : ℕ) (x : List ℕ) → Err (line.TooLong m) ≡ line_answer_by long utf8 many n x → refusal_of long utf8 many ≡ Some TooLong
-too_long-refusal true utf8 many m n x h = refl
-too_long-refusal false true true m n x h = cc
-too_long-refusal false true false m n x h = cc
-too_long-refusal false false many m n x h = cc
-
-not_utf8-refusal : (long utf8 many : Bool) (m n : ℕ) (x : List ℕ) → Err (line.NotUtf8 m) ≡ line_answer_by long utf8 many n x → refusal_of long utf8 many ≡ Some NotUtf8
-not_utf8-refusal true utf8 many m n x h = cc
-not_utf8-refusal false true true m n x h = cc
-not_utf8-refusal false true false m n x h = cc
-not_utf8-refusal false false many m n x h = refl
-
-too_many-refusal : (long utf8 many : Bool) (m n : ℕ) (x : List ℕ) → Err (line.TooMany m) ≡ line_answer_by long utf8 many n x → refusal_of long utf8 many ≡ Some TooManyLines
-too_many-refusal true utf8 many m n x h = cc
-too_many-refusal false true true m n x h = refl
-too_many-refusal false true false m n x h = cc
-too_many-refusal false false many m n x h = cc
-
-no-refusal : (long utf8 many : Bool) (n : ℕ) (t x : List ℕ) → Ok (Text t) ≡ line_answer_by long utf8 many n x → refusal_of long utf8 many ≡ None
-no-refusal true utf8 many n t x h = cc
-no-refusal false true true n t x h = cc
-no-refusal false true false n t x h = refl
-no-refusal false false many n t x h = cc
-
 -- the answer of a reader that goes on, for lines that come behind these
 reads : (limits : Limits) (before : List (List ℕ)) (gone : List ℕ) (r : Reader) (d : Document) (answer : Result Line LineFault) (ls : List (List ℕ)) →
     Reached limits before gone r d → answer ≡ next_answer r ls → answer ≡ first_answer LONGEST_TEXT (length before + 1) ls
@@ -122,7 +94,7 @@ too_long limits before gone r d told m reached a =
       behind = h.behind;
       split = h.split;
       its_number = too_long-number (nat_lt LONGEST_TEXT (length h.line)) (is_utf8 h.line) (nat_lt MOST_LINES (length before + 1)) m _ h.line h.answers;
-      refused = ap (λ why. first_of why (text_refusal limits (ledger (records before)) h.line)) (too_long-refusal (nat_lt LONGEST_TEXT (length h.line)) (is_utf8 h.line) (nat_lt MOST_LINES (length before + 1)) m (length before + 1) h.line h.answers);
+      refused = ap (λ answer. first_of (answer_refusal answer) (text_refusal limits (ledger (records before)) h.line)) (sym h.answers);
     }
 
 pub not_utf8 : (limits : Limits) (before : List (List ℕ)) (gone : List ℕ) (r : Reader) (d : Document) (told : Option (List ℕ)) (m : ℕ) →
@@ -137,7 +109,7 @@ not_utf8 limits before gone r d told m reached a =
       behind = h.behind;
       split = h.split;
       its_number = not_utf8-number (nat_lt LONGEST_TEXT (length h.line)) (is_utf8 h.line) (nat_lt MOST_LINES (length before + 1)) m _ h.line h.answers;
-      refused = ap (λ why. first_of why (text_refusal limits (ledger (records before)) h.line)) (not_utf8-refusal (nat_lt LONGEST_TEXT (length h.line)) (is_utf8 h.line) (nat_lt MOST_LINES (length before + 1)) m (length before + 1) h.line h.answers);
+      refused = ap (λ answer. first_of (answer_refusal answer) (text_refusal limits (ledger (records before)) h.line)) (sym h.answers);
     }
 
 pub too_many : (limits : Limits) (before : List (List ℕ)) (gone : List ℕ) (r : Reader) (d : Document) (told : Option (List ℕ)) (m : ℕ) →
@@ -152,7 +124,7 @@ too_many limits before gone r d told m reached a =
       behind = h.behind;
       split = h.split;
       its_number = too_many-number (nat_lt LONGEST_TEXT (length h.line)) (is_utf8 h.line) (nat_lt MOST_LINES (length before + 1)) m _ h.line h.answers;
-      refused = ap (λ why. first_of why (text_refusal limits (ledger (records before)) h.line)) (too_many-refusal (nat_lt LONGEST_TEXT (length h.line)) (is_utf8 h.line) (nat_lt MOST_LINES (length before + 1)) m (length before + 1) h.line h.answers);
+      refused = ap (λ answer. first_of (answer_refusal answer) (text_refusal limits (ledger (records before)) h.line)) (sym h.answers);
     }
 
 -- ---- a line that is given
@@ -179,8 +151,7 @@ given limits before gone r d told t reached a =
       are_told = a.are_told;
       behind = h.behind;
       split = h.split ∙ ap (λ x. x ∷ h.behind) (sym same);
-      by_text = ap (λ why. first_of why (text_refusal limits (ledger (records before)) t))
-          (no-refusal (nat_lt LONGEST_TEXT (length t)) (is_utf8 t) (nat_lt MOST_LINES (length before + 1)) (length before + 1) t t answers);
+      by_text = ap (λ answer. first_of (answer_refusal answer) (text_refusal limits (ledger (records before)) t)) (sym answers);
       few = text-few (nat_lt LONGEST_TEXT (length t)) (is_utf8 t) (length before + 1) t t answers;
     }
 

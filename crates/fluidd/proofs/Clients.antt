@@ -17,9 +17,9 @@ use Rattle.fluid_ticket.specs.Ledger.{row_of, state_of, StandsFor}
 use Rattle.fluid_ticket.proofs.Ledgers.{joined-state_of}
 use Rattle.fluidd.specs.declared.document.Document.{Document}
 use Rattle.fluidd.specs.declared.limits.Limits.{Limits}
-use Rattle.fluidd.specs.Input.{is_counted, is_new_client, counted, limit_refusal, limit_refusal_by}
+use Rattle.fluidd.specs.Input.{is_counted, is_new_client, counted, limit_refusal}
 use Rattle.fluidd.specs.Output.{verdict_lines}
-use Rattle.fluidd.specs.Progress.{Stands, is_new_in}
+use Rattle.fluidd.specs.Progress.{limit_refusal_by, Stands, is_new_in}
 use Rattle.std.proofs.Common.{add-one}
 
 absent : (f : List ℕ → Row) (c : List ℕ) (ids : List (List ℕ)) → IsBelowEach c ids → find byte_order c (map (λ id. (id, f id)) ids) ≡ None

@@ -1,5 +1,5 @@
 -- What is owed where a run ends, and what was written when it is handed on.
-use Rattle.std.proofs.Common.{◌≡◌, ℕ, ◌≤◌, List, [], ◌++◌, refl, sym, ◌∙◌, ap, append-nil, append_assoc, Option, None, Some, Err, inl, inr, subst, ◌⊎◌, arith}
+use Rattle.std.proofs.Common.{◌≡◌, ℕ, Bool, List, [], ◌++◌, refl, sym, ◌∙◌, ap, append-nil, append_assoc, Option, None, Some, Err, inl, inr, subst, ◌⊎◌, arith}
 use Rattle.std.specs.Option.{option_map}
 use Rattle.std.specs.Str.Lines.{lines}
 use Rattle.fluid_io.specs.Causes.{Rose, Tells}
@@ -15,9 +15,9 @@ use Rattle.fluidd.specs.declared.status.Status.TheVariants as status
 use Rattle.fluidd.specs.declared.sequence.Stop.{Stop}
 use Rattle.fluidd.specs.declared.sequence.Stop.TheVariants as stop
 use Rattle.fluidd.specs.Input.{records, Accepts}
-use Rattle.fluidd.specs.Output.{lines_for, IsWhole, IsRefused, IsBegun, IsInterrupted, IsCut, Wrote, Finished}
+use Rattle.fluidd.specs.Output.{lines_for, IsWhole, IsRefused, IsBegun, IsInterrupted, IsCut, NoFault, Wrote, Finished}
 use Rattle.fluidd.specs.Refusals.{bad_line}
-use Rattle.fluidd.specs.Progress.{Stands, RefusesLine, Steps, Progress, Owes, Ends, Settled}
+use Rattle.fluidd.specs.Progress.{Stands, RefusesLine, Steps, Progress, ReadsQuietly, Owes, Ends, Settled}
 use Rattle.fluidd.proofs.Advances.{appends-both}
 use Rattle.fluidd.proofs.WholeLines.{cut-off, begun-cut}
 
@@ -113,18 +113,23 @@ owes-refused limits input output r d d' s sink number why p stands refuses = rec
   sort = refused limits p.gone r d' s p.before input.left number why p.split p.reached.accepted stands.lines refuses;
 }
 
-pub rose : (first before now : ℕ) → first ≤ before → Rose before now → Rose first now
+pub rose : (first before now : ℕ) → before ≡ first → Rose before now → Rose first now
 rose first before now h k = omega arith
+
+-- nothing failed until the last step of the reading
+read-on : (input source source' : Reading) (output sink : Writing) → NoFault input output source sink → source'.faults ≡ source.faults → NoFault input output source' sink
+read-on input source source' output sink none quiet = record { read = quiet ∙ none.read; written = none.written }
 
 -- a step that ended the reading
 pub stopped : (limits : Limits) (input : Reading) (output : Writing) (r r' : Reader) (d d' : Document) (s s' : Reading) (sink : Writing) (why : Stop) →
-    (p : Progress limits input output r d s sink) → Steps limits p.before p.gone r s r' s' d' (Err why) → Ends limits input output d' s' sink (Err why)
-stopped limits input output r r' d d' s s' sink (stop.Refused number why) p h =
-    (owes-refused limits input output r d d' s sink number why p h.1 h.0, owes-begun limits input output r d d' s sink p h.1)
-stopped limits input output r r' d d' s s' sink stop.ReadFault p h =
-    (rose input.faults s.faults s'.faults p.reads h.0.rose, owes-interrupted limits input output r d d' s s' sink p h.1 h.0)
-stopped limits input output r r' d d' s s' sink stop.WriteFault p h = absurd h
-stopped limits input output r r' d d' s s' sink stop.NoMemory p h = owes-begun limits input output r d d' s sink p h
+    (p : Progress limits input output r d s sink) → Steps limits p.before p.gone r s r' s' d' (Err why) →
+    ReadsQuietly {A = Bool} s.faults s'.faults (Err why) → Ends limits input output d' s' sink (Err why)
+stopped limits input output r r' d d' s s' sink (stop.Refused number why) p h quiet =
+    (read-on input s s' output sink p.quiet quiet, owes-refused limits input output r d d' s sink number why p h.1 h.0, owes-begun limits input output r d d' s sink p h.1)
+stopped limits input output r r' d d' s s' sink stop.ReadFault p h quiet =
+    (record { read = rose input.faults s.faults s'.faults p.quiet.read h.0.rose; written = p.quiet.written }, owes-interrupted limits input output r d d' s s' sink p h.1 h.0)
+stopped limits input output r r' d d' s s' sink stop.WriteFault p h quiet = absurd h
+stopped limits input output r r' d d' s s' sink stop.NoMemory p h quiet = (read-on input s s' output sink p.quiet quiet, owes-begun limits input output r d d' s sink p h)
 
 -- ---- what was written when it is handed on
 
@@ -154,25 +159,43 @@ from_whole : (limits : Limits) (input output : List ℕ) → IsWhole limits inpu
 from_whole limits input output w =
     inl (record { before = lines input; behind = []; split = sym (append-nil (lines input)); accepted = w.accepted; text = w.text })
 
+written-on : (input source : Reading) (output sink after : Writing) → NoFault input output source sink → after.faults ≡ sink.faults → NoFault input output source after
+written-on input source output sink after none quiet = record { read = none.read; written = quiet ∙ none.written }
+
 -- all was handed on
 pub finished : (limits : Limits) (input source : Reading) (output sink after : Writing) (waiting : List ℕ) (s : Status) → (s ≡ status.WriteFault → ⊥) →
-    Settled limits input output source sink waiting s → Appends waiting sink.written after.written → Finished limits input output source after s
-finished limits input source output sink after waiting status.Done not h appends = (wrote _ _ _ _ _ waiting h.0 appends, h.1)
-finished limits input source output sink after waiting status.Usage not h appends = h
-finished limits input source output sink after waiting status.Refused not h appends = wrote _ _ _ _ _ waiting h appends
-finished limits input source output sink after waiting status.ReadFault not h appends = (h.0, wrote _ _ _ _ _ waiting h.1 appends)
-finished limits input source output sink after waiting status.WriteFault not h appends = absurd (not refl)
-finished limits input source output sink after waiting status.NoMemory not h appends = wrote _ _ _ _ _ waiting h appends
+    Settled limits input output source sink waiting s → after.faults ≡ sink.faults → Appends waiting sink.written after.written →
+    Finished limits input output source after s
+finished limits input source output sink after waiting status.Done not h quiet appends =
+    (written-on input source output sink after h.0 quiet, wrote _ _ _ _ _ waiting h.1 appends, h.2)
+finished limits input source output sink after waiting status.Usage not h quiet appends = h
+finished limits input source output sink after waiting status.Refused not h quiet appends =
+    (written-on input source output sink after h.0 quiet, wrote _ _ _ _ _ waiting h.1 appends)
+finished limits input source output sink after waiting status.ReadFault not h quiet appends =
+    (record { read = h.0.read; written = quiet ∙ h.0.written }, wrote _ _ _ _ _ waiting h.1 appends)
+finished limits input source output sink after waiting status.WriteFault not h quiet appends = absurd (not refl)
+finished limits input source output sink after waiting status.NoMemory not h quiet appends =
+    (written-on input source output sink after h.0 quiet, wrote _ _ _ _ _ waiting h.1 appends)
 
 -- the sink failed
 pub finished-cut : (limits : Limits) (input source : Reading) (output sink after : Writing) (waiting : List ℕ) (s : Status) → (s ≡ status.WriteFault → ⊥) →
     Settled limits input output source sink waiting s → AppendsFront waiting sink.written after.written → Wrote (IsCut limits) input.left output.written after.written
-finished-cut limits input source output sink after waiting status.Done not h front = cut limits _ (from_whole limits) _ _ _ _ waiting h.0 front
+finished-cut limits input source output sink after waiting status.Done not h front = cut limits _ (from_whole limits) _ _ _ _ waiting h.1 front
 finished-cut limits input source output sink after waiting status.Usage not h front = absurd h
-finished-cut limits input source output sink after waiting status.Refused not h front = cut limits _ (λ input output r. inr r) _ _ _ _ waiting h front
+finished-cut limits input source output sink after waiting status.Refused not h front = cut limits _ (λ input output r. inr r) _ _ _ _ waiting h.1 front
 finished-cut limits input source output sink after waiting status.ReadFault not h front = cut limits _ (λ input output b. inl (begun-cut limits source.left input output b)) _ _ _ _ waiting h.1 front
 finished-cut limits input source output sink after waiting status.WriteFault not h front = absurd (not refl)
-finished-cut limits input source output sink after waiting status.NoMemory not h front = cut limits _ (λ input output b. inl b) _ _ _ _ waiting h front
+finished-cut limits input source output sink after waiting status.NoMemory not h front = cut limits _ (λ input output b. inl b) _ _ _ _ waiting h.1 front
+
+-- no write had failed before
+pub unfailed : (limits : Limits) (input source : Reading) (output sink : Writing) (waiting : List ℕ) (s : Status) → (s ≡ status.WriteFault → ⊥) →
+    Settled limits input output source sink waiting s → sink.faults ≡ output.faults
+unfailed limits input source output sink waiting status.Done not h = h.0.written
+unfailed limits input source output sink waiting status.Usage not h = absurd h
+unfailed limits input source output sink waiting status.Refused not h = h.0.written
+unfailed limits input source output sink waiting status.ReadFault not h = h.0.written
+unfailed limits input source output sink waiting status.WriteFault not h = absurd (not refl)
+unfailed limits input source output sink waiting status.NoMemory not h = h.0.written
 
 -- ---- a sink that failed on the way
 

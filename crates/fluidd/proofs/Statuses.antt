@@ -1,9 +1,10 @@
 -- What a status says, read off its number.
-use Rattle.std.proofs.Common.{◌≡◌, ℕ, List, [], ◌∷◌, ◌++◌, refl, ap, ◌∙◌, subst, append-nil, append_assoc, Option, None, Some, inl, inr, arith}
+use Rattle.std.proofs.Common.{◌≡◌, ◌⊎◌, ℕ, List, [], ◌∷◌, ◌++◌, refl, ap, ◌∙◌, subst, append-nil, append_assoc, Option, None, Some, inl, inr, arith}
 use Rattle.std.specs.Str.Lines.{lines}
 use Rattle.fluid_io.specs.Lines.{EndsInLineFeed}
 use Rattle.fluid_io.specs.Streams.{Reading, Writing}
 use Rattle.fluidd.specs.declared.limits.Limits.{Limits}
+use Rattle.fluidd.specs.declared.refusal.Refusal.{Refusal}
 use Rattle.fluidd.specs.declared.status.Status.{Status}
 use Rattle.fluidd.specs.declared.status.Status.TheVariants as status
 use Rattle.fluidd.specs.Input.{refusal, Accepts}
@@ -19,7 +20,46 @@ accepts-at limits before (l ∷ ls) line behind a = rw (← append_assoc before 
 some-same : (source : Option (List ℕ)) (a b : List ℕ) → source ≡ Some a → source ≡ Some b → a ≡ b
 some-same source a b h k = cc
 
-not_both : (limits : Limits) (bytes : List ℕ) → Accepts limits [] (lines bytes) → HasRefused limits bytes → ⊥
+-- ---- each input is one of accepted and refused
+
+-- a line of these, which come behind those before, is refused
+record RefusedAmong (limits : Limits) (before ls : List (List ℕ)) : Type 0 where
+  pub ahead : List (List ℕ)
+  pub line : List ℕ
+  pub behind : List (List ℕ)
+  pub why : Refusal
+  pub split : ls ≡ ahead ++ line ∷ behind
+  pub refused : refusal limits (before ++ ahead) line ≡ Some why
+
+one-more : (limits : Limits) (before : List (List ℕ)) (line : List ℕ) (ls : List (List ℕ)) →
+    Accepts limits (before ++ line ∷ []) ls ⊎ RefusedAmong limits (before ++ line ∷ []) ls → (why : Option Refusal) → refusal limits before line ≡ why →
+    Accepts limits before (line ∷ ls) ⊎ RefusedAmong limits before (line ∷ ls)
+one-more limits before line ls rest (Some why) is =
+    inr (record { ahead = []; line = line; behind = ls; why = why; split = refl; refused = rw append-nil is })
+one-more limits before line ls (inl all) None is = inl (is, all)
+one-more limits before line ls (inr r) None is = inr (record {
+  ahead = line ∷ r.ahead;
+  line = r.line;
+  behind = r.behind;
+  why = r.why;
+  split = ap (λ rest. line ∷ rest) r.split;
+  refused = rw (← append_assoc before (line ∷ []) r.ahead) r.refused;
+})
+
+one-among : (limits : Limits) (before ls : List (List ℕ)) → Accepts limits before ls ⊎ RefusedAmong limits before ls
+one-among limits before [] = inl tt
+one-among limits before (line ∷ ls) = one-more limits before line ls (one-among limits (before ++ line ∷ []) ls) (refusal limits before line) refl
+
+refused-of : (limits : Limits) (bytes : List ℕ) → Accepts limits [] (lines bytes) ⊎ RefusedAmong limits [] (lines bytes) →
+    Accepts limits [] (lines bytes) ⊎ HasRefused limits bytes
+refused-of limits bytes (inl all) = inl all
+refused-of limits bytes (inr r) =
+    inr (record { before = r.ahead; line = r.line; behind = r.behind; why = r.why; split = r.split; refused = r.refused })
+
+pub one_of : (limits : Limits) (bytes : List ℕ) → Accepts limits [] (lines bytes) ⊎ HasRefused limits bytes
+one_of limits bytes = refused-of limits bytes (one-among limits [] (lines bytes))
+
+pub not_both : (limits : Limits) (bytes : List ℕ) → Accepts limits [] (lines bytes) → HasRefused limits bytes → ⊥
 not_both limits bytes all r =
     let accepted = accepts-at limits [] r.before r.line r.behind (rw r.split at all) in
     let refused = r.refused in
@@ -62,57 +102,62 @@ wrote-interrupted : (limits : Limits) (left source old new : Option (List ℕ)) 
 wrote-interrupted limits left source old new whole part rest is source_is fed h r =
     let w = rw is at h in none-refused limits source whole part rest w.0 source_is fed w.2 r
 
+neither : (status : ℕ) → (status ≡ 0 → ⊥) → (status ≡ 3 → ⊥) → (status ≡ 6 → ⊥) → (status ≡ 0) ⊎ ((status ≡ 3) ⊎ (status ≡ 6)) → ⊥
+neither status a b c (inl h) = a h
+neither status a b c (inr (inl h)) = b h
+neither status a b c (inr (inr h)) = c h
+
 pub sequences : (limits : Limits) (input : Reading) (output : Writing) (source : Reading) (sink : Writing) (s : Status) →
     Finished limits input output source sink s → Sequences limits input output source sink (code_of s)
 sequences limits input output source sink status.Done h = record {
-  whole = λ e. h.0;
-  read = λ e. h.1;
+  whole = λ e. (h.1, h.2);
   refused = λ e. absurd (omega arith);
   read_fault = λ e. absurd (omega arith);
   write_fault = λ e. absurd (omega arith);
+  no_fault = λ e. h.0;
   interrupted = λ e. absurd (omega arith);
   begun = λ e. absurd (omega arith);
   cut = λ e. absurd (omega arith);
   known = inl refl;
   complete = λ bytes is all quiet calm. inl refl;
-  tells = λ whole part rest is left fed refused calm. absurd (not_both limits (whole ++ (part ++ rest)) (wrote-whole limits _ _ _ _ is h.0) (refused-more limits whole (part ++ rest) fed refused));
-  refuses = λ bytes is refused quiet calm. absurd (not_both limits bytes (wrote-whole limits bytes _ _ _ is h.0) refused);
+  tells = λ whole part rest is left fed refused calm. absurd (not_both limits (whole ++ (part ++ rest)) (wrote-whole limits _ _ _ _ is h.1) (refused-more limits whole (part ++ rest) fed refused));
+  refuses = λ bytes is refused quiet calm. absurd (not_both limits bytes (wrote-whole limits bytes _ _ _ is h.1) refused);
 }
 sequences limits input output source sink status.Usage h = absurd h
 sequences limits input output source sink status.Refused h = record {
   whole = λ e. absurd (omega arith);
-  read = λ e. absurd (omega arith);
-  refused = λ e. h;
+  refused = λ e. h.1;
   read_fault = λ e. absurd (omega arith);
   write_fault = λ e. absurd (omega arith);
+  no_fault = λ e. h.0;
   interrupted = λ e. absurd (omega arith);
   begun = λ e. absurd (omega arith);
   cut = λ e. absurd (omega arith);
   known = inr (inl refl);
-  complete = λ bytes is all quiet calm. absurd (not_both limits bytes all (wrote-refused limits bytes _ _ _ is h));
+  complete = λ bytes is all quiet calm. absurd (not_both limits bytes all (wrote-refused limits bytes _ _ _ is h.1));
   tells = λ whole part rest is left fed refused calm. inl refl;
   refuses = λ bytes is refused quiet calm. inl refl;
 }
 sequences limits input output source sink status.ReadFault h = record {
   whole = λ e. absurd (omega arith);
-  read = λ e. absurd (omega arith);
   refused = λ e. absurd (omega arith);
   read_fault = λ e. h.0;
   write_fault = λ e. absurd (omega arith);
+  no_fault = λ e. absurd (neither 4 (omega arith) (omega arith) (omega arith) e);
   interrupted = λ e. h.1;
   begun = λ e. wrote-begun _ _ _ _ _ h.1;
   cut = λ e. absurd (omega arith);
   known = inr (inr (inl refl));
-  complete = λ bytes is all quiet calm. absurd (quiet h.0);
+  complete = λ bytes is all quiet calm. absurd (quiet h.0.read);
   tells = λ whole part rest is left fed refused calm. absurd (wrote-interrupted limits _ _ _ _ whole part rest is left fed h.1 refused);
-  refuses = λ bytes is refused quiet calm. absurd (quiet h.0);
+  refuses = λ bytes is refused quiet calm. absurd (quiet h.0.read);
 }
 sequences limits input output source sink status.WriteFault h = record {
   whole = λ e. absurd (omega arith);
-  read = λ e. absurd (omega arith);
   refused = λ e. absurd (omega arith);
   read_fault = λ e. absurd (omega arith);
   write_fault = λ e. h.0;
+  no_fault = λ e. absurd (neither 5 (omega arith) (omega arith) (omega arith) e);
   interrupted = λ e. absurd (omega arith);
   begun = λ e. absurd (omega arith);
   cut = λ e. h.1;
@@ -123,12 +168,12 @@ sequences limits input output source sink status.WriteFault h = record {
 }
 sequences limits input output source sink status.NoMemory h = record {
   whole = λ e. absurd (omega arith);
-  read = λ e. absurd (omega arith);
   refused = λ e. absurd (omega arith);
   read_fault = λ e. absurd (omega arith);
   write_fault = λ e. absurd (omega arith);
+  no_fault = λ e. h.0;
   interrupted = λ e. absurd (omega arith);
-  begun = λ e. h;
+  begun = λ e. h.1;
   cut = λ e. absurd (omega arith);
   known = inr (inr (inr (inr refl)));
   complete = λ bytes is all quiet calm. inr refl;

@@ -10,6 +10,7 @@ use Rattle.fluid_io.specs.Causes.{Tells}
 use Rattle.fluid_io.specs.Streams.{Reading, Gives}
 use Rattle.fluid_io.specs.Reader.{Reader}
 use Rattle.fluid_io.specs.Lines.{ahead, EndsInLineFeed, IsCutOff, IsPlain, PassesLine}
+use Rattle.fluid_io.specs.declared.lines.TheConstants.{LONGEST_TEXT}
 use Rattle.fluidd.specs.declared.limits.Limits.{Limits}
 use Rattle.fluidd.specs.Input.{Accepts}
 use Rattle.fluidd.specs.Output.{AreWhole, IsBegun, IsInterrupted, lines_for}
@@ -116,7 +117,7 @@ read-more (Some bytes) old new before line p r = read-one bytes old new before l
 
 -- ---- an input that was cut off
 
-cut-one : (limits : Limits) (bytes output : List ℕ) (r : Reader) (s s' : Reading) (before : List (List ℕ)) → r.limit ≡ 1048576 →
+cut-one : (limits : Limits) (bytes output : List ℕ) (r : Reader) (s s' : Reading) (before : List (List ℕ)) → r.limit ≡ LONGEST_TEXT →
     IsReadTo bytes (ahead r s) before → IsCutOff r s s' → Accepts limits [] before → output ≡ lines_for before → IsInterrupted limits s'.left bytes output
 cut-one limits bytes output r s s' before limit read c accepted text =
     let b = behind c.part read.rest (ahead r s) s'.left read.are_ahead c.gives in
@@ -133,7 +134,7 @@ cut-one limits bytes output r s s' before limit read c accepted text =
       text = text ∙ ap lines_for (sym read.are_lines);
     }
 
-pub cut-off : (limits : Limits) (left : Option (List ℕ)) (output : List ℕ) (r : Reader) (s s' : Reading) (before : List (List ℕ)) → r.limit ≡ 1048576 →
+pub cut-off : (limits : Limits) (left : Option (List ℕ)) (output : List ℕ) (r : Reader) (s s' : Reading) (before : List (List ℕ)) → r.limit ≡ LONGEST_TEXT →
     Tells left (λ bytes. IsReadTo bytes (ahead r s) before) → IsCutOff r s s' → Accepts limits [] before → output ≡ lines_for before →
     Tells left (λ bytes. IsInterrupted limits s'.left bytes output)
 cut-off limits None output r s s' before limit read c accepted text = tt

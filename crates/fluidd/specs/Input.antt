@@ -1,7 +1,11 @@
 -- Which line of an input is refused, and which raw entries the other lines spell.
-use Rattle.std.specs.Prelude.{◌≡◌, ℕ, ◌+◌, ◌==◌, ◌&&◌, nat_le, nat_lt, Bool, true, false, not, List, [], ◌∷◌, ◌++◌, length, count_by, Option, Some, None, Result, Ok, Err, if◌then◌else◌}
+use Rattle.std.specs.Prelude.{◌≡◌, ℕ, ◌+◌, ◌==◌, ◌&&◌, nat_le, Bool, true, false, not, List, [], ◌∷◌, ◌++◌, length, count_by, Option, Some, None, Result, Ok, Err, if◌then◌else◌}
 use Rattle.std.specs.List.{filter_map}
-use Rattle.std.specs.Str.{is_utf8}
+use Rattle.fluid_io.specs.Lines.{line_answer}
+use Rattle.fluid_io.specs.declared.line.Line.{Line}
+use Rattle.fluid_io.specs.declared.line.LineFault.{LineFault}
+use Rattle.fluid_io.specs.declared.line.LineFault.TheVariants as line
+use Rattle.fluid_io.specs.declared.lines.TheConstants.{LONGEST_TEXT}
 use Rattle.fluid_types.specs.Ledger.{Ledger}
 use Rattle.fluid_types.specs.declared.entries.Raw.{Raw}
 use Rattle.fluid_types.specs.declared.entries.Raw.TheVariants.{Join, Leave, Submit, Report}
@@ -18,7 +22,8 @@ abbrev pub raw_of : Result Raw CodecFault → Option Raw
 raw_of (Ok raw) = Some raw
 raw_of (Err fault) = None
 
--- the raw entry that a line spells; an empty line is passed over
+-- the raw entry that a line spells; an empty line is passed over. That `raw_spelled` gives the raw entry that the text's JSON
+-- value spells, member by member, is the law `answers_are_spelled` of fluid_codec
 unfoldable pub entry_of : List ℕ → Option Raw
 entry_of line = if length line == 0 then None else raw_of (raw_spelled line)
 
@@ -52,14 +57,10 @@ is_new_client l (Report summary found moment) = false
 
 -- the document is full where this entry counts and as many as may be are counted; there are too many clients where
 -- this is a new one and as many as may be are joined
-abbrev pub limit_refusal_by : (counts : Bool) (entries counted : ℕ) (new : Bool) (clients joined : ℕ) → Option Refusal
-limit_refusal_by counts entries counted new clients joined =
-    if counts && nat_le entries counted then Some DocumentFull
-    else (if new && nat_le clients joined then Some TooManyClients else None)
-
 unfoldable pub limit_refusal : Limits → Ledger → Raw → Option Refusal
 limit_refusal limits l raw =
-    limit_refusal_by (is_counted raw) limits.entries (counted l) (is_new_client l raw) limits.clients (length (joined l))
+    if is_counted raw && nat_le limits.entries (counted l) then Some DocumentFull
+    else (if is_new_client l raw && nat_le limits.clients (length (joined l)) then Some TooManyClients else None)
 
 -- ---- which line is refused
 
@@ -81,11 +82,18 @@ record_refusal limits l (Err fault) = Some (Unreadable fault)
 unfoldable pub text_refusal : Limits → Ledger → List ℕ → Option Refusal
 text_refusal limits l text = if length text == 0 then None else record_refusal limits l (raw_spelled text)
 
--- a line of more than 1,048,576 bytes, one that isn't UTF-8, and the line 16,777,217 are refused for that
+abbrev pub answer_refusal : Result Line LineFault → Option Refusal
+answer_refusal (Ok line) = None
+answer_refusal (Err line.ReadFault) = None
+answer_refusal (Err (line.TooLong number)) = Some TooLong
+answer_refusal (Err (line.NotUtf8 number)) = Some NotUtf8
+answer_refusal (Err line.NoMemory) = None
+answer_refusal (Err (line.TooMany number)) = Some TooManyLines
+
+-- a line that a reader of lines doesn't give, by its number, is refused for that: it has more than 1,048,576 bytes, isn't
+-- UTF-8 or is the line 16,777,217
 abbrev pub line_refusal : (number : ℕ) → List ℕ → Option Refusal
-line_refusal number line =
-    if nat_lt 1048576 (length line) then Some TooLong
-    else (if is_utf8 line then (if nat_lt 16777216 number then Some TooManyLines else None) else Some NotUtf8)
+line_refusal number line = answer_refusal (line_answer LONGEST_TEXT number line)
 
 abbrev pub first_of : Option Refusal → Option Refusal → Option Refusal
 first_of None second = second

@@ -6,6 +6,7 @@ use Rattle.std.specs.Prelude.{Bool, false, codes, bytes_eq}
 use Rattle.fluid_io.specs.Causes.{Rose, Tells}
 use Rattle.fluid_io.specs.Lines.{EndsInLineFeed, IsPlain}
 use Rattle.fluid_io.specs.Streams.{Reading, Writing, Appends, AppendsFront}
+use Rattle.fluid_io.specs.declared.lines.TheConstants.{LONGEST_TEXT}
 use Rattle.fluid_types.specs.Ledger.{Ledger}
 use Rattle.fluid_types.specs.Printed.{verdict_line}
 use Rattle.fluid_types.specs.declared.entries.Raw.{Raw}
@@ -68,7 +69,7 @@ pub record IsInterrupted (limits : Limits) (left : Option (List ℕ)) (input out
   pub split : input ≡ whole ++ (part ++ rest)
   pub are_whole : AreWhole whole (part ++ rest)
   pub plain : IsPlain part
-  pub few : length part ≤ 1048577
+  pub few : length part ≤ LONGEST_TEXT + 1
   pub accepted : Accepts limits [] (lines whole)
   pub text : output ≡ lines_for (lines whole)
 
@@ -84,19 +85,31 @@ Wrote Sort (Some input) old new = (output : List ℕ) × Appends output old new 
 
 -- ---- the whole of a run
 
--- what a run with `sequence` did, by its status: at 0 all was read and written; at 3 a line was refused; at 4 the source's
--- and at 5 the sink's count of faults rose; at 6 memory was wanting. At all but 5 the output ends at a line's end, and at
--- 4 no whole line that was read is refused
+-- no call of the source and none of the sink failed
+pub record NoFault (input : Reading) (output : Writing) (source : Reading) (sink : Writing) : Type 0 where
+  pub read : source.faults ≡ input.faults
+  pub written : sink.faults ≡ output.faults
+
+-- a call of the source failed, and none of the sink
+pub record ReadFailed (input : Reading) (output : Writing) (source : Reading) (sink : Writing) : Type 0 where
+  pub read : Rose input.faults source.faults
+  pub written : sink.faults ≡ output.faults
+
+-- what a run with `sequence` did, by its status: at 0 all was read and written; at 3 a line was refused; at 4 the source
+-- failed; at 5 the sink failed; at 6 memory was wanting. At all but 5 the output ends at a line's end, and at 4 no whole
+-- line that was read is refused
 abbrev pub Finished : Limits → Reading → Writing → Reading → Writing → Status → Type 0
 Finished limits input output source sink status.Done =
-    Wrote (IsWhole limits) input.left output.written sink.written × Tells source.left (λ bytes. bytes ≡ [])
+    NoFault input output source sink × Wrote (IsWhole limits) input.left output.written sink.written × Tells source.left (λ bytes. bytes ≡ [])
 Finished limits input output source sink status.Usage = ⊥
-Finished limits input output source sink status.Refused = Wrote (IsRefused limits) input.left output.written sink.written
+Finished limits input output source sink status.Refused =
+    NoFault input output source sink × Wrote (IsRefused limits) input.left output.written sink.written
 Finished limits input output source sink status.ReadFault =
-    Rose input.faults source.faults × Wrote (IsInterrupted limits source.left) input.left output.written sink.written
+    ReadFailed input output source sink × Wrote (IsInterrupted limits source.left) input.left output.written sink.written
 Finished limits input output source sink status.WriteFault =
     Rose output.faults sink.faults × Wrote (IsCut limits) input.left output.written sink.written
-Finished limits input output source sink status.NoMemory = Wrote (IsBegun limits) input.left output.written sink.written
+Finished limits input output source sink status.NoMemory =
+    NoFault input output source sink × Wrote (IsBegun limits) input.left output.written sink.written
 
 -- the number of a status
 abbrev pub code_of : Status → ℕ
@@ -126,42 +139,57 @@ pub record HasRefused (limits : Limits) (input : List ℕ) : Type 0 where
   pub split : lines input ≡ before ++ line ∷ behind
   pub refused : refusal limits before line ≡ Some why
 
+-- there are these statuses alone
+abbrev pub IsStatus : (status : ℕ) → Type 0
+IsStatus status = (status ≡ 0) ⊎ ((status ≡ 3) ⊎ ((status ≡ 4) ⊎ ((status ≡ 5) ⊎ (status ≡ 6))))
+
+-- where no line is refused and nothing failed, only memory can be wanting
+abbrev pub Completes : Limits → Reading → Writing → Reading → Writing → (status : ℕ) → Type 0
+Completes limits input output source sink status = (bytes : List ℕ) → input.left ≡ Some bytes → Accepts limits [] (lines bytes) →
+    IsQuiet input.faults source.faults → IsQuiet output.faults sink.faults → (status ≡ 0) ⊎ (status ≡ 6)
+
+-- where a line is refused and nothing failed, that is told, unless memory is wanting
+abbrev pub Refuses : Limits → Reading → Writing → Reading → Writing → (status : ℕ) → Type 0
+Refuses limits input output source sink status = (bytes : List ℕ) → input.left ≡ Some bytes → HasRefused limits bytes →
+    IsQuiet input.faults source.faults → IsQuiet output.faults sink.faults → (status ≡ 3) ⊎ (status ≡ 6)
+
+-- where a line that was read with its line feed is refused, that is told, unless memory is wanting or the sink failed
+abbrev pub TellsRefused : Limits → Reading → Writing → Reading → Writing → (status : ℕ) → Type 0
+TellsRefused limits input output source sink status = (whole part rest : List ℕ) → input.left ≡ Some (whole ++ (part ++ rest)) → source.left ≡ Some rest →
+    EndsInLineFeed whole → HasRefused limits whole → IsQuiet output.faults sink.faults → (status ≡ 3) ⊎ (status ≡ 6)
+
 -- what the exit status of `sequence` says, of a run that began with this source and this sink and left them so
 pub record Sequences (limits : Limits) (input : Reading) (output : Writing) (source : Reading) (sink : Writing) (status : ℕ) : Type 0 where
-  -- 0: no line is refused, and the output is the verdict lines for all of them
-  pub whole : status ≡ 0 → Wrote (IsWhole limits) input.left output.written sink.written
-  -- and nothing of the input is left
-  pub read : status ≡ 0 → Tells source.left (λ bytes. bytes ≡ [])
+  -- 0: no line is refused, the output is the verdict lines for all of them, and nothing of the input is left
+  pub whole : status ≡ 0 → Wrote (IsWhole limits) input.left output.written sink.written × Tells source.left (λ bytes. bytes ≡ [])
   -- 3: the output is the verdict lines for the lines before the first refused one, and then the line of its fault
   pub refused : status ≡ 3 → Wrote (IsRefused limits) input.left output.written sink.written
-  -- 4: the source failed; 5: the sink failed
-  pub read_fault : status ≡ 4 → Rose input.faults source.faults
+  -- 4: the source failed, and the sink didn't
+  pub read_fault : status ≡ 4 → ReadFailed input output source sink
+  -- 5: the sink failed
   pub write_fault : status ≡ 5 → Rose output.faults sink.faults
+  -- 0, 3 and 6: neither failed
+  pub no_fault : (status ≡ 0) ⊎ ((status ≡ 3) ⊎ (status ≡ 6)) → NoFault input output source sink
   -- 4: the output is the verdict lines for the whole lines that were read, and none of these is refused
   pub interrupted : status ≡ 4 → Wrote (IsInterrupted limits source.left) input.left output.written sink.written
   -- 4 and 6: the output is a beginning of the whole that ends at a line's end
   pub begun : (status ≡ 4) ⊎ (status ≡ 6) → Wrote (IsBegun limits) input.left output.written sink.written
   -- 5: it is a beginning of the whole
   pub cut : status ≡ 5 → Wrote (IsCut limits) input.left output.written sink.written
-  -- there is no other status
-  pub known : (status ≡ 0) ⊎ ((status ≡ 3) ⊎ ((status ≡ 4) ⊎ ((status ≡ 5) ⊎ (status ≡ 6))))
-  -- where no line is refused and nothing failed, only memory can be wanting
-  pub complete : (bytes : List ℕ) → input.left ≡ Some bytes → Accepts limits [] (lines bytes) →
-      IsQuiet input.faults source.faults → IsQuiet output.faults sink.faults → (status ≡ 0) ⊎ (status ≡ 6)
-  -- where a whole line that was read is refused, that is told, unless memory is wanting or the sink failed
-  pub tells : (whole part rest : List ℕ) → input.left ≡ Some (whole ++ (part ++ rest)) → source.left ≡ Some rest → EndsInLineFeed whole →
-      HasRefused limits whole → IsQuiet output.faults sink.faults → (status ≡ 3) ⊎ (status ≡ 6)
-  -- where a line is refused and nothing failed, that is told, unless memory is wanting
-  pub refuses : (bytes : List ℕ) → input.left ≡ Some bytes → HasRefused limits bytes →
-      IsQuiet input.faults source.faults → IsQuiet output.faults sink.faults → (status ≡ 3) ⊎ (status ≡ 6)
+  pub known : IsStatus status
+  pub complete : Completes limits input output source sink status
+  pub refuses : Refuses limits input output source sink status
+  pub tells : TellsRefused limits input output source sink status
 
 -- what is written where the words are no command
 abbrev pub usage_line : List ℕ
 usage_line = codes "usage: fluidd sequence | script | load DOC | workload N [--clients C] [--ops K] | serve PORT [--connections N] [--lines]\n"
 
--- what the exit status says where the words are no command: 2, and the usage line was written, or 5, and the sink failed
+-- what the exit status says where the words are no command: 2, and the usage line was written and no write failed, or 5, and
+-- the sink failed
 pub record ShowsUsage (output sink : Writing) (status : ℕ) : Type 0 where
   pub known : (status ≡ 2) ⊎ (status ≡ 5)
   pub written : status ≡ 2 → Appends usage_line output.written sink.written
+  pub no_fault : status ≡ 2 → sink.faults ≡ output.faults
   pub write_fault : status ≡ 5 → Rose output.faults sink.faults
   pub cut : status ≡ 5 → AppendsFront usage_line output.written sink.written

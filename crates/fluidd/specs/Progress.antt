@@ -1,5 +1,5 @@
 -- How far a run has come.
-use Rattle.std.specs.Prelude.{◌≡◌, ℕ, ◌+◌, ◌≤◌, List, [], ◌∷◌, ◌++◌, length, Bool, true, false, Option, Some, None, Result, Ok, Err, option_map}
+use Rattle.std.specs.Prelude.{◌≡◌, ℕ, ◌+◌, ◌≤◌, ◌&&◌, nat_le, if◌then◌else◌, List, [], ◌∷◌, ◌++◌, length, Bool, true, false, Option, Some, None, Result, Ok, Err, option_map}
 use Rattle.std.specs.Str.Lines.{lines}
 use Rattle.fluid_io.specs.Causes.{Rose, Tells}
 use Rattle.fluid_io.specs.Streams.{Reading, Writing, Appends}
@@ -19,12 +19,13 @@ use Rattle.fluidd.specs.declared.document.Untaken.{Untaken}
 use Rattle.fluidd.specs.declared.document.Untaken.TheVariants as untaken
 use Rattle.fluidd.specs.declared.limits.Limits.{Limits}
 use Rattle.fluidd.specs.declared.refusal.Refusal.{Refusal}
+use Rattle.fluidd.specs.declared.refusal.Refusal.TheVariants.{DocumentFull, TooManyClients}
 use Rattle.fluidd.specs.declared.status.Status.{Status}
 use Rattle.fluidd.specs.declared.status.Status.TheVariants as status
 use Rattle.fluidd.specs.declared.sequence.Stop.{Stop}
 use Rattle.fluidd.specs.declared.sequence.Stop.TheVariants as stop
 use Rattle.fluidd.specs.Input.{records, entry_of, counted, entry_refusal, text_refusal, refusal, Accepts}
-use Rattle.fluidd.specs.Output.{verdict_lines, AreWhole, IsWhole, IsRefused, IsBegun, IsInterrupted, IsCut, Wrote}
+use Rattle.fluidd.specs.Output.{verdict_lines, AreWhole, IsWhole, IsRefused, IsBegun, IsInterrupted, IsCut, NoFault, ReadFailed, Wrote}
 use Rattle.fluidd.specs.Refusals.{bad_line}
 
 -- ---- a document
@@ -55,6 +56,12 @@ is_new_in rows (Join id scopes detail moment) = is_none (get rows id)
 is_new_in rows (Leave id moment) = false
 is_new_in rows (Submit id submission moment) = false
 is_new_in rows (Report summary found moment) = false
+
+-- why the limits don't let an entry in, by what a document keeps
+abbrev pub limit_refusal_by : (counts : Bool) (entries counted : ℕ) (new : Bool) (clients joined : ℕ) → Option Refusal
+limit_refusal_by counts entries counted new clients joined =
+    if counts && nat_le entries counted then Some DocumentFull
+    else (if new && nat_le clients joined then Some TooManyClients else None)
 
 -- what a document makes of a raw entry
 abbrev pub Admits : Limits → (gone : List ℕ) → Ledger → Raw → Document → Result (Unit {0}) Untaken → Type 0
@@ -128,8 +135,7 @@ pub record Progress (limits : Limits) (input : Reading) (output : Writing) (read
   pub split : option_map lines input.left ≡ option_map (λ more. before ++ more) (lines_ahead reader source)
   pub read : Tells input.left (λ bytes. IsReadTo bytes (ahead reader source) before)
   pub appended : Appends gone output.written sink.written
-  pub reads : input.faults ≤ source.faults
-  pub writes : output.faults ≤ sink.faults
+  pub quiet : NoFault input output source sink
   pub within : IsWithin reader.count document
   pub few : reader.count ≤ MOST_LINES
 
@@ -139,28 +145,40 @@ pub record Owes (Sort : List ℕ → List ℕ → Type 0) (input : Option (List 
   pub appended : Appends gone old now
   pub sort : Tells input (λ bytes. Sort bytes (gone ++ waiting))
 
+-- with each answer but a fault of reading the source's count of faults stays as it was
+abbrev pub ReadsQuietly : {A : Type 0} → (before now : ℕ) → Result A Stop → Type 0
+ReadsQuietly before now (Ok value) = now ≡ before
+ReadsQuietly before now (Err (stop.Refused number why)) = now ≡ before
+ReadsQuietly before now (Err stop.ReadFault) = Unit {0}
+ReadsQuietly before now (Err stop.WriteFault) = now ≡ before
+ReadsQuietly before now (Err stop.NoMemory) = now ≡ before
+
 -- how the reading of an input ended, and what is owed then
 abbrev pub Ends : Limits → Reading → Writing → Document → Reading → Writing → Result (Unit {0}) Stop → Type 0
 Ends limits input output document source sink (Ok done) =
-    Owes (IsWhole limits) input.left output.written sink.written document.waiting.items × Tells source.left (λ bytes. bytes ≡ [])
+    NoFault input output source sink × Owes (IsWhole limits) input.left output.written sink.written document.waiting.items
+    × Tells source.left (λ bytes. bytes ≡ [])
 Ends limits input output document source sink (Err (stop.Refused number why)) =
-    Owes (λ bytes text. IsRefused limits bytes (text ++ bad_line number why)) input.left output.written sink.written document.waiting.items
+    NoFault input output source sink × Owes (λ bytes text. IsRefused limits bytes (text ++ bad_line number why)) input.left output.written sink.written document.waiting.items
     × Owes (IsBegun limits) input.left output.written sink.written document.waiting.items
 Ends limits input output document source sink (Err stop.ReadFault) =
-    Rose input.faults source.faults × Owes (IsInterrupted limits source.left) input.left output.written sink.written document.waiting.items
+    ReadFailed input output source sink × Owes (IsInterrupted limits source.left) input.left output.written sink.written document.waiting.items
 Ends limits input output document source sink (Err stop.WriteFault) =
     Rose output.faults sink.faults × Wrote (IsCut limits) input.left output.written sink.written
 Ends limits input output document source sink (Err stop.NoMemory) =
-    Owes (IsBegun limits) input.left output.written sink.written document.waiting.items
+    NoFault input output source sink × Owes (IsBegun limits) input.left output.written sink.written document.waiting.items
 
 -- what is owed by a run that will end with this status once these bytes are written
 abbrev pub Settled : Limits → Reading → Writing → Reading → Writing → List ℕ → Status → Type 0
 Settled limits input output source sink waiting status.Done =
-    Owes (IsWhole limits) input.left output.written sink.written waiting × Tells source.left (λ bytes. bytes ≡ [])
+    NoFault input output source sink × Owes (IsWhole limits) input.left output.written sink.written waiting
+    × Tells source.left (λ bytes. bytes ≡ [])
 Settled limits input output source sink waiting status.Usage = ⊥
-Settled limits input output source sink waiting status.Refused = Owes (IsRefused limits) input.left output.written sink.written waiting
+Settled limits input output source sink waiting status.Refused =
+    NoFault input output source sink × Owes (IsRefused limits) input.left output.written sink.written waiting
 Settled limits input output source sink waiting status.ReadFault =
-    Rose input.faults source.faults × Owes (IsInterrupted limits source.left) input.left output.written sink.written waiting
+    ReadFailed input output source sink × Owes (IsInterrupted limits source.left) input.left output.written sink.written waiting
 Settled limits input output source sink waiting status.WriteFault =
     Rose output.faults sink.faults × Wrote (IsCut limits) input.left output.written sink.written
-Settled limits input output source sink waiting status.NoMemory = Owes (IsBegun limits) input.left output.written sink.written waiting
+Settled limits input output source sink waiting status.NoMemory =
+    NoFault input output source sink × Owes (IsBegun limits) input.left output.written sink.written waiting

@@ -1,12 +1,13 @@
 //! A document, as a run of `sequence` keeps it.
 ghost use Rattle.std.specs.Prelude.{◌≡◌, ℕ, ◌+◌, ◌-◌, ◌*◌, ◌^◌, ◌<◌, ◌≤◌, List, [], ◌∷◌, ◌++◌, length, OnOk, OnErr};
-ghost use Rattle.fluid_io.specs.Causes.{HasCause};
+ghost use Rattle.fluid_io.specs.Causes.{HasExactCause};
 ghost use Rattle.fluid_io.specs.Streams.{Appends, AppendsFront};
+ghost use Rattle.fluid_io.specs.declared.lines.TheConstants.{MOST_LINES};
 ghost use Rattle.fluid_types.specs.Ledger.{Ledger};
 ghost use Rattle.std.specs.FinMap.{len};
-ghost use Rattle.fluidd.specs.Input.{is_counted, is_report, limit_refusal, limit_refusal_by};
+ghost use Rattle.fluidd.specs.Input.{is_counted, is_report, limit_refusal};
 ghost use Rattle.fluidd.specs.Output.{entry_line};
-ghost use Rattle.fluidd.specs.Progress.{Stands, IsWithin, Takes, Admits, with_entry, is_new_in};
+ghost use Rattle.fluidd.specs.Progress.{Stands, IsWithin, Takes, Admits, with_entry, is_new_in, limit_refusal_by};
 ghost use Rattle.fluidd.specs.Refusals.{bad_line};
 ghost use Rattle.fluid_types.specs.declared.entries.Raw.{Raw};
 ghost use Rattle.fluid_ticket.specs.State.{IsPreparedIn, prepared};
@@ -66,7 +67,7 @@ impl Document {
     /// Enters the raw entry that the text of a line spells.
     #[tactic(auto, unfolding(crate::specs::Input::text_refusal, crate::specs::Input::entry_of))]
     pub(crate) fn take(&mut self, alloc: Global, limits: Limits, text: &str) -> Result<(), Untaken>
-        requires { IsWithin 16_777_216 self.old }
+        requires { IsWithin MOST_LINES self.old }
         ensures within { (n : ℕ) → IsWithin n self.old → IsWithin (n + 1) self.new }
         ensures takes { (gone : List ℕ) (l : Ledger) → Stands gone l self.old → Takes limits gone l text.now self.new result }
     {
@@ -83,7 +84,7 @@ impl Document {
 
     // Enters a raw entry that isn't refused.
     fn admit(&mut self, alloc: Global, limits: Limits, raw: &Raw) -> Result<(), Untaken>
-        requires { IsWithin 16_777_216 self.old }
+        requires { IsWithin MOST_LINES self.old }
         ensures within { (n : ℕ) → IsWithin n self.old → IsWithin (n + 1) self.new }
         ensures admits { (gone : List ℕ) (l : Ledger) → Stands gone l self.old → Admits limits gone l raw.now self.new result }
     {
@@ -131,7 +132,7 @@ impl Document {
 
     // Enters a raw entry, and puts the line of its verdict behind those that wait.
     fn enter(&mut self, alloc: Global, raw: &Raw) -> Result<(), NoMemory>
-        requires { IsWithin 16_777_216 self.old }
+        requires { IsWithin MOST_LINES self.old }
         ensures within { (n : ℕ) → IsWithin n self.old → IsWithin (n + 1) self.new }
         ensures entered { OnOk result ((gone : List ℕ) (l : Ledger) → Stands gone l self.old → Stands gone (with_entry l raw.now) self.new) }
         ensures kept { OnErr result ((gone : List ℕ) (l : Ledger) → Stands gone l self.old → Stands gone l self.new) }
@@ -168,7 +169,7 @@ impl Document {
 
     /// Hands the lines that wait to the sink. None of them waits any more, not even after a fault.
     pub(crate) fn hand_on<K: Sink>(&mut self, output: &mut K) -> Result<(), Failed>
-        ensures cause { HasCause (K.seen output.old).faults (K.seen output.new).faults result }
+        ensures cause { HasExactCause (K.seen output.old).faults (K.seen output.new).faults result }
         ensures within { (n : ℕ) → IsWithin n self.old → IsWithin n self.new }
         ensures none { self.new.waiting.items ≡ [] }
         ensures stands { OnOk result ((gone : List ℕ) (l : Ledger) → Stands gone l self.old →

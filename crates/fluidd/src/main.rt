@@ -1,14 +1,15 @@
 //! The ordering service of collaborative documents, as a program.
 //! `run` has the top call, `sequence` the command of that name, `document` what it keeps between two lines of its
-//! input, `refusal` why a line is refused, `status` how a run ends, `limits` how much a document may take, and `sink` how
-//! output is handed on.
+//! input, `refusal` why a line is refused, `status` how a run ends, `limits` how much a document may take, `sink` how
+//! output is handed on, and `laws` what holds of the definitions.
 #![tactic(auto)]
 
 mod document;
+pub mod laws;
 pub mod limits;
 pub mod refusal;
 pub mod run;
-pub mod sequence;
+mod sequence;
 mod sink;
 pub mod status;
 #[cfg(test)]

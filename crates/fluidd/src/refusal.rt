@@ -27,7 +27,7 @@ pub enum Refusal {
 impl Refusal {
     /// The words that a refused line is answered with.
     #[tactic(auto, unfolding(crate::specs::Refusals::refusal_text))]
-    pub fn text(&self, alloc: Global) -> Result<Text, NoMemory>
+    pub(crate) fn text(&self, alloc: Global) -> Result<Text, NoMemory>
         ensures { IfOk result (λ text. text ≡ refusal_text self.now) }
     {
         match self {

@@ -1,8 +1,8 @@
 //! The top call of the program.
-ghost use Rattle.std.specs.Prelude.{◌≡◌, true, false};
+ghost use Rattle.std.specs.Prelude.{◌≡◌, ◌⊎◌, [], true, false};
 ghost use Rattle.fluidd.specs.Input.{full};
-ghost use Rattle.fluid_io.specs.Causes.{Rose};
-ghost use Rattle.fluidd.specs.Output.{IsWhole, IsRefused, IsInterrupted, IsBegun, Wrote, Sequences, ShowsUsage, is_sequence, usage_line};
+ghost use Rattle.fluid_io.specs.Causes.{Rose, Tells};
+ghost use Rattle.fluidd.specs.Output.{NoFault, ReadFailed, IsWhole, IsRefused, IsInterrupted, IsBegun, IsCut, IsStatus, Wrote, Sequences, Completes, Refuses, TellsRefused, ShowsUsage, is_sequence, usage_line};
 
 use crate::limits::Limits;
 use crate::sequence::sequence;
@@ -25,14 +25,21 @@ pub fn run<R, S: Source, K: Sink>(
     input: &mut S,
     output: &mut K,
 ) -> u8
-    ensures whole { result ≡ 0 → Wrote (IsWhole full) (S.seen input.old).left (K.seen output.old).written (K.seen output.new).written }
+    ensures whole { result ≡ 0 → Wrote (IsWhole full) (S.seen input.old).left (K.seen output.old).written (K.seen output.new).written
+        × Tells (S.seen input.new).left (λ bytes. bytes ≡ []) }
     ensures refused { result ≡ 3 → Wrote (IsRefused full) (S.seen input.old).left (K.seen output.old).written (K.seen output.new).written }
+    ensures read_fault { result ≡ 4 → ReadFailed (S.seen input.old) (K.seen output.old) (S.seen input.new) (K.seen output.new) }
     ensures interrupted { result ≡ 4 → Wrote (IsInterrupted full (S.seen input.new).left) (S.seen input.old).left (K.seen output.old).written (K.seen output.new).written }
-    ensures read_fault { result ≡ 4 → Rose (S.seen input.old).faults (S.seen input.new).faults }
     ensures write_fault { result ≡ 5 → Rose (K.seen output.old).faults (K.seen output.new).faults }
+    ensures cut { result ≡ 5 → is_sequence words.now ≡ true →
+        Wrote (IsCut full) (S.seen input.old).left (K.seen output.old).written (K.seen output.new).written }
     ensures begun { result ≡ 6 → Wrote (IsBegun full) (S.seen input.old).left (K.seen output.old).written (K.seen output.new).written }
-    ensures sequence { is_sequence words.now ≡ true →
-        Sequences full (S.seen input.old) (K.seen output.old) (S.seen input.new) (K.seen output.new) result }
+    ensures no_fault { (result ≡ 0) ⊎ ((result ≡ 3) ⊎ (result ≡ 6)) →
+        NoFault (S.seen input.old) (K.seen output.old) (S.seen input.new) (K.seen output.new) }
+    ensures known { is_sequence words.now ≡ true → IsStatus result }
+    ensures complete { is_sequence words.now ≡ true → Completes full (S.seen input.old) (K.seen output.old) (S.seen input.new) (K.seen output.new) result }
+    ensures refuses { is_sequence words.now ≡ true → Refuses full (S.seen input.old) (K.seen output.old) (S.seen input.new) (K.seen output.new) result }
+    ensures tells { is_sequence words.now ≡ true → TellsRefused full (S.seen input.old) (K.seen output.old) (S.seen input.new) (K.seen output.new) result }
     ensures usage { is_sequence words.now ≡ false → ShowsUsage (K.seen output.old) (K.seen output.new) result }
     ensures untouched { is_sequence words.now ≡ false → S.seen input.new ≡ S.seen input.old }
 {

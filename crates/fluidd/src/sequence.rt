@@ -2,8 +2,9 @@
 ghost use Rattle.std.specs.Prelude.{◌≡◌, ◌⊎◌, ℕ, ◌+◌, ◌-◌, ◌*◌, ◌^◌, ◌<◌, ◌≤◌, List, [], ◌∷◌, ◌++◌, length, OnOk, IfErr};
 ghost use Rattle.fluid_io.specs.Streams.{Reading, Writing};
 ghost use Rattle.fluid_io.specs.Reader.{Reader};
+ghost use Rattle.fluid_io.specs.declared.lines.TheConstants.{MOST_LINES};
 ghost use Rattle.fluidd.specs.Output.{Finished};
-ghost use Rattle.fluidd.specs.Progress.{Stands, IsWithin, Reached, Steps, Ends, Progress, Settled};
+ghost use Rattle.fluidd.specs.Progress.{Stands, IsWithin, Reached, Steps, Ends, Progress, ReadsQuietly, Settled};
 
 use crate::document::{Document, Untaken};
 use crate::limits::Limits;
@@ -34,8 +35,8 @@ fn take_next<S: Source>(
     document: &mut Document,
     input: &mut S,
 ) -> Result<bool, Stop>
-    requires { IsWithin 16_777_216 document.old }
-    ensures later { (S.seen input.old).faults ≤ (S.seen input.new).faults }
+    requires { IsWithin MOST_LINES document.old }
+    ensures quiet { ReadsQuietly (S.seen input.old).faults (S.seen input.new).faults result }
     ensures within { (n : ℕ) → IsWithin n document.old → IsWithin (n + 1) document.new }
     ensures steps { (before : List (List ℕ)) (gone : List ℕ) → Reached limits before gone lines.old document.old →
         Steps limits before gone lines.old (S.seen input.old) lines.new (S.seen input.new) document.new result }
@@ -58,7 +59,6 @@ fn take_next<S: Source>(
 
 // Hands the lines that wait to the sink where there are enough of them.
 fn hand_on_if_many<K: Sink>(document: &mut Document, output: &mut K) -> Result<(), Stop>
-    ensures later { (K.seen output.old).faults ≤ (K.seen output.new).faults }
     ensures goes_on { OnOk result ((limits : Limits) (input : Reading) (start : Writing) (reader : Reader) (source : Reading) →
         Progress limits input start reader document.old source (K.seen output.old) →
         Progress limits input start reader document.new source (K.seen output.new)) }
@@ -86,9 +86,7 @@ fn take_all<S: Source, K: Sink>(
 ) -> Result<(), Stop>
     requires stands { Stands [] [] document.old }
     requires within { IsWithin 0 document.old }
-    ensures reads { (S.seen input.old).faults ≤ (S.seen input.new).faults }
-    ensures writes { (K.seen output.old).faults ≤ (K.seen output.new).faults }
-    ensures ends { Ends limits (S.seen input.old) (K.seen output.old) document.new (S.seen input.new) (K.seen output.new) result }
+    ensures { Ends limits (S.seen input.old) (K.seen output.old) document.new (S.seen input.new) (K.seen output.new) result }
 {
     let mut lines = Lines::new(LONGEST_TEXT);
     while take_next(alloc, limits, &mut lines, document, input)? {
@@ -117,9 +115,7 @@ fn settle(alloc: Global, taken: Result<(), Stop>, document: &mut Document) -> St
 
 // Writes what waits, and gives the status with which the run ends.
 fn finish<K: Sink>(document: &mut Document, output: &mut K, status: Status) -> Status
-    ensures later { (K.seen output.old).faults ≤ (K.seen output.new).faults }
-    ensures finished { (limits : Limits) (input : Reading) (start : Writing) (source : Reading) →
-        start.faults ≤ (K.seen output.old).faults →
+    ensures { (limits : Limits) (input : Reading) (start : Writing) (source : Reading) →
         Settled limits input start source (K.seen output.old) document.old.waiting.items status →
         Finished limits input start source (K.seen output.new) result }
 {
@@ -134,15 +130,13 @@ fn finish<K: Sink>(document: &mut Document, output: &mut K, status: Status) -> S
 
 /// Reads raw records of one document, a line each, and writes a verdict line for each, within these limits of the
 /// document. At every end but a fault of the sink the output ends at a line's end.
-pub fn sequence<S: Source, K: Sink>(
+pub(crate) fn sequence<S: Source, K: Sink>(
     alloc: Global,
     limits: Limits,
     input: &mut S,
     output: &mut K,
 ) -> Status
-    ensures reads { (S.seen input.old).faults ≤ (S.seen input.new).faults }
-    ensures writes { (K.seen output.old).faults ≤ (K.seen output.new).faults }
-    ensures finished { Finished limits (S.seen input.old) (K.seen output.old) (S.seen input.new) (K.seen output.new) result }
+    ensures { Finished limits (S.seen input.old) (K.seen output.old) (S.seen input.new) (K.seen output.new) result }
 {
     let mut document = Document::new(alloc);
     let taken = take_all(alloc, limits, &mut document, input, output);

@@ -5,7 +5,7 @@ ghost use Rattle.fluidd.specs.Output.{code_of};
 /// How a run ends; its code is the exit status of the program.
 #[derive(Clone, Copy, Debug, PartialEq, Eq)]
 pub enum Status {
-    /// The input was read to its end and all was written.
+    /// No line is refused, the source has nothing left, and the verdict line of each record was written to the sink.
     Done,
     /// The words are no command.
     Usage,

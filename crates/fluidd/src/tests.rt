@@ -2,7 +2,7 @@
 ghost use Rattle.std.specs.Prelude.{◌<◌};
 
 use crate::run::{run, sequence_within};
-use fluid_io::{MemorySink, MemorySource, StdSink};
+use fluid_io::{Failed, MemorySink, MemorySource, Source, StdSink};
 use fluid_json::Text;
 use std::alloc::Global;
 use std::io;
@@ -147,87 +147,121 @@ const FIVE_KINDS: &[(&str, &str)] = &[
     ),
 ];
 
-// Lines that are refused behind a line that isn't, each for its own reason.
-const REFUSED: &[(&str, &str)] = &[
-    (r#"{"raw":"leave","clientId":"#, "not JSON"),
-    ("7 8", "not JSON"),
-    (" ", "not JSON"),
+// What a line behind a join gets, and the status: its verdict, or why it is refused.
+const SECOND_LINES: &[(&str, u8, &str)] = &[
+    (r#"{"raw":"leave","clientId":"#, 3, "bad line 2: not JSON"),
+    ("7 8", 3, "bad line 2: not JSON"),
+    (" ", 3, "bad line 2: not JSON"),
     (
         r#"{"raw":"leave","clientId":"A","moment":1.5}"#,
-        "a number is not whole",
+        3,
+        "bad line 2: a number is not whole",
     ),
     (
         r#"{"raw":"leave","clientId":"A","moment":1e3}"#,
-        "a number is not whole",
+        3,
+        "bad line 2: a number is not whole",
     ),
     (
         r#"{"raw":"leave","clientId":"A","moment":-0}"#,
-        "a number is not whole",
+        3,
+        "bad line 2: a number is not whole",
     ),
     (
         r#"{"raw":"leave","clientId":"A","moment":9223372036854775808}"#,
-        "a number is not whole",
+        3,
+        "bad line 2: a number is not whole",
     ),
     (
         r#"{"raw":"leave","clientId":"A","moment":9007199254740992}"#,
-        "bad field moment: out of range",
+        3,
+        "bad line 2: bad field moment: out of range",
     ),
     (
         r#"{"raw":"leave","clientId":"A","moment":-1}"#,
-        "bad field moment: out of range",
+        3,
+        "bad line 2: bad field moment: out of range",
     ),
     (
         r#"{"raw":"leave","clientId":"A B","moment":1}"#,
-        "bad field clientId: bad name",
+        3,
+        "bad line 2: bad field clientId: bad name",
     ),
     (
         r#"{"raw":"leave","clientId":"","moment":1}"#,
-        "bad field clientId: bad name",
+        3,
+        "bad line 2: bad field clientId: bad name",
     ),
     (
         r#"{"raw":"leave","clientId":7,"moment":"x"}"#,
-        "bad field clientId: not a text",
+        3,
+        "bad line 2: bad field clientId: not a text",
     ),
     (
         r#"{"raw":"leave","moment":1}"#,
-        "bad field clientId: missing",
+        3,
+        "bad line 2: bad field clientId: missing",
     ),
     (
         r#"{"raw":"left","clientId":7}"#,
-        "bad field raw: not allowed",
+        3,
+        "bad line 2: bad field raw: not allowed",
     ),
-    (r#"["raw"]"#, "bad field raw: not an object"),
+    (r#"["raw"]"#, 3, "bad line 2: bad field raw: not an object"),
     (
         r#"{"raw":"report","summary":1,"found":true,"moment":1}"#,
-        "not a record",
+        3,
+        "bad line 2: not a record",
     ),
     (
         r#"{"raw":"report","summary":0,"found":true,"moment":1}"#,
-        "bad field summary: out of range",
+        3,
+        "bad line 2: bad field summary: out of range",
     ),
     (
         r#"{"raw":"join","clientId":"B","moment":1}"#,
-        "bad field scopes: missing",
+        3,
+        "bad line 2: bad field scopes: missing",
     ),
     (
         r#"{"raw":"join","clientId":"B","moment":1,"scopes":["doc:read",1]}"#,
-        "bad field scopes: not a text",
+        3,
+        "bad line 2: bad field scopes: not a text",
     ),
     (
         r#"{"raw":"submit","clientId":"A","moment":1,"operation":{"clientSequenceNumber":1,"referenceSequenceNumber":-2,"type":"op"}}"#,
-        "bad field referenceSequenceNumber: out of range",
+        3,
+        "bad line 2: bad field referenceSequenceNumber: out of range",
     ),
     (
         r#"{"raw":"submit","clientId":"A","moment":1,"operation":{"clientSequenceNumber":1,"referenceSequenceNumber":1,"type":"join"}}"#,
-        "bad field type: not allowed",
+        3,
+        "bad line 2: bad field type: not allowed",
     ),
     (
         r#"{"raw":"submit","clientId":"A","moment":1,"operation":[]}"#,
-        "bad field operation: not an object",
+        3,
+        "bad line 2: bad field operation: not an object",
+    ),
+    (
+        r#"{"raw":"leave","clientId":"0123456789012345678901234567890123456789012345678901234567890123","moment":1}"#,
+        0,
+        r#"{"dropped":true}"#,
     ),
     (
         r#"{"raw":"leave","clientId":"01234567890123456789012345678901234567890123456789012345678901234","moment":1}"#,
-        "bad field clientId: bad name",
+        3,
+        "bad line 2: bad field clientId: bad name",
+    ),
+    (
+        r#"{"raw":"leave","clientId":"B","moment":1,"other":[[[[[[[[[[[[[[[[[[[[[[[[[[[[[[[[[[[[[[[[[[[[[[[[[[[[[[[[[[[[[[[[[[[[[[[[[[[[[[[[[[[[[[[[[[[[[[[[[[[]]]]]]]]]]]]]]]]]]]]]]]]]]]]]]]]]]]]]]]]]]]]]]]]]]]]]]]]]]]]]]]]]]]]]]]]]]]]]]]]]]]]]]]]]]]]]]]]]]]}"#,
+        0,
+        r#"{"dropped":true}"#,
+    ),
+    (
+        r#"{"raw":"leave","clientId":"B","moment":1,"other":[[[[[[[[[[[[[[[[[[[[[[[[[[[[[[[[[[[[[[[[[[[[[[[[[[[[[[[[[[[[[[[[[[[[[[[[[[[[[[[[[[[[[[[[[[[[[[[[[[[[]]]]]]]]]]]]]]]]]]]]]]]]]]]]]]]]]]]]]]]]]]]]]]]]]]]]]]]]]]]]]]]]]]]]]]]]]]]]]]]]]]]]]]]]]]]]]]]]]]]]}"#,
+        3,
+        "bad line 2: nested too deep",
     ),
 ];
 
@@ -376,13 +410,13 @@ fn each_entry_gets_its_verdict_line(rt: HostRuntime) -> Result<(), Fail> {
 }
 
 #[test]
-fn a_refused_line_ends_the_run_with_its_reason(rt: HostRuntime) -> Result<(), Fail> {
+fn a_second_line_gets_its_answer(rt: HostRuntime) -> Result<(), Fail> {
     let alloc = rt.alloc();
-    for (line, why) in REFUSED {
+    for (line, status, answer) in SECOND_LINES {
         let input = lines(alloc, JOIN, line)?;
         let ended = ran(&rt, &["sequence"], input.as_bytes())?;
-        let output = format!(in alloc; "{JOINED}\nbad line 2: {why}\n")?;
-        assert_eq!(rt; ended.status, 3, "{line}");
+        let output = lines(alloc, JOINED, answer)?;
+        assert_eq!(rt; ended.status, *status, "{line}");
         assert_eq!(rt; ended.output.as_str(), output.as_str());
     }
     Ok(())
@@ -427,28 +461,6 @@ fn a_line_that_is_no_text_is_refused_and_so_is_a_cut_one(rt: HostRuntime) -> Res
 }
 
 #[test]
-fn a_hundred_lists_are_read_and_one_more_is_too_deep(rt: HostRuntime) -> Result<(), Fail> {
-    let alloc = rt.alloc();
-    // The record itself is one of them.
-    for (depth, status) in [(99, 0), (100, 3)] {
-        let open = "[".repeat(alloc, depth)?;
-        let close = "]".repeat(alloc, depth)?;
-        let input = format!(in alloc;
-            "{{\"raw\":\"leave\",\"clientId\":\"A\",\"moment\":1,\"other\":{open}{close}}}"
-        )?;
-        let ended = ran(&rt, &["sequence"], input.as_bytes())?;
-        let output = if status == 0 {
-            "{\"dropped\":true}\n"
-        } else {
-            "bad line 1: nested too deep\n"
-        };
-        assert_eq!(rt; ended.status, status);
-        assert_eq!(rt; ended.output.as_str(), output);
-    }
-    Ok(())
-}
-
-#[test]
 fn each_fault_of_the_source_leaves_whole_lines(rt: HostRuntime) -> Result<(), Fail> {
     let alloc = rt.alloc();
     let input = lines(alloc, JOIN, JOIN)?;
@@ -481,24 +493,6 @@ fn a_line_that_was_read_before_the_source_failed_is_refused(rt: HostRuntime) -> 
         let ended = ran_in_pieces(&rt, &["sequence"], input.as_bytes(), 96, &[read], &[])?;
         assert_eq!(rt; ended.status, status, "{line}, read {read}");
         assert_eq!(rt; ended.output.as_str(), output, "{line}, read {read}");
-    }
-    Ok(())
-}
-
-#[test]
-fn a_name_has_at_most_64_bytes(rt: HostRuntime) -> Result<(), Fail> {
-    let alloc = rt.alloc();
-    for (length, status, output) in [
-        (64, 0, "{\"dropped\":true}\n"),
-        (65, 3, "bad line 1: bad field clientId: bad name\n"),
-    ] {
-        let name = "n".repeat(alloc, length)?;
-        let input = format!(in alloc;
-            "{{\"raw\":\"leave\",\"clientId\":\"{name}\",\"moment\":1}}\n"
-        )?;
-        let ended = ran(&rt, &["sequence"], input.as_bytes())?;
-        assert_eq!(rt; ended.status, status);
-        assert_eq!(rt; ended.output.as_str(), output);
     }
     Ok(())
 }
@@ -593,6 +587,134 @@ fn a_document_takes_no_more_than_its_limits(rt: HostRuntime) -> Result<(), Fail>
         let ended = sequence_within(&rt, alloc, &mut source, &mut sink, *entries, *clients);
         assert_eq!(rt; ended, *status);
         assert_eq!(rt; sink.written(), output.as_bytes());
+    }
+    Ok(())
+}
+
+// An input of more than two buffers, its output, and where each of its lines ends in both.
+#[derive(Drop)]
+struct Long {
+    input: String,
+    output: String,
+    ends: Vec<(usize, usize)>,
+}
+
+// A join, and then 140 operations of a thousand bytes each.
+fn long_input(alloc: Global) -> Result<Long, Fail> {
+    let wide = "w".repeat(alloc, 1_000)?;
+    let mut input = format!(in alloc; "{JOIN}\n")?;
+    let mut output = format!(in alloc; "{JOINED}\n")?;
+    let mut ends = Vec::new(alloc);
+    for number in 1..=140_u64 {
+        ends.push((input.len(), output.len()))?;
+        let sequence = number.saturating_add(1);
+        writeln!(
+            input,
+            r#"{{"raw":"submit","clientId":"A","moment":3,"operation":{{"clientSequenceNumber":{number},"contents":"{wide}","referenceSequenceNumber":1,"type":"op"}}}}"#
+        )?;
+        writeln!(
+            output,
+            r#"{{"sequenced":{{"clientId":"A","clientSequenceNumber":{number},"contents":"{wide}","minimumSequenceNumber":1,"referenceSequenceNumber":1,"sequenceNumber":{sequence},"timestamp":3,"type":"op"}}}}"#
+        )?;
+    }
+    ends.push((input.len(), output.len()))?;
+    Ok(Long {
+        input,
+        output,
+        ends,
+    })
+}
+
+#[test]
+fn a_long_input_is_answered_whole_or_as_far_as_it_was_read(rt: HostRuntime) -> Result<(), Fail> {
+    let long = long_input(rt.alloc())?;
+    let input = long.input.as_bytes();
+    // Each read gives a buffer of 64 KiB; the fourth tells the end, and a fifth there isn't.
+    for (read, bytes, status) in [
+        (1, 0, 4),
+        (2, 65_536, 4),
+        (3, 131_072, 4),
+        (4, usize::MAX, 4),
+        (5, usize::MAX, 0),
+    ] {
+        let mut length = 0;
+        for (end, answered) in &long.ends {
+            if *end <= bytes {
+                length = *answered;
+            }
+        }
+        let ended = ran_in_pieces(&rt, &["sequence"], input, usize::MAX, &[read], &[])?;
+        assert_eq!(rt; ended.status, status, "{read}");
+        assert_eq!(rt; ended.output.len(), length, "{read}");
+        assert!(rt;
+            long.output.as_str().starts_with(ended.output.as_str()),
+            "{read}"
+        );
+    }
+    Ok(())
+}
+
+#[test]
+fn a_long_output_stops_behind_the_pieces_that_were_written(rt: HostRuntime) -> Result<(), Fail> {
+    let alloc = rt.alloc();
+    let long = long_input(alloc)?;
+    // How much was written before each call of the sink: the lines go to it once they are 64 KiB, with two calls each time.
+    let mut written = Vec::new(alloc);
+    written.push(0)?;
+    let mut gone = 0_usize;
+    for (_, length) in &long.ends {
+        if length.saturating_sub(gone) >= 65_536 {
+            gone = *length;
+            written.push(gone)?;
+            written.push(gone)?;
+        }
+    }
+    written.push(long.output.len())?;
+    assert_eq!(rt; written.len(), 6);
+    let mut call = 0_u64;
+    for length in &written {
+        call = call.saturating_add(1);
+        let ended = ran_in_pieces(
+            &rt,
+            &["sequence"],
+            long.input.as_bytes(),
+            usize::MAX,
+            &[],
+            &[call],
+        )?;
+        assert_eq!(rt; ended.status, 5, "{call}");
+        assert_eq!(rt; ended.output.len(), *length, "{call}");
+        assert!(rt;
+            long.output.as_str().starts_with(ended.output.as_str()),
+            "{call}"
+        );
+    }
+    Ok(())
+}
+
+#[test]
+fn what_is_behind_a_refused_line_stays_in_the_source(rt: HostRuntime) -> Result<(), Fail> {
+    let alloc = rt.alloc();
+    let behind = "\n".repeat(alloc, 100_000)?;
+    let input = format!(in alloc; "7 8\n{behind}")?;
+    let mut words = Vec::new(alloc);
+    words.push(Text::copied(alloc, "sequence")?)?;
+    // Read byte by byte, or with one buffer of 64 KiB.
+    for (most, left) in [(1, 100_000), (usize::MAX, 34_468)] {
+        let bytes = Vec::from_slice(alloc, input.as_bytes())?;
+        let mut source = MemorySource::in_pieces(bytes, most.max(1), Vec::new(alloc));
+        let mut sink = MemorySink::new(alloc, Vec::new(alloc));
+        let status = run(&rt, alloc, &words, &mut source, &mut sink);
+        assert_eq!(rt; status, 3);
+        let mut count = 0_usize;
+        let mut piece = vec![in alloc; 0; 200_000]?;
+        for _ in 0..100_001 {
+            match source.read(&mut piece) {
+                Ok(more) => count = count.saturating_add(more),
+                Err(Failed) => count = 0,
+            }
+        }
+        assert_eq!(rt; count, left, "{most}");
     }
     Ok(())
 }
