@@ -96,11 +96,11 @@ keys_apart true true n m p q differ e = differ (append_cancel_right n m (47 ∷ 
 keys_apart false true n m p q differ e = let clash : false ≡ true = sym p ∙ ap has_slash e ∙ slashed m in cc
 keys_apart true false n m p q differ e = let clash : false ≡ true = sym q ∙ ap has_slash (sym e) ∙ slashed n in cc
 
-names_apart : (n m : List ℕ) → bytes_eq n m ≡ false → n ≢ m
+pub names_apart : (n m : List ℕ) → bytes_eq n m ≡ false → n ≢ m
 names_apart n m differ e = let same = (bytes_eq-Decides n m).1 e in let clash : false ≡ true = sym differ ∙ same in cc
 
 -- the first name isn't refused, nor are those behind it
-unrefused : (before : List (List ℕ)) (n : List ℕ) (ns : List (List ℕ)) → first_refused before (n ∷ ns) ≡ None → (is_refused before n ≡ false) × (first_refused (n ∷ before) ns ≡ None)
+pub unrefused : (before : List (List ℕ)) (n : List ℕ) (ns : List (List ℕ)) → first_refused before (n ∷ ns) ≡ None → (is_refused before n ≡ false) × (first_refused (n ∷ before) ns ≡ None)
 unfolding first_refused
 unrefused before n ns h = by_name (is_refused before n) h
   where

@@ -8,3 +8,4 @@ mod Stops
 mod Fetched
 mod Looked
 mod Stays
+mod Whole

@@ -148,7 +148,7 @@ pub not_complete : (held : Held) (trees : ℕ) (id : List ℕ) → object_at hel
 not_complete held zero id h = complete_blob held id ∙ ap is_whole_blob h
 not_complete held (suc n) id h = complete_more held n id ∙ ap (is_whole (is_complete held n)) h
 
-blob_complete : (held : Held) (trees : ℕ) (id content : List ℕ) → object_at held id ≡ Some (Blob content) → is_complete held trees id ≡ all_complete held trees []
+pub blob_complete : (held : Held) (trees : ℕ) (id content : List ℕ) → object_at held id ≡ Some (Blob content) → is_complete held trees id ≡ all_complete held trees []
 blob_complete held zero id content h = complete_blob held id ∙ ap is_whole_blob h
 blob_complete held (suc n) id content h = complete_more held n id ∙ ap (is_whole (is_complete held n)) h
 

@@ -24,7 +24,7 @@ none_refused None u h = refl
 none_refused (Some name) u h = cc
 
 -- what a tree's id tells of its nodes
-tree_within : (n : ℕ) (cs : Children) (i : List ℕ) → id_within (suc n) (tree cs) ≡ Ok i
+pub tree_within : (n : ℕ) (cs : Children) (i : List ℕ) → id_within (suc n) (tree cs) ≡ Ok i
     → (first_refused [] (names cs) ≡ None) × ((es : List ObjectEntry) × ((entries_within n cs ≡ Ok es) × (sha1 (tree_bytes es) ≡ i)))
 unfolding id_within
 tree_within n cs i h =
@@ -32,11 +32,11 @@ tree_within n cs i h =
     let b = goes (entries_within n cs) _ i a.1.1 in
     (none_refused (first_refused [] (names cs)) a.0 a.1.0, (b.0, (b.1.0, let e : sha1 (tree_bytes b.0) ≡ i = cc in e)))
 
-no_tree : (cs : Children) (i : List ℕ) → id_within zero (tree cs) ≡ Ok i → ⊥
+pub no_tree : (cs : Children) (i : List ℕ) → id_within zero (tree cs) ≡ Ok i → ⊥
 unfolding id_within
 no_tree cs i h = cc
 
-no_handle : (n : ℕ) (path : List (List ℕ)) (i : List ℕ) → id_within n (handle path) ≡ Ok i → ⊥
+pub no_handle : (n : ℕ) (path : List (List ℕ)) (i : List ℕ) → id_within n (handle path) ≡ Ok i → ⊥
 unfolding id_within
 no_handle zero path i h = cc
 no_handle (suc n) path i h = cc
@@ -46,7 +46,7 @@ unfolding id_within own_bytes
 blob_within zero content i h = let e : sha1 (object_bytes (Blob content)) ≡ i = cc in sym e
 blob_within (suc n) content i h = let e : sha1 (object_bytes (Blob content)) ≡ i = cc in sym e
 
-entry_within : (n : ℕ) (m : List ℕ) (s : Summary) (cs : Children) (es : List ObjectEntry) → entries_within n (child m s cs) ≡ Ok es
+pub entry_within : (n : ℕ) (m : List ℕ) (s : Summary) (cs : Children) (es : List ObjectEntry) → entries_within n (child m s cs) ≡ Ok es
     → (i : List ℕ) × ((id_within n s ≡ Ok i) × ((more : List ObjectEntry) × ((entries_within n cs ≡ Ok more) × (es ≡ record { name = m; tree = is_tree s; id = i } ∷ more))))
 unfolding entries_within
 entry_within n m s cs es h =
@@ -58,11 +58,11 @@ no_entries_within : (n : ℕ) (es : List ObjectEntry) → entries_within n no_ch
 unfolding entries_within own_entries
 no_entries_within n es h = cc
 
-own_of_tree : (cs : Children) → own_bytes (tree cs) ≡ tree_bytes (own_entries cs)
+pub own_of_tree : (cs : Children) → own_bytes (tree cs) ≡ tree_bytes (own_entries cs)
 unfolding own_bytes
 own_of_tree cs = refl
 
-own_of_child : (m : List ℕ) (s : Summary) (cs : Children) → own_entries (child m s cs) ≡ record { name = m; tree = is_tree s; id = sha1 (own_bytes s) } ∷ own_entries cs
+pub own_of_child : (m : List ℕ) (s : Summary) (cs : Children) → own_entries (child m s cs) ≡ record { name = m; tree = is_tree s; id = sha1 (own_bytes s) } ∷ own_entries cs
 unfolding own_entries
 own_of_child m s cs = refl
 
@@ -84,23 +84,23 @@ mutual
       let more = entries_are n cs w.1.1.0 w.1.1.1.0 in
       w.1.1.1.1 ∙ (λ k. record { name = m; tree = is_tree s; id = id k } ∷ more k) ∙ sym (own_of_child m s cs)
 
-objects_of_blob : (content : List ℕ) → objects (blob content) ≡ object_of (object_bytes (Blob content)) ∷ []
+pub objects_of_blob : (content : List ℕ) → objects (blob content) ≡ object_of (object_bytes (Blob content)) ∷ []
 unfolding objects own_bytes
 objects_of_blob content = refl
 
-own_of_blob : (content : List ℕ) → own_bytes (blob content) ≡ object_bytes (Blob content)
+pub own_of_blob : (content : List ℕ) → own_bytes (blob content) ≡ object_bytes (Blob content)
 unfolding own_bytes
 own_of_blob content = refl
 
-objects_of_tree : (cs : Children) → objects (tree cs) ≡ joined (in_key_order (keyed cs)) ++ object_of (own_bytes (tree cs)) ∷ []
+pub objects_of_tree : (cs : Children) → objects (tree cs) ≡ joined (in_key_order (keyed cs)) ++ object_of (own_bytes (tree cs)) ∷ []
 unfolding objects
 objects_of_tree cs = refl
 
-keyed_child : (m : List ℕ) (s : Summary) (cs : Children) → keyed (child m s cs) ≡ (sort_key (is_tree s) m, objects s) ∷ keyed cs
+pub keyed_child : (m : List ℕ) (s : Summary) (cs : Children) → keyed (child m s cs) ≡ (sort_key (is_tree s) m, objects s) ∷ keyed cs
 unfolding keyed
 keyed_child m s cs = refl
 
-none_own : own_entries no_children ≡ []
+pub none_own : own_entries no_children ≡ []
 unfolding own_entries
 none_own = refl
 

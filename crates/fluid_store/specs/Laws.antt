@@ -1,10 +1,14 @@
 -- What the definitions say of a store that grows, and of the smallest stores.
 use Rattle.std.specs.Prelude.{◌≡◌, ℕ, zero, ◌^◌, ◌<◌, ◌≤◌, List, length, true, false, Ok}
 use Rattle.std.specs.FinMap.{empty, insert}
+use Rattle.std.specs.Str.{IsUtf8}
+use Rattle.fluid_tree.specs.Identity.{id_answer}
 use Rattle.fluid_tree.specs.Object.{object_bytes}
-use Rattle.fluid_tree.specs.Summary.{Summary, blob, depth}
+use Rattle.fluid_tree.specs.Summary.{Summary, blob, tree, handle, Children, no_children, child, depth}
 use Rattle.fluid_tree.specs.declared.object.Object.TheVariants.{Blob}
 use Rattle.fluid_store.specs.Held.{Held, Keeps}
+use Rattle.fluid_store.specs.Keeping.{Holds}
+use Rattle.fluid_store.specs.Listed.{own_bytes, objects}
 use Rattle.fluid_store.specs.Standing.{Stands}
 use Rattle.fluid_store.specs.Complete.{is_complete}
 use Rattle.fluid_store.specs.Fetching.{fetched}
@@ -30,3 +34,18 @@ OneBlob =
 -- the node that is read under an id stands there, and has no more trees inside one another than it may
 abbrev pub IsFetchedStanding : Type 0
 IsFetchedStanding = (held : Held) (levels : ℕ) (id : List ℕ) (node : Summary) → Ok node ≡ fetched held levels id → Stands held id node × (depth node ≤ levels)
+
+-- each of its objects has fewer than 2 ^ 53 bytes, since a longer one isn't read, and each of its names is UTF-8
+abbrev mutual
+  pub IsReadable : Summary → Type 0
+  IsReadable (blob content) = length (own_bytes (blob content)) < 2 ^ 53
+  IsReadable (tree nodes) = (length (own_bytes (tree nodes)) < 2 ^ 53) × AllReadable nodes
+  IsReadable (handle path) = Unit {0}
+
+  pub AllReadable : Children → Type 0
+  AllReadable no_children = Unit {0}
+  AllReadable (child name node nodes) = IsUtf8 name × (IsReadable node × AllReadable nodes)
+
+-- a tree whose objects are held, as they are after it was uploaded, is complete under its id
+abbrev pub IsCompleteWhereHeld : Type 0
+IsCompleteWhereHeld = (held : Held) (node : Summary) (id : List ℕ) → id_answer node ≡ Ok id → Holds held (objects node) → IsReadable node → is_complete held 32 id ≡ true

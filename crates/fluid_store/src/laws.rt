@@ -1,6 +1,6 @@
 //! What holds of the definitions, said by functions that do nothing.
 
-ghost use Rattle.fluid_store.specs.Laws.{GoesOnStanding, IsFetchedStanding, NothingIsComplete, OneBlob, StaysComplete};
+ghost use Rattle.fluid_store.specs.Laws.{GoesOnStanding, IsCompleteWhereHeld, IsFetchedStanding, NothingIsComplete, OneBlob, StaysComplete};
 
 use fluid_tree::laws::{
     names_that_are_read_are_names, objects_are_read_back, only_objects_are_read,
@@ -34,4 +34,12 @@ pub fn what_is_fetched_stands()
 {
     only_objects_are_read();
     names_that_are_read_are_names();
+}
+
+/// A tree whose objects are held, as they are after it was uploaded, is complete under its id, if each of them has fewer
+/// than 2^53 bytes.
+pub fn what_is_uploaded_is_complete()
+    ensures { IsCompleteWhereHeld }
+{
+    objects_are_read_back();
 }
