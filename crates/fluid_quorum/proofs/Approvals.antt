@@ -1,5 +1,5 @@
 -- The proposals behind one more message: those whose number its minimum reaches are accepted.
-use Rattle.std.proofs.Common.{◌≡◌, ℕ, suc, ◌≤◌, arith, Bool, true, false, cond, not, nat_le, List, [], ◌∷◌, ◌++◌, map, filter, filter_map, fold, Option, Some, None, option_map, refl, sym, ap, ap₂, subst, ◌∙◌, append_assoc, append-nil}
+use Rattle.std.proofs.Common.{◌≡◌, ℕ, suc, ◌≤◌, arith, Bool, true, false, cond, not, nat_le, List, [], ◌∷◌, ◌++◌, map, filter, filter_map, fold, Option, Some, None, option_map, refl, sym, ap, ap₂, ◌∙◌, append_assoc, append-nil}
 use Rattle.std.specs.Prelude.{option_to_list, option_and_then, unwrap_or}
 use Rattle.std.specs.Option.{option_or}
 use Rattle.std.specs.List as list
@@ -17,7 +17,7 @@ use Rattle.fluid_types.specs.declared.messages.Kind.TheVariants as kind
 use Rattle.fluid_types.specs.declared.messages.Message.{Message}
 use Rattle.fluid_types.specs.declared.quorum.Proposal.{Proposal}
 use Rattle.fluid_types.specs.declared.quorum.Accepted.{Accepted}
-use Rattle.fluid_types.specs.Quorum.{Table, latest, of_propose, proposing, proposal_of, approval, proposals, is_pending, pending, is_accepted, values}
+use Rattle.fluid_types.specs.Quorum.{latest, of_propose, proposing, proposal_of, approval, proposals, is_pending, pending, is_accepted, values}
 use Rattle.fluid_quorum.specs.Order.{AreNumberedFrom, AreFirst}
 use Rattle.fluid_quorum.specs.After.{is_due, with_accepted}
 use Rattle.fluid_quorum.proofs.Standing.{latest-append}

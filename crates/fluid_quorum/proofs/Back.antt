@@ -1,18 +1,16 @@
 -- What is written of a quorum is read back.
-use Rattle.std.proofs.Common.{◌≡◌, ℕ, ◌<◌, ◌≤◌, arith, Bool, true, false, cond, T, pos, List, [], ◌∷◌, map, codes, Option, Some, None, Result, Ok, Err, nat_le, le-leb, bytes_eq, IsUtf8, IsTrue, refl, sym, ap, subst, ◌∙◌}
+use Rattle.std.proofs.Common.{◌≡◌, ℕ, ◌==◌, ◌≤◌, arith, Bool, true, false, if◌then◌else◌, T, List, [], ◌∷◌, map, Option, Some, Ok, le-leb, bytes_eq, IsUtf8, refl, sym, ap, subst, ◌∙◌}
 use Rattle.std.specs.Prelude.{option_and_then}
-use Rattle.std.specs.Result.{result_ok}
-use Rattle.std.specs.Ordering.{nat_cmp}
-use Rattle.std.specs.FinMap.{is_sorted, entries, entries-from_sorted}
+use Rattle.std.specs.FinMap.{entries-from_sorted}
 use Rattle.std.proofs.lemmas.Slice.Eq.{bytes_eq-Decides}
 use Rattle.std.proofs.lemmas.Str.{is_utf8-from_IsUtf8}
 use Rattle.fluid_table.specs.Table.{byte_order}
 use Rattle.fluid_table.specs.Keyed.{pairs_of}
-use Rattle.fluid_json.specs.Tree.{Tree, trees, list, IsCanonical, AreCanonical, depth, trees_depth}
+use Rattle.fluid_json.specs.Tree.{Tree, trees, IsCanonical, AreCanonical, depth, trees_depth}
 use Rattle.fluid_json.specs.Printed.{printed}
 use Rattle.fluid_json.specs.Spelled.{answer_stored}
 use Rattle.fluid_json.proofs.ReadBack.{answers_itself}
-use Rattle.fluid_types.specs.Names.{IsName, is_name}
+use Rattle.fluid_types.specs.Names.{IsName}
 use Rattle.fluid_types.specs.Texts.{name_of}
 use Rattle.fluid_types.specs.Forms.{largest}
 use Rattle.fluid_types.specs.declared.quorum.Member.{Member}
@@ -23,9 +21,8 @@ use Rattle.fluid_types.specs.Quorum.{Quorum}
 use Rattle.fluid_types.specs.Blobs.{attributes_tree, member_tree, proposal_tree, value_tree, list_tree, blob_text, blobs_of}
 use Rattle.fluid_quorum.specs.declared.accepting.KeyValue.{KeyValue}
 use Rattle.fluid_quorum.specs.Node.{node_of}
-use Rattle.fluid_quorum.specs.Kept.{members_of, values_of}
-use Rattle.fluid_quorum.specs.Reading.{attributes_form, member_form, members_form, proposal_form, proposals_form, value_form, values_form, each, said_by, text_in, as_utf8, attributes_in, members_in, proposals_in, values_in, answer}
-use Rattle.fluid_quorum.specs.Stored.{IsNumber, IsKept, MembersKept, ProposalsKept, ValuesKept, of_parts, IsStored}
+use Rattle.fluid_quorum.specs.Reading.{greatest_minimum, attributes_form, member_form, members_form, proposal_form, proposals_form, value_form, values_form, each, said_by, text_in, attributes_in, members_in, proposals_in, values_in, answer}
+use Rattle.fluid_quorum.specs.Stored.{IsNumber, MembersKept, ProposalsKept, ValuesKept, of_parts, IsStored}
 use Rattle.fluid_quorum.specs.Laws.{AreReadBack}
 use Rattle.fluid_quorum.proofs.Sorted.{its_own}
 
@@ -44,9 +41,9 @@ unfolding name_of
 value_read last v approval number =
     rw (le-leb 1 v.accepted.approval approval.least, le-leb v.accepted.approval last approval.most, le-leb 1 v.accepted.number number.least, le-leb v.accepted.number last number.most) refl
 
-attributes_read : (minimum last : ℕ) → minimum ≤ largest → last ≤ largest → attributes_form (attributes_tree minimum last) ≡ Some (minimum, last)
+attributes_read : (minimum last : ℕ) → minimum ≤ greatest_minimum last → last ≤ largest → attributes_form (attributes_tree minimum last) ≡ Some (minimum, last)
 unfolding name_of
-attributes_read minimum last a b = rw (le-leb 0 minimum (omega arith), le-leb minimum largest a, le-leb 0 last (omega arith), le-leb last largest b) refl
+attributes_read minimum last a b = rw (le-leb 0 last (omega arith), le-leb last largest b, le-leb 0 minimum (omega arith), le-leb minimum (greatest_minimum last) a) refl
 
 members_read : (last : ℕ) (ms : List Member) → MembersKept last ms → each (member_form last) (trees (map member_tree ms)) ≡ Some ms
 members_read last [] h = refl
@@ -86,6 +83,10 @@ values_fit last (v ∷ vs) fits h =
       omega (arith, h.0.1.1.shallow, rest.1),
     )
 
+least_fits : (none : Bool) (minimum : ℕ) → minimum ≤ (if none then 0 else largest) → minimum ≤ largest
+least_fits true minimum h = omega (arith, h)
+least_fits false minimum h = h
+
 attributes_fit : (minimum last : ℕ) → minimum ≤ largest → last ≤ largest → IsCanonical (attributes_tree minimum last)
 unfolding name_of
 attributes_fit minimum last a b = ((refl, tt), (omega (arith, a), (tt, (omega (arith, b), tt))))
@@ -121,7 +122,7 @@ module _ (minimum last : ℕ) (ms : List Member) (ps : List Proposal) (vs : List
   unfolding blob_text
   attributes_back =
       there whole blob.Attributes attributes_form (λ a. attributes_tree a.0 a.1) (minimum, last) (stored.utf8 blob.Attributes) refl (attributes_read minimum last stored.minimum_fits stored.number_fits)
-      (attributes_fit minimum last stored.minimum_fits stored.number_fits) (omega arith)
+      (attributes_fit minimum last (least_fits (last == 0) minimum stored.minimum_fits) stored.number_fits) (omega arith)
 
   members_back : option_and_then (λ s. said_by (members_form last) (list_tree member_tree) s) (text_in (node_of whole) blob.Members) ≡ Some ms
   unfolding blob_text

@@ -1,10 +1,10 @@
 -- Proposals in the order of their numbers: those that are due come first.
-use Rattle.std.proofs.Common.{◌≡◌, ℕ, zero, suc, ◌+◌, ◌<◌, ◌≤◌, arith, Bool, true, false, cond, not, nat_le, nat_lt, List, [], ◌∷◌, ◌++◌, length, take, drop, get_or, filter, All, refl, sym, ap, ap₂, ◌∙◌}
-use Rattle.std.specs.List.{AllWithin, AllPairs}
+use Rattle.std.proofs.Common.{◌≡◌, ℕ, zero, suc, ◌≤◌, arith, Bool, true, false, not, nat_le, nat_lt, List, [], ◌∷◌, length, take, drop, get_or, filter, refl, sym, ap}
+use Rattle.std.specs.List.{AllWithin}
 use Rattle.std.specs.List.Sorted.{IsPartitionedBy}
 use Rattle.fluid_types.specs.declared.quorum.Proposal.{Proposal}
 use Rattle.fluid_quorum.specs.After.{is_due}
-use Rattle.fluid_quorum.specs.Kept.{AreRising, AreUpTo}
+use Rattle.fluid_quorum.specs.Kept.{AreRising}
 
 none_pass : {X : Type 0} (p : X → Bool) (xs : List X) → AllWithin (λ x. p x ≡ false) xs 0 (length xs) → (filter p xs ≡ []) × (filter (λ x. not (p x)) xs ≡ xs)
 none_pass p [] h = (refl, refl)

@@ -1,6 +1,6 @@
 -- Reading the items of a list, and what their numbers are.
 use Rattle.std.specs.declared.cmp.Ordering.TheVariants.{Less}
-use Rattle.std.proofs.Common.{◌≡◌, ℕ, ℤ, pos, negsuc, zero, suc, ◌+◌, ◌<◌, ◌≤◌, arith, Bool, true, false, cond, ◌&&◌, T, IsTrue, nat_le, List, [], ◌∷◌, ◌++◌, length, get_or, map, All, Option, Some, None, option_map, refl, sym, ap, subst, ◌∙◌, append_assoc, append-nil}
+use Rattle.std.proofs.Common.{◌≡◌, ℕ, ℤ, pos, negsuc, zero, suc, ◌≤◌, arith, Bool, true, false, cond, ◌&&◌, T, nat_le, List, [], ◌∷◌, ◌++◌, get_or, map, Option, Some, None, option_map, refl, sym, ap, subst, append_assoc}
 use Rattle.std.specs.Prelude.{option_and_then, unwrap_or, IsUtf8}
 use Rattle.std.specs.Str.{is_utf8}
 use Rattle.std.proofs.lemmas.Str.{is_utf8-from_IsUtf8, IsUtf8-from_is_utf8}
@@ -11,7 +11,6 @@ use Rattle.std.proofs.lemmas.List.{length-map}
 use Rattle.fluid_json.specs.Tree as json
 use Rattle.fluid_json.specs.Tree.{Tree, Trees, no_trees, tree, trees, as_whole, as_text}
 use Rattle.fluid_types.specs.Texts.{name_of}
-use Rattle.fluid_types.specs.declared.fault.Field.{Field}
 use Rattle.fluid_types.specs.declared.fault.Field.TheVariants as field
 use Rattle.fluid_types.specs.declared.quorum.Proposal.{Proposal}
 use Rattle.fluid_table.proofs.Ordered.{rises}

@@ -5,6 +5,7 @@ mod Due
 mod Taken
 mod Objects
 mod Sorted
+mod Written
 mod Forms
 mod Read
 mod Back

@@ -1,9 +1,8 @@
 -- What is read of blobs is what is written of them.
-use Rattle.std.proofs.Common.{◌≡◌, ℕ, Bool, true, false, cond, T, List, [], ◌∷◌, map, Option, Some, None, Result, Ok, Err, bytes_eq, refl, sym, ap, subst, ◌∙◌}
+use Rattle.std.proofs.Common.{◌≡◌, ℕ, Bool, true, false, cond, T, List, map, Option, Some, None, Result, Ok, bytes_eq, refl, sym, ap, subst, ◌∙◌}
 use Rattle.std.specs.Prelude.{option_and_then, unwrap_or}
 use Rattle.std.specs.Result.{result_ok, result_unwrap_or}
-use Rattle.std.specs.FinMap.{entries-from_sorted, entries, is_sorted}
-use Rattle.std.specs.FinMap as table
+use Rattle.std.specs.FinMap.{entries-from_sorted, is_sorted}
 use Rattle.std.proofs.lemmas.Slice.Eq.{bytes_eq-Decides}
 use Rattle.fluid_table.specs.Table.{byte_order}
 use Rattle.fluid_table.specs.Keyed.{pairs_of}
@@ -20,7 +19,7 @@ use Rattle.fluid_types.specs.Quorum.{Quorum}
 use Rattle.fluid_types.specs.Blobs.{blob_text, attributes_tree, member_tree, proposal_tree, value_tree, list_tree}
 use Rattle.fluid_quorum.specs.declared.accepting.KeyValue.{KeyValue}
 use Rattle.fluid_quorum.specs.Kept.{members_of, values_of}
-use Rattle.fluid_quorum.specs.Reading.{text_in, said_by, attributes_form, member_form, members_form, proposal_form, proposals_form, value_form, values_form, each, attributes_in, members_in, proposals_in, values_in, or_bad, answer}
+use Rattle.fluid_quorum.specs.Reading.{text_in, said_by, attributes_form, member_form, members_form, proposals_form, value_form, values_form, each, attributes_in, members_in, proposals_in, values_in, or_bad, answer}
 use Rattle.fluid_quorum.specs.Laws.{IsOnlyBlobs}
 use Rattle.fluid_quorum.proofs.Sorted.{its_own}
 

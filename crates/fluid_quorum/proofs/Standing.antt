@@ -3,10 +3,9 @@ use Rattle.std.proofs.Common.{◌≡◌, ℕ, Bool, true, false, cond, not, ◌|
 use Rattle.std.specs.Prelude.{option_to_list}
 use Rattle.std.specs.List.{list_any}
 use Rattle.std.specs.Ordering.{eq_by_cmp}
-use Rattle.std.specs.Cmp.{IsTotalOrder, alike_right}
 use Rattle.std.specs.Cmp.Lexicographic.{nat_list_cmp_total}
 use Rattle.std.specs.FinMap as table
-use Rattle.std.specs.FinMap.{empty, insert, remove, get, get-remove, same_map, IsAntisymmetric, nat_cmp-IsAntisymmetric, slice_cmp-IsAntisymmetric}
+use Rattle.std.specs.FinMap.{insert, remove, get-remove, same_map, IsAntisymmetric, nat_cmp-IsAntisymmetric, slice_cmp-IsAntisymmetric}
 use Rattle.std.specs.FinMap.Entries.{find, find-where_key}
 use Rattle.std.proofs.lemmas.Map.Text.{is_eq-slice_cmp}
 use Rattle.std.proofs.lemmas.List.{reverse-append}
@@ -15,7 +14,7 @@ use Rattle.std.proofs.lemmas.List.Folds.{list_any-append}
 use Rattle.fluid_table.specs.Table.{byte_order}
 use Rattle.fluid_types.specs.declared.messages.Message.{Message}
 use Rattle.fluid_types.specs.declared.quorum.Member.{Member}
-use Rattle.fluid_types.specs.Quorum.{Table, latest, member_of, left_by, leaves, unless_left, standing, members}
+use Rattle.fluid_types.specs.Quorum.{latest, member_of, left_by, leaves, unless_left, standing, members}
 use Rattle.fluid_types.proofs.Tables.{get-latest}
 use Rattle.fluid_quorum.specs.After.{without, with_member}
 

@@ -1,5 +1,5 @@
 -- The records of a quorum as tuples of their parts.
-use Rattle.std.specs.Prelude.{◌≡◌, ℕ, List, refl}
+use Rattle.std.specs.Prelude.{ℕ, List, refl}
 use Rattle.std.specs.Coded.{Coded, code_by, coded×, coded_ℕ, coded_list}
 use Rattle.std.specs.FinMap.{code}
 use Rattle.fluid_json.specs.Tree.{Tree}

@@ -1,7 +1,6 @@
 -- The quorum that the four blobs of a tree say, or the first of them that is missing or outside its form. A blob is in its
 -- form where its text is the one that is printed for what it says.
-use Rattle.std.specs.Prelude.{ℕ, ℤ, pos, negsuc, nat_le, ◌&&◌, List, [], ◌∷◌, map, Option, Some, None, option_map, option_and_then, Result, Ok, Err, if◌then◌else◌, bytes_eq}
-use Rattle.std.specs.Option.{ok_or}
+use Rattle.std.specs.Prelude.{ℕ, ℤ, pos, negsuc, ◌==◌, nat_le, ◌&&◌, List, [], ◌∷◌, map, Option, Some, None, option_and_then, Result, Ok, Err, if◌then◌else◌, bytes_eq}
 use Rattle.std.specs.Result.{result_ok}
 use Rattle.std.specs.Str.{is_utf8}
 use Rattle.std.specs.Ordering.{nat_cmp}
@@ -70,11 +69,15 @@ text_at f t = do
   value ← json.find (name_of f) t
   as_text value
 
+-- the greatest minimum behind so many messages: 0 where there is none
+abbrev pub greatest_minimum : ℕ → ℕ
+greatest_minimum number = if number == 0 then 0 else largest
+
 -- the minimum, and the number of messages
 abbrev pub attributes_form : Tree → Option (ℕ × ℕ)
 attributes_form t = do
-  minimum ← count_at field.MinimumSequenceNumber 0 largest t
   number ← count_at field.SequenceNumber 0 largest t
+  minimum ← count_at field.MinimumSequenceNumber 0 (greatest_minimum number) t
   Some (minimum, number)
 
 -- the numbers that the other blobs name are those of the messages, from 1 to the last one's

@@ -1,7 +1,6 @@
 -- The tokens of members and items.
-use Rattle.std.specs.Prelude.{ℕ, List, [], ◌∷◌, ◌++◌}
+use Rattle.std.specs.Prelude.{List, [], ◌∷◌, ◌++◌}
 use Rattle.json.specs.Token.{Token, key}
-use Rattle.fluid_json.specs.Tree.{Tree}
 use Rattle.fluid_json.specs.Tokens.{tokens_of}
 use Rattle.fluid_types.specs.Printed.{Row}
 

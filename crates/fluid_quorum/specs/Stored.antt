@@ -1,6 +1,6 @@
 -- What is kept in the texts of a quorum and read back from them: names, numbers of the first messages, and values that
 -- aren't too deep. Contracts see a text as a list of numbers, so that the texts are UTF-8 has to be said.
-use Rattle.std.specs.Prelude.{◌≡◌, ℕ, ◌≤◌, List, [], ◌∷◌, map, IsUtf8, IsTrue}
+use Rattle.std.specs.Prelude.{ℕ, ◌≤◌, List, [], ◌∷◌, map, IsTrue}
 use Rattle.std.specs.Ordering.{nat_cmp}
 use Rattle.std.specs.FinMap.{is_sorted}
 use Rattle.fluid_json.specs.Tree.{Tree, IsCanonical, depth}
@@ -8,10 +8,10 @@ use Rattle.fluid_types.specs.Forms.{largest}
 use Rattle.fluid_types.specs.Names.{IsName}
 use Rattle.fluid_types.specs.declared.quorum.Member.{Member}
 use Rattle.fluid_types.specs.declared.quorum.Proposal.{Proposal}
-use Rattle.fluid_types.specs.declared.quorum.QuorumBlob.{QuorumBlob}
 use Rattle.fluid_types.specs.Quorum.{Quorum}
-use Rattle.fluid_types.specs.Blobs.{blob_text}
 use Rattle.fluid_quorum.specs.declared.accepting.KeyValue.{KeyValue}
+use Rattle.fluid_quorum.specs.Reading.{greatest_minimum}
+use Rattle.fluid_quorum.specs.Node.{AreTexts}
 use Rattle.fluid_quorum.specs.Kept.{members_of, values_of, IsInIdOrder, IsInKeyOrder}
 
 -- the number of one of the first messages
@@ -41,7 +41,7 @@ abbrev pub of_parts : ℕ → ℕ → List Member → List Proposal → List Key
 of_parts minimum last ms ps vs = record { number = last; minimum = minimum; members = members_of ms; pending = ps; values = values_of vs }
 
 pub record IsStored (minimum last : ℕ) (ms : List Member) (ps : List Proposal) (vs : List KeyValue) : Type 0 where
-  pub minimum_fits : minimum ≤ largest
+  pub minimum_fits : minimum ≤ greatest_minimum last
   pub number_fits : last ≤ largest
   pub members : MembersKept last ms
   pub proposals : ProposalsKept last ps
@@ -49,4 +49,4 @@ pub record IsStored (minimum last : ℕ) (ms : List Member) (ps : List Proposal)
   pub ids : IsInIdOrder ms
   pub numbers : IsTrue (is_sorted nat_cmp (map (λ p. (p.number, p)) ps))
   pub keys : IsInKeyOrder vs
-  pub utf8 : (b : QuorumBlob) → IsUtf8 (blob_text (of_parts minimum last ms ps vs) b)
+  pub utf8 : AreTexts (of_parts minimum last ms ps vs)

@@ -6,7 +6,7 @@ use fluid_types::Member;
 use std::alloc::Global;
 use std::marker::Model;
 
-/// The members of a quorum, in byte order of their ids.
+/// Members, in the order of their list: those of a quorum stand in byte order of their ids.
 #[derive(Drop)]
 pub struct Members {
     pub(crate) list: Vec<Member>,
@@ -26,19 +26,21 @@ impl Model for Members {
 }
 
 impl Members {
-    /// Members that stand in byte order of their ids.
+    /// The members of this list, which is taken as it is. Takes no memory.
     pub fn from_vec(list: Vec<Member>) -> Members
         ensures { result ≡ list.items }
     {
         Members { list }
     }
 
+    /// The list.
     pub fn as_slice(&self) -> &[Member]
         ensures { result.now ≡ self.now }
     {
         self.list.as_slice()
     }
 
+    /// The list, given away.
     pub fn into_vec(self) -> Vec<Member>
         ensures { result.items ≡ self }
     {

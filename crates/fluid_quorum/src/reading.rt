@@ -132,8 +132,9 @@ fn count_at(value: &Json, field: Field, low: u64, high: u64) -> Option<u64>
 fn attributes_of(value: &Json) -> Option<(u64, u64)>
     ensures { result ≡ attributes_form value.now }
 {
-    let minimum = count_at(value, Field::MinimumSequenceNumber, 0, LARGEST)?;
     let number = count_at(value, Field::SequenceNumber, 0, LARGEST)?;
+    let most = if number == 0 { 0 } else { LARGEST };
+    let minimum = count_at(value, Field::MinimumSequenceNumber, 0, most)?;
     Some((minimum, number))
 }
 

@@ -190,45 +190,6 @@ fn who_leaves_and_joins_again_is_in_by_the_later_join(rt: HostRuntime) -> Result
     Ok(())
 }
 
-fn content<'a>(tree: &'a Node, place: usize) -> Option<&'a str> {
-    let entries = tree.as_tree()?;
-    let (_, node) = entries.get(place)?;
-    let bytes = node.as_blob()?;
-    str::from_utf8(bytes).ok()
-}
-
-#[test]
-fn the_blobs_are_the_texts_of_the_quorum(rt: HostRuntime) -> Result<(), Fail> {
-    let alloc = rt.alloc();
-    let mut quorum = joined(alloc)?;
-    let first = message(alloc, Kind::Propose, 7, 5, CODE)?;
-    take(alloc, &mut quorum, &first)?;
-    let second = message(
-        alloc,
-        Kind::Propose,
-        8,
-        7,
-        "{\"key\":\"mode\",\"value\":[1]}",
-    )?;
-    take(alloc, &mut quorum, &second)?;
-    let tree = quorum.to_blobs(alloc)?;
-    for (place, wanted) in [
-        (0, "{\"minimumSequenceNumber\":7,\"sequenceNumber\":8}"),
-        (
-            1,
-            "[{\"clientId\":\"a\",\"detail\":null,\"sequenceNumber\":2},{\"clientId\":\"b\",\"detail\":2,\"sequenceNumber\":4}]",
-        ),
-        (2, "[{\"key\":\"mode\",\"sequenceNumber\":8,\"value\":[1]}]"),
-        (
-            3,
-            "[{\"approvalSequenceNumber\":8,\"key\":\"code\",\"sequenceNumber\":7,\"value\":\"v2\"}]",
-        ),
-    ] {
-        assert_eq!(rt; content(&tree, place), Some(wanted), "{place}");
-    }
-    Ok(())
-}
-
 fn blob(alloc: Global, entries: &mut Entries, name: &str, content: &str) -> Result<(), NoMemory> {
     let name = Text::copied(alloc, name)?;
     let content = Bytes::copied(alloc, content.as_bytes())?;
@@ -268,22 +229,93 @@ const GOOD: [&str; 4] = [
     "[{\"approvalSequenceNumber\":8,\"key\":\"code\",\"sequenceNumber\":7,\"value\":\"v2\"}]",
 ];
 
+fn content<'a>(tree: &'a Node, place: usize) -> Option<&'a str> {
+    let entries = tree.as_tree()?;
+    let (_, node) = entries.get(place)?;
+    let bytes = node.as_blob()?;
+    str::from_utf8(bytes).ok()
+}
+
+// A quorum of two members, a pending proposal and a value, as in `GOOD`.
+fn eight(alloc: Global) -> Result<Quorum, NoMemory> {
+    let mut quorum = joined(alloc)?;
+    let first = message(alloc, Kind::Propose, 7, 5, CODE)?;
+    take(alloc, &mut quorum, &first)?;
+    let second = message(
+        alloc,
+        Kind::Propose,
+        8,
+        7,
+        "{\"key\":\"mode\",\"value\":[1]}",
+    )?;
+    take(alloc, &mut quorum, &second)?;
+    Ok(quorum)
+}
+
 #[test]
-fn blobs_are_read_back(rt: HostRuntime) -> Result<(), Fail> {
+fn the_blobs_are_the_texts_of_the_quorum_and_are_read_back(rt: HostRuntime) -> Result<(), Fail> {
     let alloc = rt.alloc();
-    let tree = tree(alloc, GOOD, 4)?;
-    let quorum = Quorum::from_blobs(alloc, &tree)
+    let quorum = eight(alloc)?;
+    let written = quorum.to_blobs(alloc)?;
+    let read = Quorum::from_blobs(alloc, &written)
         .ok()
         .expect(&rt, "a quorum");
-    let copy = quorum.copy(alloc)?;
-    assert_eq!(rt;
-        (copy.number(), copy.minimum(), copy.pending().len()),
-        (8, 7, 1)
-    );
-    assert_eq!(rt;
-        (number_of(&copy, "b"), accepted(&copy, "code")),
-        (Some(4), Some((7, 8)))
-    );
+    let again = read.to_blobs(alloc)?;
+    let copy = read.copy(alloc)?;
+    let copied = copy.to_blobs(alloc)?;
+    for place in 0..4 {
+        assert_eq!(rt; content(&written, place), Some(GOOD[place]), "{place}");
+        assert_eq!(rt; content(&again, place), Some(GOOD[place]), "{place}");
+        assert_eq!(rt; content(&copied, place), Some(GOOD[place]), "{place}");
+    }
+    Ok(())
+}
+
+const EMPTY: [&str; 4] = [
+    "{\"minimumSequenceNumber\":0,\"sequenceNumber\":0}",
+    "[]",
+    "[]",
+    "[]",
+];
+
+#[test]
+fn the_quorum_of_no_messages_is_read(rt: HostRuntime) -> Result<(), Fail> {
+    let alloc = rt.alloc();
+    let tree = tree(alloc, EMPTY, 4)?;
+    let name = fault(alloc, &tree)?;
+    assert_eq!(rt; name.as_str(), "");
+    Ok(())
+}
+
+// A tree whose blob at this place is another node.
+fn tree_with(alloc: Global, place: usize, node: Node) -> Result<Node, NoMemory> {
+    let mut entries = Entries::new(alloc);
+    let name = Text::copied(alloc, NAMES[place])?;
+    entries.push(name, node)?;
+    for other in 0..4 {
+        if other != place {
+            blob(alloc, &mut entries, NAMES[other], GOOD[other])?;
+        }
+    }
+    Ok(Node::tree(entries))
+}
+
+#[test]
+fn a_node_that_is_no_blob_of_text_is_named(rt: HostRuntime) -> Result<(), Fail> {
+    let alloc = rt.alloc();
+    let no_tree = Node::blob(Bytes::copied(alloc, b"[]")?);
+    let name = fault(alloc, &no_tree)?;
+    assert_eq!(rt; name.as_str(), NAMES[0]);
+    for place in 0..4 {
+        let no_text = Node::blob(Bytes::copied(alloc, &[0x5b, 0xff, 0x5d])?);
+        let tree = tree_with(alloc, place, no_text)?;
+        let name = fault(alloc, &tree)?;
+        assert_eq!(rt; name.as_str(), NAMES[place]);
+        let no_blob = Node::tree(Entries::new(alloc));
+        let tree = tree_with(alloc, place, no_blob)?;
+        let name = fault(alloc, &tree)?;
+        assert_eq!(rt; name.as_str(), NAMES[place]);
+    }
     Ok(())
 }
 
@@ -307,6 +339,8 @@ fn a_blob_outside_its_form_is_named(rt: HostRuntime) -> Result<(), Fail> {
             0,
             "{\"minimumSequenceNumber\":7,\"sequenceNumber\":9007199254740992}",
         ),
+        (0, "{\"minimumSequenceNumber\":5,\"sequenceNumber\":0}"),
+        (0, "{\"sequenceNumber\":8}"),
         (0, "[]"),
         (
             1,
@@ -322,7 +356,21 @@ fn a_blob_outside_its_form_is_named(rt: HostRuntime) -> Result<(), Fail> {
             2,
             "[{\"key\":\"mode\",\"sequenceNumber\":8,\"value\":[1]},{\"key\":\"mode\",\"sequenceNumber\":8,\"value\":[1]}]",
         ),
+        (2, "[{\"key\":\"mode\",\"sequenceNumber\":8}]"),
+        (2, "[{\"key\":1,\"sequenceNumber\":8,\"value\":[1]}]"),
         (3, "not JSON"),
+        (
+            3,
+            "[{\"approvalSequenceNumber\":8,\"sequenceNumber\":7,\"value\":\"v2\"}]",
+        ),
+        (
+            3,
+            "[{\"approvalSequenceNumber\":9,\"key\":\"code\",\"sequenceNumber\":7,\"value\":\"v2\"}]",
+        ),
+        (
+            3,
+            "[{\"approvalSequenceNumber\":8,\"key\":\"mode\",\"sequenceNumber\":7,\"value\":1},{\"approvalSequenceNumber\":8,\"key\":\"code\",\"sequenceNumber\":7,\"value\":1}]",
+        ),
         (
             3,
             "[{\"approvalSequenceNumber\":8,\"key\":\"code\",\"sequenceNumber\":0,\"value\":\"v2\"}]",

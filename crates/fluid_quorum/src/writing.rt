@@ -1,5 +1,5 @@
 // The four blobs in which a summary keeps a quorum.
-ghost use Rattle.std.specs.Prelude.{◌≡◌, ◌++◌, [], ◌∷◌, IfOk, OnOk, map};
+ghost use Rattle.std.specs.Prelude.{◌≡◌, ◌++◌, [], ◌∷◌, IfOk, OnOk, IsUtf8, map};
 ghost use Rattle.fluid_json.specs.Tree.{text};
 ghost use Rattle.fluid_tree.specs.Summary.{blob as leaf};
 ghost use Rattle.fluid_json.specs.Tokens.{tokens_of};
@@ -9,7 +9,7 @@ ghost use Rattle.fluid_types.specs.Words.{blob_word};
 ghost use Rattle.fluid_types.specs.Blobs.{attributes_tree, member_tree, proposal_tree, value_tree, list_tree};
 ghost use Rattle.fluid_table.specs.Keyed.{pairs_of};
 ghost use Rattle.fluid_quorum.specs.Rows.{row_tokens};
-ghost use Rattle.fluid_quorum.specs.Node.{node_of};
+ghost use Rattle.fluid_quorum.specs.Node.{node_of, AreTexts};
 
 use crate::accepting::KeyValue;
 use crate::quorum::Quorum;
@@ -21,7 +21,8 @@ use std::alloc::Global;
 impl Quorum {
     /// The tree of the four blobs, in the order of their names.
     pub fn to_blobs(&self, alloc: Global) -> Result<Node, NoMemory>
-        ensures { IfOk result (λ node. node ≡ node_of self.now) }
+        ensures node { IfOk result (λ node. node ≡ node_of self.now) }
+        ensures texts { IfOk result (λ _. AreTexts self.now) }
     {
         let attributes = print_attributes(alloc, self.minimum, self.number)?;
         let members = print_members(alloc, self.members.as_slice())?;
@@ -43,7 +44,8 @@ fn put_blob(
     blob: QuorumBlob,
     content: Text,
 ) -> Result<(), NoMemory>
-    ensures { OnOk result (entries.new ≡ entries.old ++ (blob_word blob, leaf content) ∷ []) }
+    ensures entries { OnOk result (entries.new ≡ entries.old ++ (blob_word blob, leaf content) ∷ []) }
+    ensures text { OnOk result (IsUtf8 content) }
 {
     let name = Text::copied(alloc, blob.word())?;
     let node = Node::blob(Bytes::new(content.into_string().into_bytes()));

@@ -1,8 +1,7 @@
-use Rattle.std.proofs.Common.{◌≡◌, List, [], ◌∷◌, ◌++◌, map, refl, ap, sym, ◌∙◌}
+use Rattle.std.proofs.Common.{◌++◌, map, ap, sym, ◌∙◌}
 use Rattle.std.proofs.lemmas.List.{drop_all}
-use Rattle.fluid_json.specs.Tree.{list, trees}
+use Rattle.fluid_json.specs.Tree.{trees}
 use Rattle.fluid_json.specs.Tokens.{trees_tokens}
-use Rattle.fluid_json.specs.Printed.{printed}
 use Rattle.fluid_types.specs.Blobs.{member_tree, list_tree}
 use Rattle.fluid_quorum.proofs.writing.print_members.Goals as goal
 

@@ -1,7 +1,7 @@
-use Rattle.std.proofs.Common.{rules, ◌≡◌, ◌+◌, [], ◌∷◌, ◌++◌, not, filter, fold, arith, sym, ap, subst, ◌∙◌}
+use Rattle.std.proofs.Common.{rules, ◌≡◌, ◌+◌, [], ◌∷◌, ◌++◌, not, filter, fold, arith, sym, subst}
 use Rattle.std.specs.Prelude.{option_to_list}
 use Rattle.fluid_types.specs.Quorum.{member_of, left_by, proposal_of}
-use Rattle.fluid_quorum.specs.After.{is_due, with_member, without, with_accepted, after}
+use Rattle.fluid_quorum.specs.After.{is_due, with_member, without, with_accepted}
 use Rattle.fluid_quorum.specs.Order.{StandsFor}
 use Rattle.fluid_quorum.specs.Kept.{AreRising, AreUpTo, members_of, values_of}
 use Rattle.fluid_quorum.proofs.Taken.{waiting-rising, waiting-bounded, left-rising, left-bounded, one_more, taken, stands-after}

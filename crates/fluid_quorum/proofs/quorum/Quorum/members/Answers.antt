@@ -1,4 +1,4 @@
-use Rattle.std.proofs.Common.{◌≡◌, ℕ, List, [], ◌∷◌, map, refl, sym, ap, subst, T, IsTrue, ◌∙◌}
+use Rattle.std.proofs.Common.{ℕ, List, map, sym, ap, subst, T, ◌∙◌}
 use Rattle.std.specs.FinMap.{entries-from_sorted}
 use Rattle.fluid_table.specs.Table.{byte_order}
 use Rattle.fluid_types.specs.declared.quorum.Member.{Member}

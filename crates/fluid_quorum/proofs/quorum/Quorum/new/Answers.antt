@@ -1,5 +1,4 @@
-use Rattle.std.proofs.Common.{◌≡◌, refl, ap, ◌∙◌, map}
-use Rattle.std.specs.FinMap.{from_sorted}
+use Rattle.std.proofs.Common.{refl, ap, ◌∙◌}
 use Rattle.fluid_table.specs.Table.{byte_order}
 use Rattle.fluid_table.proofs.Maps.{from_sorted_nothing}
 use Rattle.fluid_quorum.specs.Kept.{members_of, values_of}

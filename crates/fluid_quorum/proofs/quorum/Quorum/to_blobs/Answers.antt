@@ -1,32 +1,39 @@
-use Rattle.std.proofs.Common.{rules, ◌≡◌, ℕ, List, [], ◌∷◌, ◌++◌, map, refl, ap, sym, subst, T, ◌∙◌}
-use Rattle.std.specs.FinMap.{entries-from_sorted, entries}
+use Rattle.std.proofs.Common.{rules, ◌≡◌, [], ◌∷◌, IsUtf8, refl, ap, subst, ◌∙◌}
+use Rattle.std.specs.FinMap.{entries}
 use Rattle.std.specs.FinMap as table
-use Rattle.fluid_table.specs.Table.{byte_order}
-use Rattle.fluid_table.specs.Keyed.{pairs_of}
 use Rattle.fluid_json.specs.Printed.{printed}
-use Rattle.fluid_types.specs.declared.quorum.Member.{Member}
-use Rattle.fluid_tree.specs.Summary.{Summary, tree, children, blob}
+use Rattle.fluid_tree.specs.Summary.{tree, children, blob}
 use Rattle.fluid_types.specs.Words.{blob_word}
 use Rattle.fluid_types.specs.declared.quorum.QuorumBlob.TheVariants.{Attributes, Members, Proposals, Values}
 use Rattle.fluid_types.specs.Blobs.{attributes_tree, member_tree, proposal_tree, value_tree, list_tree, blobs_of, blob_text}
+use Rattle.fluid_table.specs.Keyed.{pairs_of}
 use Rattle.fluid_quorum.specs.Kept.{members_of, values_of}
-use Rattle.fluid_quorum.specs.Node.{node_of}
-use Rattle.fluid_quorum.proofs.Sorted.{its_own}
+use Rattle.fluid_quorum.specs.Node.{node_of, AreTexts}
+use Rattle.fluid_quorum.proofs.Written.{members_text, values_text, four_texts}
 use Rattle.fluid_quorum.proofs.quorum.Quorum.to_blobs.Goals as goal
 
-pub returns : goal.returns
+pub returns-clause-node : goal.returns-clause-node
 unfolding node_of blobs_of blob_text
-returns c =
+returns-clause-node c =
     let attributes : c.in_ok-attributes.attributes ≡ printed (attributes_tree c.self.inside.minimum c.self.inside.number) = search rules in
     let members : c.in_ok-members.members ≡ printed (list_tree member_tree (table.values (members_of c.self.inside.members))) =
-    c.in_ok-members.ensures
-    ∙ ap (λ ms. printed (list_tree member_tree ms))
-    (c.as_slice.ensures ∙ its_own c.self.inside.members ∙ ap (map (λ (e : List ℕ × Member). e.1)) (sym (entries-from_sorted byte_order (pairs_of (λ m. m.id) (λ m. m) c.self.inside.members) (subst T (sym c.self.invariant.0) tt)))) in
+    c.in_ok-members.ensures ∙ ap (λ ms. printed (list_tree member_tree ms)) c.as_slice.ensures ∙ members_text c.self.inside.members c.self.invariant.0 in
     let proposals : c.in_ok-proposals.proposals ≡ printed (list_tree proposal_tree c.self.inside.pending.items) = search rules in
     let values : c.in_ok-values.values ≡ printed (list_tree value_tree (entries (values_of c.self.inside.values.items))) =
-    c.in_ok-values.ensures
-    ∙ ap (λ vs. printed (list_tree value_tree vs))
-    (ap (pairs_of (λ v. v.key) (λ v. v.accepted)) c.deref-2.ensures.value ∙ sym (entries-from_sorted byte_order (pairs_of (λ v. v.key) (λ v. v.accepted) c.self.inside.values.items) (subst T (sym c.self.invariant.1.0) tt))) in
+    c.in_ok-values.ensures ∙ ap (λ vs. printed (list_tree value_tree (pairs_of (λ v. v.key) (λ v. v.accepted) vs))) c.deref-2.ensures.value ∙ values_text c.self.inside.values.items c.self.invariant.1.0 in
     let all : c.put_blob-4.new.entries ≡ (blob_word Attributes, blob c.in_ok-attributes.attributes) ∷ (blob_word Members, blob c.in_ok-members.members) ∷ (blob_word Proposals, blob c.in_ok-proposals.proposals) ∷ (blob_word Values, blob c.in_ok-values.values) ∷ [] =
-    c.in_ok-put_blob-4.ensures ∙ rw (c.in_ok-put_blob-3.ensures, c.in_ok-put_blob-2.ensures, c.in_ok-put_blob.ensures, c.new-entries.ensures) refl in
+    c.in_ok-put_blob-4.ensures.entries ∙ rw (c.in_ok-put_blob-3.ensures.entries, c.in_ok-put_blob-2.ensures.entries, c.in_ok-put_blob.ensures.entries, c.new-entries.ensures) refl in
     rw (← c.self.view_is) (c.tree.ensures ∙ ap (λ es. tree (children es)) all ∙ rw (attributes, members, proposals, values) refl)
+
+pub returns-clause-texts : goal.returns-clause-texts
+unfolding blob_text
+returns-clause-texts c =
+    let attributes : c.in_ok-attributes.attributes ≡ printed (attributes_tree c.self.inside.minimum c.self.inside.number) = search rules in
+    let members : c.in_ok-members.members ≡ printed (list_tree member_tree (table.values (members_of c.self.inside.members))) =
+    c.in_ok-members.ensures ∙ ap (λ ms. printed (list_tree member_tree ms)) c.as_slice.ensures ∙ members_text c.self.inside.members c.self.invariant.0 in
+    let proposals : c.in_ok-proposals.proposals ≡ printed (list_tree proposal_tree c.self.inside.pending.items) = search rules in
+    let values : c.in_ok-values.values ≡ printed (list_tree value_tree (entries (values_of c.self.inside.values.items))) =
+    c.in_ok-values.ensures ∙ ap (λ vs. printed (list_tree value_tree (pairs_of (λ v. v.key) (λ v. v.accepted) vs))) c.deref-2.ensures.value ∙ values_text c.self.inside.values.items c.self.invariant.1.0 in
+    subst AreTexts c.self.view_is
+    (four_texts _ (subst IsUtf8 attributes c.in_ok-put_blob.ensures.text) (subst IsUtf8 members c.in_ok-put_blob-2.ensures.text) (subst IsUtf8 proposals c.in_ok-put_blob-3.ensures.text)
+    (subst IsUtf8 values c.in_ok-put_blob-4.ensures.text))
