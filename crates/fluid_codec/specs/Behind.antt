@@ -1,4 +1,4 @@
--- A list that grows by what is read.
+-- A list that grows by what is read, for private clauses.
 use Rattle.std.specs.Prelude.{List, ◌++◌, Ok}
 use Rattle.fluid_types.specs.Forms.{Read, ◌>>=◌}
 

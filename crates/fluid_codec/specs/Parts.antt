@@ -1,4 +1,4 @@
--- The members of a message in parts: those before and behind the ones that may be missing.
+-- The members of a message in parts, for private clauses: those before and behind the ones that may be missing.
 use Rattle.std.specs.Prelude.{List, [], ◌∷◌}
 use Rattle.fluid_json.specs.Tree.{whole, text}
 use Rattle.fluid_types.specs.Printed.{Row, row, count_tree, or_null}

@@ -1,4 +1,4 @@
--- The tokens of members.
+-- The tokens of members, for private clauses.
 use Rattle.std.specs.Prelude.{ℕ, List, [], ◌∷◌, ◌++◌}
 use Rattle.json.specs.Token.{Token, key}
 use Rattle.fluid_json.specs.Tree.{Tree, text}

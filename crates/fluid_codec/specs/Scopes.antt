@@ -1,4 +1,4 @@
--- Scopes, a word at a time.
+-- Scopes, a word at a time, for private clauses.
 use Rattle.std.specs.Prelude.{ℕ, List, ◌||◌, bytes_eq, Ok}
 use Rattle.fluid_json.specs.Tree.{Trees}
 use Rattle.fluid_types.specs.Forms.{Read, ◌>>=◌, texts}

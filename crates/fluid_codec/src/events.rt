@@ -36,7 +36,7 @@ pub enum Event {
     },
     GetSummary(Asked),
     GetObject([u8; 20]),
-    /// The bytes of a whole object.
+    /// Bytes; whether they are a whole object is looked at later.
     PutObject(Bytes),
 }
 

@@ -10,7 +10,7 @@ pub fn answers_are_spelled()
     ensures events { EventsAreSpelled }
 {}
 
-/// The printed text of a raw entry or a message is read back as itself, where its numbers and nesting are in the grammar. Such an
+/// The printed text of a raw entry or a message is read back as itself, where its names, numbers and nesting are in the grammar. Such an
 /// entry fits a log unless its record is too long.
 pub fn printed_is_read_back()
     ensures records { RecordsAreReadBack }

@@ -2,7 +2,7 @@
 //! `value` has the type `Json`, `collections` the lists that it is made of, `owned` texts and bytes, `memory` want of memory.
 //! `reading` and `nesting` have the reader and the depth of a text, `printing` the printer of values and tokens.
 //! Contracts see a value as a tree (`specs/Tree.antt`); which text spells it and which is printed for it stands in
-//! `specs/Spelled.antt` and `specs/Printed.antt`, and `laws` says that what is printed is read back.
+//! `specs/Spelled.antt` and `specs/Printed.antt`, and `laws` says that what is printed is read back, up to 100 deep, or 120 where it is stored.
 #![tactic(auto)]
 
 mod collections;

@@ -102,8 +102,8 @@ system_message kind number system moment = record {
   moment = moment;
 }
 
--- the message of an entry that gets this number, but for its minimum. A report has none until the scribe's
--- rules are here: no verdict has what stands for it
+-- the message of an entry that gets this number, but for its minimum. A report has none until the sequencer
+-- is handed the scribe's answer: no verdict has what stands for it
 unfoldable pub unsettled : ℕ → Raw → Message
 unsettled number (Join id scopes detail moment) = system_message kind.Join number (Some (printed (join_data id detail))) moment
 unsettled number (Leave id moment) = system_message kind.Leave number (Some (printed (text id))) moment
@@ -184,7 +184,7 @@ submission_verdict ledger c submission moment =
     (Sequenced (message ledger (Submit c submission moment)))
 
 -- the verdict of an entry over the ledger before it: a join of a joined client and a leave of one that isn't
--- joined are dropped. A report is dropped until the scribe's rules are here
+-- joined are dropped. A report is dropped until the sequencer is handed the scribe's answer
 unfoldable pub verdict : Ledger → Raw → Verdict
 verdict ledger (Join id scopes detail moment) =
     if is_joined ledger id then Dropped else Sequenced (message ledger (Join id scopes detail moment))

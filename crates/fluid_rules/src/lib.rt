@@ -1,5 +1,5 @@
 // The rules of a document: which verdict a raw entry gets over the entries before it, and what the scribe answers to a
-// summary. Definitions and laws alone, and the types of summaries and of the scribe's answers.
+// summary. Definitions and laws, the types of summaries and of the scribe's answers, and the texts of its refusals.
 // `specs/Past.antt` reads what a ledger says of its clients from its last entry back, `specs/Rules.antt` has the
 // sequencing rules in the words that other crates cite, `specs/Scribe.antt` the scribe's, and `specs/Laws.antt` and
 // `specs/ScribeLaws.antt` what follows from them.

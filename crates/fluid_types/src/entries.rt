@@ -27,7 +27,7 @@ pub enum Offered {
 /// A document message, as its client submits it.
 #[derive(Drop)]
 pub struct Submission {
-    /// The client's own count of its submissions, at most 2^53 - 1. The first that can be sequenced has 1.
+    /// The client's own count of its submissions, at most 2^53 - 1 in one that fits a log. The first that can be sequenced has 1.
     pub client_number: u64,
     /// The last sequence number that the client had seen, or -1 where it leaves this to the service.
     pub reference: i64,
@@ -65,7 +65,7 @@ pub(crate) fn copy_given(alloc: Global, value: &Option<Json>) -> Result<Option<J
     }
 }
 
-/// One raw entry. A moment is in milliseconds, at most 2^53 - 1.
+/// One raw entry. A moment is in milliseconds, at most 2^53 - 1 in an entry that fits a log.
 #[derive(Drop)]
 pub enum Raw {
     Join {

@@ -81,7 +81,7 @@ impl NackRule {
         self.kind().code()
     }
 
-    /// The text of a rule that has one; that of the other tells a fault.
+    /// The text of a rule, where it is always the same; of `Unread`, the fault that its text tells.
     #[tactic(auto, unfolding(crate::specs::Texts::rule_text))]
     pub fn words(&self) -> Result<&'static str, CodecFault>
         ensures { MatchResult result (λ words. words.now ≡ rule_text self.now) (λ fault. self.now ≡ Unread fault) }
