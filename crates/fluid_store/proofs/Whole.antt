@@ -1,5 +1,5 @@
 -- A tree whose objects are held is complete: the bytes of each of them are read back.
-use Rattle.std.proofs.Common.{◌≡◌, ◌≢◌, ℕ, zero, suc, ◌+◌, ◌-◌, ◌*◌, ◌^◌, ◌<◌, ◌≤◌, ◌&&◌, ◌||◌, not, List, [], ◌∷◌, ◌++◌, length, map, flat_map, fold, Bool, true, false, cond, Option, Some, None, option_and_then, Result, Ok, Err, Ordering, Less, Equal, Greater, decimal, w32, refl, sym, ap, ap₂, subst, ◌∙◌, arith, append_assoc, length-append}
+use Rattle.std.proofs.Common.{◌≡◌, ◌≢◌, ℕ, zero, suc, ◌-◌, ◌*◌, ◌^◌, ◌<◌, ◌≤◌, ◌&&◌, ◌||◌, not, List, [], ◌∷◌, ◌++◌, length, map, flat_map, fold, Bool, true, false, Some, None, option_and_then, Ok, Ordering, Less, Equal, Greater, decimal, w32, refl, sym, ap, ap₂, subst, ◌∙◌, arith, append_assoc, length-append}
 use Rattle.std.specs.Prelude.{codes, slice_get, slice_index}
 use Rattle.std.specs.Int.{to_be_bytes}
 use Rattle.std.specs.Result.{result_ok}
@@ -11,18 +11,18 @@ use Rattle.std.proofs.lemmas.Bool.{or_parts}
 use Rattle.std.proofs.lemmas.Slice.Eq.{bytes_eq-Decides}
 use Rattle.sha1.specs.Sha1.{sha1, digest_bytes}
 use Rattle.fluid_tree.specs.Identity.{id_within, entries_within}
-use Rattle.fluid_tree.specs.Laws.{AreWhole, IsWhole, IsReadBack}
-use Rattle.fluid_tree.specs.Names.{is_bad, is_refused, first_refused}
+use Rattle.fluid_tree.specs.Laws.{AreWhole, IsReadBack}
+use Rattle.fluid_tree.specs.Names.{is_bad, first_refused}
 use Rattle.fluid_tree.specs.Object.{sort_key, placed, in_order, entry_bytes, with_header, tree_bytes, object_bytes}
 use Rattle.fluid_tree.specs.Reading.{is_behind, fits_behind, object_read}
-use Rattle.fluid_tree.specs.Summary.{Summary, blob, tree, handle, Children, no_children, child, names, is_tree}
+use Rattle.fluid_tree.specs.Summary.{Summary, blob, tree, handle, Children, no_children, child, names}
 use Rattle.fluid_tree.specs.declared.object.Object.{Object}
 use Rattle.fluid_tree.specs.declared.object.Object.TheVariants.{Blob, Tree}
 use Rattle.fluid_tree.specs.declared.object.ObjectEntry.{ObjectEntry}
 use Rattle.fluid_store.specs.Held.{byte_order, Held}
 use Rattle.fluid_store.specs.Keeping.{Holds}
 use Rattle.fluid_store.specs.Laws.{IsReadable, AllReadable}
-use Rattle.fluid_store.specs.Listed.{own_bytes, own_entries, object_of, in_key_order, joined, objects, keyed}
+use Rattle.fluid_store.specs.Listed.{own_bytes, own_entries, in_key_order, joined, objects, keyed}
 use Rattle.fluid_store.specs.Standing.{object_at}
 use Rattle.fluid_store.specs.Complete.{is_whole, is_complete}
 use Rattle.fluid_store.proofs.Maps.{byte_order_total, byte_order-IsAntisymmetric}

@@ -1,7 +1,7 @@
 use Rattle.std.proofs.Common.{◌≡◌, suc, ◌-◌, Ok, arith, ap, sym, refl, ◌∙◌}
 use Rattle.fluid_tree.specs.declared.object.Object.TheVariants.{Tree}
 use Rattle.fluid_store.specs.Fetching.{child_by, node_within, tree_by}
-use Rattle.fluid_store.proofs.Fetched.{Goes, tells_all, tells_then, tells_of, goes_on, goes_start, entry_more, entries_end, blob_within, tree_too_deep, tree_within}
+use Rattle.fluid_store.proofs.Fetched.{Goes, tells_all, tells_then, tells_of, goes_on, entry_more, entries_end, blob_within, tree_too_deep, tree_within}
 use Rattle.fluid_store.proofs.fetching.+nodes.Goals as goal
 
 pub node_of-returns-in-Blob-clause-says : goal.node_of-returns-in-Blob-clause-says

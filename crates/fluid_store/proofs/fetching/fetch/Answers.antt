@@ -1,4 +1,3 @@
-use Rattle.std.proofs.Common.{arith}
 use Rattle.fluid_store.specs.Fetching.{fetched, node_within}
 use Rattle.fluid_store.proofs.Fetched.{goes_on, found_then, read_stands}
 use Rattle.fluid_store.proofs.fetching.fetch.Goals as goal
