@@ -1,0 +1,5 @@
+mod Waiting
+mod Judged
+mod Kept
+mod Versions
+mod Orders

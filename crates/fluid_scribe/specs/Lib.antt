@@ -1,0 +1,5 @@
+pub mod Scribing
+pub mod Ledger
+pub mod Jobs
+pub mod Versions
+pub use Rattle.fluid_rules.specs.Scribe

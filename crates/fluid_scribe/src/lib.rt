@@ -1,0 +1,26 @@
+//! The scribe of a document: what it answers to a summary.
+//!
+//! A scribe takes the messages of one order, one after another. A message is prepared, which makes every growth, and then
+//! committed, which takes no memory; what is not committed changes nothing. Contracts see the list of the messages that it
+//! took (`specs/Scribing.antt`), and its answers are the rules' over that list.
+//!
+//! - `scribe`: `Scribe`. `ready`: a prepared message, `ScribeReady`.
+//! - `job`: what is to be done about the pending summarize, `Job`.
+//! - `reading`: what one message says. `judging`: whether a summary may be acknowledged. `version`: the tree of a version.
+#![tactic(auto)]
+
+mod job;
+mod judging;
+mod reading;
+mod ready;
+mod scribe;
+mod version;
+
+pub use fluid_rules::{Answer, SummaryRule};
+pub use fluid_tree::SummaryRef;
+pub use job::Job;
+pub use ready::ScribeReady;
+pub use scribe::Scribe;
+
+#[cfg(test)]
+mod tests;
