@@ -33,7 +33,7 @@ pub fn run<R, S: Source, K: Sink>(
     ensures write_fault { result ≡ 5 → Rose (K.seen output.old).faults (K.seen output.new).faults }
     ensures cut { result ≡ 5 → is_sequence words.now ≡ true →
         Wrote (IsCut full) (S.seen input.old).left (K.seen output.old).written (K.seen output.new).written }
-    ensures begun { result ≡ 6 → Wrote (IsBegun full) (S.seen input.old).left (K.seen output.old).written (K.seen output.new).written }
+    ensures begun { (result ≡ 4) ⊎ (result ≡ 6) → Wrote (IsBegun full) (S.seen input.old).left (K.seen output.old).written (K.seen output.new).written }
     ensures no_fault { (result ≡ 0) ⊎ ((result ≡ 3) ⊎ (result ≡ 6)) →
         NoFault (S.seen input.old) (K.seen output.old) (S.seen input.new) (K.seen output.new) }
     ensures known { is_sequence words.now ≡ true → IsStatus result }

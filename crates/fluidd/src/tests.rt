@@ -494,6 +494,13 @@ fn a_line_that_was_read_before_the_source_failed_is_refused(rt: HostRuntime) -> 
         assert_eq!(rt; ended.status, status, "{line}, read {read}");
         assert_eq!(rt; ended.output.as_str(), output, "{line}, read {read}");
     }
+    // With no line end behind it the line was read once the second read has given nothing.
+    for (read, status, output) in [(2, 4, joined.as_str()), (3, 3, refused.as_str())] {
+        let input = format!(in alloc; "{JOIN}\n7 8")?;
+        let ended = ran_in_pieces(&rt, &["sequence"], input.as_bytes(), 96, &[read], &[])?;
+        assert_eq!(rt; ended.status, status, "read {read}");
+        assert_eq!(rt; ended.output.as_str(), output, "read {read}");
+    }
     Ok(())
 }
 
