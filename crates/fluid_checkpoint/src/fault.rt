@@ -1,0 +1,28 @@
+ghost use Rattle.std.specs.Prelude.{◌≡◌, ◌⊎◌};
+
+use fluid_json::Text;
+use std::alloc::Global;
+
+/// Why the text of a checkpoint is refused. Bad text is looked for first, then the version, then the other members.
+#[derive(Drop)]
+pub enum CheckpointFault {
+    /// It isn't JSON with whole numbers alone, nested at most 120 deep, or no object.
+    BadText,
+    /// The first member that is missing or outside its form; `version` is looked at before all others.
+    BadField(Text),
+    /// The version is a whole number other than the one that is read here; a negative one is told as 0.
+    Version(u64),
+    NoMemory,
+}
+
+impl CheckpointFault {
+    /// The fault of the member of this name; want of memory where there is none for the name.
+    pub(crate) fn of(alloc: Global, name: &str) -> CheckpointFault
+        ensures { (result ≡ CheckpointFault.NoMemory) ⊎ (result ≡ CheckpointFault.BadField name.now) }
+    {
+        match Text::copied(alloc, name) {
+            Ok(name) => CheckpointFault::BadField(name),
+            Err(_) => CheckpointFault::NoMemory,
+        }
+    }
+}
