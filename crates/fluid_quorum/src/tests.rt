@@ -287,14 +287,13 @@ fn the_quorum_of_no_messages_is_read(rt: HostRuntime) -> Result<(), Fail> {
     Ok(())
 }
 
-// A tree whose blob at this place is another node.
-fn tree_with(alloc: Global, place: usize, node: Node) -> Result<Node, NoMemory> {
+// A tree in which another node stands in place of the blob of this name.
+fn tree_with(alloc: Global, name: &str, node: Node) -> Result<Node, NoMemory> {
     let mut entries = Entries::new(alloc);
-    let name = Text::copied(alloc, NAMES[place])?;
-    entries.push(name, node)?;
-    for other in 0..4 {
-        if other != place {
-            blob(alloc, &mut entries, NAMES[other], GOOD[other])?;
+    entries.push(Text::copied(alloc, name)?, node)?;
+    for place in 0..4 {
+        if NAMES[place] != name {
+            blob(alloc, &mut entries, NAMES[place], GOOD[place])?;
         }
     }
     Ok(Node::tree(entries))
@@ -308,11 +307,11 @@ fn a_node_that_is_no_blob_of_text_is_named(rt: HostRuntime) -> Result<(), Fail> 
     assert_eq!(rt; name.as_str(), NAMES[0]);
     for place in 0..4 {
         let no_text = Node::blob(Bytes::copied(alloc, &[0x5b, 0xff, 0x5d])?);
-        let tree = tree_with(alloc, place, no_text)?;
+        let tree = tree_with(alloc, NAMES[place], no_text)?;
         let name = fault(alloc, &tree)?;
         assert_eq!(rt; name.as_str(), NAMES[place]);
         let no_blob = Node::tree(Entries::new(alloc));
-        let tree = tree_with(alloc, place, no_blob)?;
+        let tree = tree_with(alloc, NAMES[place], no_blob)?;
         let name = fault(alloc, &tree)?;
         assert_eq!(rt; name.as_str(), NAMES[place]);
     }
