@@ -12,12 +12,12 @@ use Rattle.fluid_types.specs.Ledger.{Ledger, seq}
 use Rattle.fluid_types.proofs.Ledgers.{seq-push}
 use Rattle.fluid_rules.specs.Past as past
 use Rattle.fluid_rules.specs.Past.{Entry, Client, IsLeast, client_behind, client_submitting, count_of, is_below, is_sequenced}
-use Rattle.fluid_rules.specs.Rules.{past_of, is_joined, client, minimum, message, verdict, IsLegal}
+use Rattle.fluid_rules.specs.Rules.{past_of, is_joined, client, minimum, message, sequenced, verdict, IsLegal}
 use Rattle.fluid_rules.proofs.Joined.{some_same}
 use Rattle.fluid_rules.proofs.Legal.{legal-induction, legal-growth, legal-last}
 use Rattle.fluid_rules.proofs.Minimum.{minimum-is_least}
 use Rattle.fluid_rules.proofs.Pushed.{client-push}
-use Rattle.fluid_rules.proofs.Verdicts.{WasNacked, sequenced-was, nacked-was, reference-within}
+use Rattle.fluid_rules.proofs.Verdicts.{not_nacked, WasNacked, sequenced-was, nacked-was, reference-within}
 
 -- ---- where a client's reference comes from
 
@@ -223,17 +223,17 @@ nack_is_submission : (ledger : Ledger) (raw : Raw) (n : Nack) → Nacked n ≡ v
 unfolding verdict
 nack_is_submission ledger (Join id scopes detail moment) n h = absurd (no_join (is_joined ledger id) (message ledger (Join id scopes detail moment)) h)
   where
-    no_join : (joined : Bool) (m : Message) → Nacked n ≡ (if joined then Dropped else Sequenced m) → ⊥
-    no_join true m h = cc
-    no_join false m h = cc
+    no_join : (joined : Bool) (o : Option Message) → Nacked n ≡ (if joined then Dropped else sequenced o) → ⊥
+    no_join true o h = cc
+    no_join false o h = not_nacked o n (sym h)
 nack_is_submission ledger (Leave id moment) n h = absurd (no_leave (is_joined ledger id) (message ledger (Leave id moment)) h)
   where
-    no_leave : (joined : Bool) (m : Message) → Nacked n ≡ (if joined then Sequenced m else Dropped) → ⊥
-    no_leave true m h = cc
-    no_leave false m h = cc
+    no_leave : (joined : Bool) (o : Option Message) → Nacked n ≡ (if joined then sequenced o else Dropped) → ⊥
+    no_leave true o h = not_nacked o n (sym h)
+    no_leave false o h = cc
 nack_is_submission ledger (Submit id submission moment) n h =
     nacked_minimum ledger id submission moment n (nacked-was ledger id submission moment n h)
-nack_is_submission ledger (Report summary found moment) n h = absurd (cc)
+nack_is_submission ledger (Report summary found moment) n h = absurd (not_nacked (message ledger (Report summary found moment)) n (sym h))
 
 -- a nack leaves the minimum as it is
 pub nack-minimum : (ledger : Ledger) (raw : Raw) (n : Nack) → IsLegal (ledger ++ (raw, Nacked n) ∷ []) → minimum (ledger ++ (raw, Nacked n) ∷ []) ≡ minimum ledger

@@ -15,4 +15,7 @@ pub mod Summaries
 pub mod SummariesComputed
 pub mod Pending
 pub mod Acknowledged
+pub mod Handles
 pub mod Answered
+pub mod ReportsComputed
+pub mod Counted

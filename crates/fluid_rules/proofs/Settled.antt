@@ -1,13 +1,15 @@
 -- The minimum in a message is that of the ledger with its entry.
-use Rattle.std.proofs.Common.{◌≡◌, ℕ, ◌+◌, List, [], ◌∷◌, ◌++◌, Option, refl, sym, ◌∙◌, inl, inr}
+use Rattle.std.proofs.Common.{◌≡◌, ℕ, ◌+◌, List, [], ◌∷◌, ◌++◌, Option, Some, None, option_map, refl, sym, ◌∙◌, inl, inr}
 use Rattle.fluid_types.specs.declared.entries.Raw.{Raw}
 use Rattle.fluid_types.specs.declared.entries.Raw.TheVariants.{Join, Leave, Submit, Report}
 use Rattle.fluid_types.specs.declared.messages.Message.{Message}
 use Rattle.fluid_types.specs.declared.verdicts.Verdict.TheVariants.{Sequenced}
-use Rattle.fluid_types.specs.Ledger.{Ledger, seq}
+use Rattle.fluid_types.specs.Ledger.{Ledger, order, seq}
 use Rattle.fluid_types.proofs.Ledgers.{seq-push}
 use Rattle.fluid_rules.specs.Past.{Client, IsLeast, client_behind}
-use Rattle.fluid_rules.specs.Rules.{client, minimum, unsettled, message}
+use Rattle.fluid_rules.specs.Rules.{client, minimum, unsettled, settled, message}
+use Rattle.fluid_rules.specs.Scribe.{answer}
+use Rattle.fluid_rules.proofs.Verdicts.{some_message}
 use Rattle.fluid_rules.proofs.Minimum.{minimum-is_least, least-unique}
 use Rattle.fluid_rules.proofs.Pushed.{client-push}
 
@@ -46,7 +48,12 @@ minimum-settled ledger raw m n =
     ∙ sym (client-push ledger (raw, Sequenced m) c))
     (seq-push ledger (raw, Sequenced (record m { minimum = n })) ∙ sym (seq-push ledger (raw, Sequenced m)))
 
+settled_minimum : (ledger : Ledger) (raw : Raw) (o : Option Message) (m : Message) → option_map (settled ledger raw) o ≡ Some m →
+    m.minimum ≡ minimum (ledger ++ (raw, Sequenced m) ∷ [])
+settled_minimum ledger raw None m is = absurd (cc)
+settled_minimum ledger raw (Some x) m is = rw (sym (some_message _ m is)) (sym (minimum-settled ledger raw x _))
+
 -- a message carries the minimum that holds behind it
-pub message-minimum : (ledger : Ledger) (raw : Raw) → (message ledger raw).minimum ≡ minimum (ledger ++ (raw, Sequenced (message ledger raw)) ∷ [])
+pub message-minimum : (ledger : Ledger) (raw : Raw) (m : Message) → message ledger raw ≡ Some m → m.minimum ≡ minimum (ledger ++ (raw, Sequenced m) ∷ [])
 unfolding message
-message-minimum ledger raw = sym (minimum-settled ledger raw (unsettled (seq ledger + 1) raw) _)
+message-minimum ledger raw m is = settled_minimum ledger raw (unsettled (seq ledger + 1) (answer (order ledger)) raw) m is

@@ -1,5 +1,5 @@
 -- What the verdict on a submission tells, read from its table of cases.
-use Rattle.std.proofs.Common.{◌≡◌, ℕ, ◌+◌, ◌≤◌, zero, suc, ℤ, pos, negsuc, Bool, true, false, not, ◌&&◌, List, [], ◌∷◌, refl, sym, ◌∙◌, ap, ◌⊎◌, inl, inr, arith, int_lt, if◌then◌else◌}
+use Rattle.std.proofs.Common.{◌≡◌, ℕ, ◌+◌, ◌≤◌, zero, suc, ℤ, pos, negsuc, Bool, true, false, not, ◌&&◌, List, [], ◌∷◌, refl, sym, ◌∙◌, ap, ◌⊎◌, inl, inr, arith, int_lt, if◌then◌else◌, Option, Some, None, option_map}
 use Rattle.std.proofs.lemmas.Bool.{ltb-false}
 use Rattle.fluid_types.specs.declared.entries.Raw.{Raw}
 use Rattle.fluid_types.specs.declared.entries.Raw.TheVariants.{Join, Leave, Submit, Report}
@@ -7,12 +7,16 @@ use Rattle.fluid_types.specs.declared.entries.Submission.{Submission}
 use Rattle.fluid_types.specs.declared.nacks.Nack.{Nack}
 use Rattle.fluid_types.specs.declared.nacks.NackRule.{NackRule}
 use Rattle.fluid_types.specs.declared.nacks.NackRule.TheVariants.{Gap, Nonexistent, Below, Ahead, Scope}
+use Rattle.fluid_json.specs.Tree.{Tree}
+use Rattle.fluid_types.specs.declared.messages.Kind.{Kind}
 use Rattle.fluid_types.specs.declared.messages.Message.{Message}
 use Rattle.fluid_types.specs.declared.verdicts.Verdict.{Verdict}
 use Rattle.fluid_types.specs.declared.verdicts.Verdict.TheVariants.{Sequenced, Nacked, Dropped}
-use Rattle.fluid_types.specs.Ledger.{Ledger, seq}
+use Rattle.fluid_types.specs.Ledger.{Ledger, order, seq}
 use Rattle.fluid_rules.specs.Past.{is_below, count_of}
-use Rattle.fluid_rules.specs.Rules.{first_case, leaves_reference, minimum, unsettled, message, nack, is_duplicate, leaves_gap, is_nonexistent, is_below_minimum, is_ahead, lacks_scope, submission_verdict, is_joined, verdict}
+use Rattle.fluid_rules.specs.Scribe.{answer, reported}
+use Rattle.fluid_rules.specs.declared.answers.Answer.{Answer}
+use Rattle.fluid_rules.specs.Rules.{first_case, leaves_reference, minimum, answer_message, unsettled, settled, message, sequenced, nack, is_duplicate, leaves_gap, is_nonexistent, is_below_minimum, is_ahead, lacks_scope, submission_verdict, is_joined, verdict}
 
 -- a sequenced submission: no case before the last fits
 abbrev Chain : Bool → Bool → Bool → Bool → Bool → Bool → Verdict → Verdict → Verdict → Verdict → Verdict → Verdict → Verdict
@@ -27,9 +31,21 @@ record NoCase (one two three four five six : Bool) : Type 0 where
   pub five_not : five ≡ false
   pub six_not : six ≡ false
 
-sequenced_case : (one two three four five six : Bool) (gap nonexistent below ahead scope : Nack) (last m : Message) →
-    Sequenced m ≡ Chain one two three four five six (Nacked gap) (Nacked nonexistent) (Nacked below) (Nacked ahead) (Nacked scope) (Sequenced last) →
-    (m ≡ last) × NoCase one two three four five six
+pub some_message : (x m : Message) → Some x ≡ Some m → x ≡ m
+some_message x m h = cc
+
+-- what is sequenced is a message
+pub sequenced-some : (o : Option Message) (m : Message) → sequenced o ≡ Sequenced m → o ≡ Some m
+sequenced-some None m h = absurd (cc)
+sequenced-some (Some x) m h = cc
+
+pub not_nacked : (o : Option Message) (n : Nack) → sequenced o ≡ Nacked n → ⊥
+not_nacked None n h = cc
+not_nacked (Some x) n h = cc
+
+sequenced_case : (one two three four five six : Bool) (gap nonexistent below ahead scope : Nack) (last : Option Message) (m : Message) →
+    Sequenced m ≡ Chain one two three four five six (Nacked gap) (Nacked nonexistent) (Nacked below) (Nacked ahead) (Nacked scope) (sequenced last) →
+    (last ≡ Some m) × NoCase one two three four five six
 sequenced_case true two three four five six gap nonexistent below ahead scope last m h = absurd (cc)
 sequenced_case false true three four five six gap nonexistent below ahead scope last m h = absurd (cc)
 sequenced_case false false true four five six gap nonexistent below ahead scope last m h = absurd (cc)
@@ -37,11 +53,11 @@ sequenced_case false false false true five six gap nonexistent below ahead scope
 sequenced_case false false false false true six gap nonexistent below ahead scope last m h = absurd (cc)
 sequenced_case false false false false false true gap nonexistent below ahead scope last m h = absurd (cc)
 sequenced_case false false false false false false gap nonexistent below ahead scope last m h =
-    (cc, record { one_not = refl; two_not = refl; three_not = refl; four_not = refl; five_not = refl; six_not = refl })
+    (sequenced-some last m (sym h), record { one_not = refl; two_not = refl; three_not = refl; four_not = refl; five_not = refl; six_not = refl })
 
 -- a nack: one of the five, and where it is below the minimum, the three cases before don't fit
-nacked_case : (one two three four five six : Bool) (gap nonexistent below ahead scope : Nack) (last : Message) (n : Nack) →
-    Nacked n ≡ Chain one two three four five six (Nacked gap) (Nacked nonexistent) (Nacked below) (Nacked ahead) (Nacked scope) (Sequenced last) →
+nacked_case : (one two three four five six : Bool) (gap nonexistent below ahead scope : Nack) (last : Option Message) (n : Nack) →
+    Nacked n ≡ Chain one two three four five six (Nacked gap) (Nacked nonexistent) (Nacked below) (Nacked ahead) (Nacked scope) (sequenced last) →
     (n ≡ gap) ⊎ ((n ≡ nonexistent) ⊎ (((n ≡ below) × (three ≡ false)) ⊎ ((n ≡ ahead) ⊎ (n ≡ scope))))
 nacked_case true two three four five six gap nonexistent below ahead scope last n h = absurd (cc)
 nacked_case false true three four five six gap nonexistent below ahead scope last n h = inl (cc)
@@ -49,12 +65,12 @@ nacked_case false false true four five six gap nonexistent below ahead scope las
 nacked_case false false false true five six gap nonexistent below ahead scope last n h = inr (inr (inl (cc, refl)))
 nacked_case false false false false true six gap nonexistent below ahead scope last n h = inr (inr (inr (inl (cc))))
 nacked_case false false false false false true gap nonexistent below ahead scope last n h = inr (inr (inr (inr (cc))))
-nacked_case false false false false false false gap nonexistent below ahead scope last n h = absurd (cc)
+nacked_case false false false false false false gap nonexistent below ahead scope last n h = absurd (not_nacked last n (sym h))
 
 -- ---- the verdict on a submission
 
 pub record WasSequenced (ledger : Ledger) (c : List ℕ) (submission : Submission) (moment : ℕ) (m : Message) : Type 0 where
-  pub is_message : m ≡ message ledger (Submit c submission moment)
+  pub is_message : message ledger (Submit c submission moment) ≡ Some m
   pub not_below : is_below_minimum ledger submission ≡ false
   pub not_ahead : is_ahead ledger submission ≡ false
 
@@ -68,29 +84,45 @@ sequenced-was ledger c submission moment m h =
     (message ledger (Submit c submission moment)) m h in
     record { is_message = found.0; not_below = found.1.four_not; not_ahead = found.1.five_not }
 
-joined_message : (b : Bool) (x m : Message) → (if b then Dropped else Sequenced x) ≡ Sequenced m → m ≡ x
-joined_message true x m is = cc
-joined_message false x m is = cc
+joined_message : (b : Bool) (o : Option Message) (m : Message) → (if b then Dropped else sequenced o) ≡ Sequenced m → o ≡ Some m
+joined_message true o m is = absurd (cc)
+joined_message false o m is = sequenced-some o m is
 
-left_message : (b : Bool) (x m : Message) → (if b then Sequenced x else Dropped) ≡ Sequenced m → m ≡ x
-left_message true x m is = cc
-left_message false x m is = cc
+left_message : (b : Bool) (o : Option Message) (m : Message) → (if b then sequenced o else Dropped) ≡ Sequenced m → o ≡ Some m
+left_message true o m is = sequenced-some o m is
+left_message false o m is = absurd (cc)
 
 -- a verdict that is a message is the message of its entry
-pub verdict-is_message : (ledger : Ledger) (raw : Raw) (m : Message) → verdict ledger raw ≡ Sequenced m → m ≡ message ledger raw
+pub verdict-is_message : (ledger : Ledger) (raw : Raw) (m : Message) → verdict ledger raw ≡ Sequenced m → message ledger raw ≡ Some m
 unfolding verdict
 verdict-is_message ledger (Join id scopes detail moment) m is = joined_message (is_joined ledger id) _ m is
 verdict-is_message ledger (Leave id moment) m is = left_message (is_joined ledger id) _ m is
 verdict-is_message ledger (Submit id submission moment) m is = (sequenced-was ledger id submission moment m (sym is)).is_message
-verdict-is_message ledger (Report summary found moment) m is = cc
+verdict-is_message ledger (Report summary found moment) m is = sequenced-some _ m is
 
--- its number is the next
-pub message-number : (ledger : Ledger) (raw : Raw) → (message ledger raw).number ≡ seq ledger + 1
-unfolding message unsettled
-message-number ledger (Join id scopes detail moment) = refl
-message-number ledger (Leave id moment) = refl
-message-number ledger (Submit id submission moment) = refl
-message-number ledger (Report summary found moment) = refl
+-- ---- its number is the next
+
+answered_number : (number moment : ℕ) (said : Option (Kind × Tree)) (m : Message) → option_map (answer_message number moment) said ≡ Some m → m.number ≡ number
+answered_number number moment None m is = absurd (cc)
+answered_number number moment (Some said) m is = sym (ap (λ (x : Message). x.number) (some_message _ m is))
+
+pub unsettled-number : (number : ℕ) (answers : ℕ → Bool → Answer) (raw : Raw) (m : Message) → unsettled number answers raw ≡ Some m → m.number ≡ number
+unfolding unsettled
+unsettled-number number answers (Join id scopes detail moment) m is = sym (ap (λ (x : Message). x.number) (some_message _ m is))
+unsettled-number number answers (Leave id moment) m is = sym (ap (λ (x : Message). x.number) (some_message _ m is))
+unsettled-number number answers (Submit id submission moment) m is = sym (ap (λ (x : Message). x.number) (some_message _ m is))
+unsettled-number number answers (Report summary found moment) m is = answered_number number moment (reported summary (answers summary found)) m is
+
+settled_number : (ledger : Ledger) (raw : Raw) (number : ℕ) (o : Option Message) (m : Message) → ((x : Message) → o ≡ Some x → x.number ≡ number) →
+    option_map (settled ledger raw) o ≡ Some m → m.number ≡ number
+settled_number ledger raw number None m at is = absurd (cc)
+settled_number ledger raw number (Some x) m at is = sym (ap (λ (y : Message). y.number) (some_message _ m is)) ∙ at x refl
+
+pub message-number : (ledger : Ledger) (raw : Raw) (m : Message) → message ledger raw ≡ Some m → m.number ≡ seq ledger + 1
+unfolding message
+message-number ledger raw m is =
+    settled_number ledger raw (seq ledger + 1) (unsettled (seq ledger + 1) (answer (order ledger)) raw) m
+    (unsettled-number (seq ledger + 1) (answer (order ledger)) raw) is
 
 pub record WasNacked (ledger : Ledger) (c : List ℕ) (n : Nack) : Type 0 where
   pub minimum_is : n.minimum ≡ pos (minimum ledger)
@@ -144,4 +176,4 @@ pub reference-within : (ledger : Ledger) (c : List ℕ) (submission : Submission
 unfolding message unsettled
 reference-within ledger c submission moment m h was =
     let within = referenced submission.reference (minimum ledger) (seq ledger) (seq ledger + 1) h refl was.not_below was.not_ahead in
-    rw was.is_message within
+    rw (sym (some_message _ m was.is_message)) within

@@ -47,7 +47,7 @@ OneJoin = verdicts (join (codes "A") ∷ []) ≡ (at 1 0 ∷ [])
 abbrev pub FirstMessage : Type 0
 FirstMessage =
     message [] (join (codes "A"))
-    ≡ record {
+    ≡ Some (record {
       client = None;
       client_number = negsuc 0;
       reference = negsuc 0;
@@ -58,7 +58,7 @@ FirstMessage =
       system = Some (codes "{\"clientId\":\"A\",\"detail\":null}");
       metadata = None;
       moment = 5;
-    }
+    })
 
 abbrev pub TwoJoins : Type 0
 TwoJoins = verdicts (join (codes "A") ∷ join (codes "B") ∷ join (codes "A") ∷ []) ≡ (at 1 0 ∷ at 2 0 ∷ dropped ∷ [])

@@ -1,11 +1,12 @@
 -- The laws of the sequencing rules, each about every ledger.
-use Rattle.std.specs.Prelude.{◌≡◌, ◌+◌, ◌≤◌, ◌↔◌, ℕ, List, [], ◌∷◌, ◌++◌, Some, length}
+use Rattle.std.specs.Prelude.{◌≡◌, ◌+◌, ◌≤◌, ◌↔◌, ℕ, if◌then◌else◌, List, [], ◌∷◌, ◌++◌, Some, length}
 use Rattle.fluid_types.specs.declared.entries.Raw.{Raw}
 use Rattle.fluid_types.specs.declared.messages.Message.{Message}
 use Rattle.fluid_types.specs.declared.nacks.Nack.{Nack}
 use Rattle.fluid_types.specs.declared.verdicts.Verdict.TheVariants.{Sequenced, Nacked}
 use Rattle.fluid_types.specs.Ledger.{Ledger, messages_of, order, raws, seq}
 use Rattle.fluid_rules.specs.Past.{Entry, Client, IsLeast, client_behind, has_id, AreInOrder}
+use Rattle.fluid_rules.specs.Counted.{is_counted, counted}
 use Rattle.fluid_rules.specs.Rules.{is_joined, client, refusals, joined, minimum, message, verdict, IsLegal, IsLegalBehind, ledger}
 
 -- the minimum is the least reference of a joined client, and the last sequence number where nobody is joined
@@ -35,7 +36,7 @@ RefusedOnce = (l : Ledger) → IsLegal l → (c : List ℕ) → refusals l c ≤
 
 -- a message carries the minimum that holds behind it
 abbrev pub MessageHasMinimum : Type 0
-MessageHasMinimum = (l : Ledger) (raw : Raw) → (message l raw).minimum ≡ minimum (l ++ (raw, Sequenced (message l raw)) ∷ [])
+MessageHasMinimum = (l : Ledger) (raw : Raw) (m : Message) → message l raw ≡ Some m → m.minimum ≡ minimum (l ++ (raw, Sequenced m) ∷ [])
 
 -- the joined ids are those of the joined clients, in byte order
 pub record AreJoined (l : Ledger) : Type 0 where
@@ -77,6 +78,10 @@ ClientGrows = (l : Ledger) (entry : Entry) (c : List ℕ) → client (l ++ entry
 abbrev pub LegalGrows : Type 0
 LegalGrows = (l : Ledger) (entry : Entry) → IsLegal (l ++ entry ∷ []) ↔ (IsLegal l × (entry.1 ≡ verdict l entry.0))
 
+-- in how many of them count against the limit of a document
+abbrev pub CountedGrows : Type 0
+CountedGrows = (l : Ledger) (entry : Entry) → counted (l ++ entry ∷ []) ≡ counted l + (if is_counted entry.0 then 1 else 0)
+
 -- ---- parts and bounds
 
 -- a ledger of two parts is legal exactly where the first is legal and the second is legal behind it
@@ -85,11 +90,11 @@ LegalInParts = (first second : Ledger) → IsLegal (first ++ second) ↔ (IsLega
 
 -- a verdict that is a message is the message of its entry
 abbrev pub VerdictIsMessage : Type 0
-VerdictIsMessage = (l : Ledger) (raw : Raw) (m : Message) → verdict l raw ≡ Sequenced m → m ≡ message l raw
+VerdictIsMessage = (l : Ledger) (raw : Raw) (m : Message) → verdict l raw ≡ Sequenced m → message l raw ≡ Some m
 
 -- a message has the next number
 abbrev pub MessageIsNext : Type 0
-MessageIsNext = (l : Ledger) (raw : Raw) → (message l raw).number ≡ seq l + 1
+MessageIsNext = (l : Ledger) (raw : Raw) (m : Message) → message l raw ≡ Some m → m.number ≡ seq l + 1
 
 -- no more messages than entries
 abbrev pub SeqIsBounded : Type 0
@@ -98,3 +103,7 @@ SeqIsBounded = (l : Ledger) → seq l ≤ length l
 -- in a legal ledger no client refers beyond the last sequence number
 abbrev pub ReferencesAreBounded : Type 0
 ReferencesAreBounded = (l : Ledger) → IsLegal l → (c : List ℕ) (said : Client) → client l c ≡ Some said → said.reference ≤ seq l
+
+-- no more entries count than there are
+abbrev pub CountedIsBounded : Type 0
+CountedIsBounded = (l : Ledger) → counted l ≤ length l

@@ -1,7 +1,10 @@
+pub mod Cases
 pub mod Past
 pub mod Rules
+pub mod Counted
 pub mod Scribe
 pub mod Examples
 pub mod Laws
 pub mod ScribeExamples
 pub mod ScribeLaws
+pub mod ReportExamples

@@ -1,5 +1,5 @@
 -- The sequencing rules. A ledger stands oldest first; each rule reads it from its end, as a past.
-use Rattle.std.specs.Prelude.{◌≡◌, ℕ, zero, suc, ◌+◌, ℤ, pos, negsuc, nat_lt, nat_le, int_lt, Bool, true, false, not, ◌&&◌, ◌||◌, if◌then◌else◌, List, [], ◌∷◌, ◌++◌, reverse, Option, Some, None, unwrap_or}
+use Rattle.std.specs.Prelude.{◌≡◌, ℕ, zero, suc, ◌+◌, ℤ, pos, negsuc, nat_lt, nat_le, int_lt, Bool, true, false, not, ◌&&◌, ◌||◌, if◌then◌else◌, List, [], ◌∷◌, ◌++◌, reverse, Option, Some, None, unwrap_or, option_map}
 use Rattle.fluid_json.specs.Tree.{Tree, null, text, object, members}
 use Rattle.fluid_json.specs.Printed.{printed}
 use Rattle.fluid_types.specs.declared.entries.Raw.{Raw}
@@ -18,8 +18,11 @@ use Rattle.fluid_types.specs.declared.verdicts.Verdict.{Verdict}
 use Rattle.fluid_types.specs.declared.verdicts.Verdict.TheVariants.{Sequenced, Nacked, Dropped}
 use Rattle.fluid_types.specs.declared.fault.Field.TheVariants as field
 use Rattle.fluid_types.specs.Printed.{row}
-use Rattle.fluid_types.specs.Ledger.{Ledger, seq, raws}
+use Rattle.fluid_types.specs.Ledger.{Ledger, order, seq, raws}
 use Rattle.fluid_rules.specs.Past as past
+pub use Rattle.fluid_rules.specs.Cases.{first_case}
+use Rattle.fluid_rules.specs.Scribe.{answer, reported}
+use Rattle.fluid_rules.specs.declared.answers.Answer.{Answer}
 
 -- a ledger from its last entry back to its first
 unfoldable pub past_of : Ledger → past.Past
@@ -102,12 +105,9 @@ system_message kind number system moment = record {
   moment = moment;
 }
 
--- the message of an entry that gets this number, but for its minimum. A report has none until the sequencer
--- is handed the scribe's answer: no verdict has what stands for it
-unfoldable pub unsettled : ℕ → Raw → Message
-unsettled number (Join id scopes detail moment) = system_message kind.Join number (Some (printed (join_data id detail))) moment
-unsettled number (Leave id moment) = system_message kind.Leave number (Some (printed (text id))) moment
-unsettled number (Submit id submission moment) = record {
+-- the message of a client's submission, but for its minimum
+abbrev pub submission_message : ℕ → List ℕ → Submission → ℕ → Message
+submission_message number id submission moment = record {
   client = Some id;
   client_number = pos submission.client_number;
   reference = if leaves_reference submission.reference then pos number else submission.reference;
@@ -119,21 +119,35 @@ unsettled number (Submit id submission moment) = record {
   metadata = submission.metadata;
   moment = moment;
 }
-unsettled number (Report summary found moment) = system_message kind.SummaryNack number None moment
 
--- the message of an entry that is sequenced next: it has the next number, and the minimum of the ledger
--- followed by this entry, which reads no minimum of a message
-unfoldable pub message : Ledger → Raw → Message
-message ledger raw =
-    let m = unsettled (seq ledger + 1) raw in
-    record m { minimum = minimum (ledger ++ (raw, Sequenced m) ∷ []) }
+-- the message of a report that is answered by this kind and these contents, but for its minimum
+abbrev pub answer_message : ℕ → ℕ → Kind × Tree → Message
+answer_message number moment said = record (system_message said.0 number None moment) { contents = said.1 }
+
+-- the message of an entry that gets this number, but for its minimum, where reports are answered so: the report on a
+-- summarize is answered by its number and whether its tree was found. A report that is dropped has no message
+unfoldable pub unsettled : ℕ → (answers : ℕ → Bool → Answer) → Raw → Option Message
+unsettled number answers (Join id scopes detail moment) =
+    Some (system_message kind.Join number (Some (printed (join_data id detail))) moment)
+unsettled number answers (Leave id moment) = Some (system_message kind.Leave number (Some (printed (text id))) moment)
+unsettled number answers (Submit id submission moment) = Some (submission_message number id submission moment)
+unsettled number answers (Report summary found moment) = option_map (answer_message number moment) (reported summary (answers summary found))
+
+-- a message with the minimum of the ledger followed by its entry, which reads no minimum of a message
+abbrev pub settled : Ledger → Raw → Message → Message
+settled ledger raw m = record m { minimum = minimum (ledger ++ (raw, Sequenced m) ∷ []) }
+
+-- the message of an entry that is sequenced next: it has the next number, a report is answered by the scribe over the order,
+-- and the minimum is that which holds behind it
+unfoldable pub message : Ledger → Raw → Option Message
+message ledger raw = option_map (settled ledger raw) (unsettled (seq ledger + 1) (answer (order ledger)) raw)
 
 -- ---- the verdict
 
--- the first case that fits
-abbrev pub first_case : {X : Type 0} → List (Bool × X) → X → X
-first_case [] otherwise = otherwise
-first_case (row ∷ rows) otherwise = if row.0 then row.1 else first_case rows otherwise
+-- an entry with a message is sequenced, and one without is dropped
+abbrev pub sequenced : Option Message → Verdict
+sequenced None = Dropped
+sequenced (Some m) = Sequenced m
 
 abbrev pub is_summarize : Offered → Bool
 is_summarize offered.Op = false
@@ -181,16 +195,16 @@ submission_verdict ledger c submission moment =
     ∷ (is_ahead ledger submission, Nacked (nack ledger submission Ahead))
     ∷ (lacks_scope ledger c submission, Nacked (nack ledger submission Scope))
     ∷ [])
-    (Sequenced (message ledger (Submit c submission moment)))
+    (sequenced (message ledger (Submit c submission moment)))
 
 -- the verdict of an entry over the ledger before it: a join of a joined client and a leave of one that isn't
--- joined are dropped. A report is dropped until the sequencer is handed the scribe's answer
+-- joined are dropped, and so is a report that the scribe doesn't answer
 unfoldable pub verdict : Ledger → Raw → Verdict
 verdict ledger (Join id scopes detail moment) =
-    if is_joined ledger id then Dropped else Sequenced (message ledger (Join id scopes detail moment))
-verdict ledger (Leave id moment) = if is_joined ledger id then Sequenced (message ledger (Leave id moment)) else Dropped
+    if is_joined ledger id then Dropped else sequenced (message ledger (Join id scopes detail moment))
+verdict ledger (Leave id moment) = if is_joined ledger id then sequenced (message ledger (Leave id moment)) else Dropped
 verdict ledger (Submit id submission moment) = submission_verdict ledger id submission moment
-verdict ledger (Report summary found moment) = Dropped
+verdict ledger (Report summary found moment) = sequenced (message ledger (Report summary found moment))
 
 -- ---- legal ledgers
 

@@ -19,7 +19,7 @@ use Rattle.fluid_tree.specs.declared.id.SummaryRef.{SummaryRef}
 use Rattle.fluid_tree.specs.declared.object.Object.TheVariants.{Blob, Tree as ObjectTree}
 use Rattle.fluid_tree.specs.declared.object.ObjectEntry.{ObjectEntry}
 use Rattle.fluid_rules.specs.Past.{count_of}
-use Rattle.fluid_rules.specs.Rules.{first_case}
+use Rattle.fluid_rules.specs.Cases.{first_case}
 use Rattle.fluid_rules.specs.declared.answers.SummaryRule.{SummaryRule}
 use Rattle.fluid_rules.specs.declared.answers.SummaryRule.TheVariants.{Malformed, StaleHead, OldReference, Missing}
 use Rattle.fluid_rules.specs.declared.answers.Proposed.{Proposed}

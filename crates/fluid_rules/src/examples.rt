@@ -1,6 +1,7 @@
 // Worked examples of the rules, each computed from the definitions.
 ghost use Rattle.fluid_rules.specs.Examples.{OneJoin, FirstMessage, TwoJoins, TwoWriters, BelowMinimum, AfterRefusal, WholeStory, WithoutScope};
 ghost use Rattle.fluid_rules.specs.ScribeExamples.{VersionAtReference, OnThePending, AfterTheAck, StaleHeads, AskedAsText, SaidToReports, MalformedContents, OldReferences, LastAcks};
+ghost use Rattle.fluid_rules.specs.ReportExamples.{NotStored, Stored, BuiltOnAnother, OnOthers, NobodyJoined};
 
 /// One join: number 1, minimum 0.
 pub fn one_join()
@@ -85,4 +86,29 @@ pub fn old_references()
 /// Two handles, one of them acknowledged twice: the last acknowledgement decides.
 pub fn last_acks()
     ensures { LastAcks }
+{}
+
+/// A report that the tree of a summary isn't stored, and the same report again.
+pub fn not_stored()
+    ensures { NotStored }
+{}
+
+/// A report that it is, and the same report again.
+pub fn stored()
+    ensures { Stored }
+{}
+
+/// A report on a summary that builds on another head.
+pub fn built_on_another()
+    ensures { BuiltOnAnother }
+{}
+
+/// Reports on what isn't the pending summarize.
+pub fn on_others()
+    ensures { OnOthers }
+{}
+
+/// A report where nobody is joined any more.
+pub fn nobody_joined()
+    ensures { NobodyJoined }
 {}

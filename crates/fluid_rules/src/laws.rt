@@ -1,5 +1,5 @@
 // The laws of the rules. Each is the contract of a function that does nothing.
-ghost use Rattle.fluid_rules.specs.Laws.{MinimumIsLeast, MinimumIsBounded, MinimumNeverFalls, NackLeavesOrder, RefusedOnce, MessageHasMinimum, JoinedInOrder, LedgerIsOnlyLegal, LedgerGrows, ListsGrow, ClientGrows, LegalGrows, LegalInParts, VerdictIsMessage, MessageIsNext, SeqIsBounded, ReferencesAreBounded};
+ghost use Rattle.fluid_rules.specs.Laws.{MinimumIsLeast, MinimumIsBounded, MinimumNeverFalls, NackLeavesOrder, RefusedOnce, MessageHasMinimum, JoinedInOrder, LedgerIsOnlyLegal, LedgerGrows, ListsGrow, ClientGrows, LegalGrows, LegalInParts, VerdictIsMessage, MessageIsNext, SeqIsBounded, ReferencesAreBounded, CountedGrows, CountedIsBounded};
 ghost use Rattle.fluid_rules.specs.ScribeLaws.{UnansweredGrows, AcksGrow, UnansweredByNone, PendingIsLeast, AcksAreSummaryAcks, OrdersAreAnsweredInTurn, AnswersSayWhatIsMeant};
 
 use fluid_tree::laws::ids_are_read_back;
@@ -64,6 +64,16 @@ pub fn legal_grows()
     ensures { LegalGrows }
 {}
 
+/// One entry more counts where it is a join or a submission.
+pub fn counted_grows()
+    ensures { CountedGrows }
+{}
+
+/// No more entries of a ledger count than there are.
+pub fn counted_is_bounded()
+    ensures { CountedIsBounded }
+{}
+
 /// A ledger of two parts is legal exactly where the first is legal and the second is legal behind it.
 pub fn legal_in_parts()
     ensures { LegalInParts }
@@ -117,7 +127,9 @@ pub fn acks_are_summary_acks()
 /// The order of a legal ledger is one in which all this holds.
 pub fn orders_are_answered_in_turn()
     ensures { OrdersAreAnsweredInTurn }
-{}
+{
+    ids_are_read_back();
+}
 
 /// The contents of an answer name their summarize, and those of a summaryAck its handle.
 pub fn answers_say_what_is_meant()
