@@ -1,5 +1,5 @@
 -- What holds behind an entry that was prepared in a sound state.
-use Rattle.std.proofs.Common.{◌≡◌, ℕ, ◌+◌, ◌-◌, ◌^◌, ◌<◌, ◌≤◌, ℤ, pos, negsuc, Bool, true, false, cond, List, [], ◌∷◌, ◌++◌, length, Some, None, Option, is_some, bytes_eq, add-zero, refl, sym, ap, subst, ◌∙◌, arith}
+use Rattle.std.proofs.Common.{◌≡◌, ℕ, ◌+◌, ◌-◌, ◌^◌, ◌<◌, ◌≤◌, ℤ, pos, negsuc, Bool, true, false, cond, List, [], ◌∷◌, ◌++◌, length, Some, None, Option, is_some, bytes_eq, add-zero, Result, Ok, Err, IfOk, refl, sym, ap, subst, ◌∙◌, arith}
 use Rattle.std.specs.Prelude.{int_lt}
 use Rattle.std.specs.Option.{unwrap_or, option_map}
 use Rattle.std.specs.Ordering.{eq_by_cmp}
@@ -8,6 +8,9 @@ use Rattle.std.proofs.lemmas.Bool.{false≢true, ltb-false}
 use Rattle.std.proofs.lemmas.Option.{none-some, same_Some}
 use Rattle.fluid_types.specs.declared.entries.Raw.{Raw}
 use Rattle.fluid_types.specs.declared.entries.Raw.TheVariants.{Join, Leave, Submit, Report}
+use Rattle.fluid_json.specs.Tree.{Tree}
+use Rattle.fluid_json.specs.declared.memory.NoMemory.{NoMemory}
+use Rattle.fluid_types.specs.declared.entries.Scopes.{Scopes}
 use Rattle.fluid_types.specs.declared.entries.Submission.{Submission}
 use Rattle.fluid_types.specs.declared.messages.Message.{Message}
 use Rattle.fluid_types.specs.declared.nacks.NackRule.{NackRule}
@@ -17,7 +20,9 @@ use Rattle.fluid_types.specs.declared.verdicts.Verdict.TheVariants.{Sequenced, N
 use Rattle.fluid_types.specs.Ledger.{Ledger, messages_of}
 use Rattle.fluid_rules.specs.Past.{is_below, count_of}
 use Rattle.fluid_rules.specs.Rules as rules
-use Rattle.fluid_rules.specs.Rules.{unsettled, leaves_reference}
+use Rattle.fluid_rules.specs.Rules.{submission_message, unsettled, sequenced}
+use Rattle.fluid_rules.specs.declared.answers.Answer.{Answer}
+use Rattle.fluid_rules.proofs.Verdicts.{unsettled-number}
 use Rattle.fluid_clients.specs.declared.table.Row.{Row}
 use Rattle.fluid_clients.specs.Table.{Rows, Table, byte_order, least}
 use Rattle.fluid_clients.proofs.Laws.{byte_order_total}
@@ -25,8 +30,8 @@ use Rattle.fluid_ticket.specs.declared.ready.Change.{Change}
 use Rattle.fluid_ticket.specs.declared.ready.Change.TheVariants.{Nothing, Joins, Leaves, Accepts, Holds}
 use Rattle.fluid_ticket.specs.declared.outcome.Outcome.{Outcome}
 use Rattle.fluid_ticket.specs.declared.outcome.Outcome.TheVariants.{Duplicate, Refused, Admitted}
-use Rattle.fluid_ticket.specs.State.{State, minimum, change_of, changed, after, message_in, given_or, outcome, verdict_of, verdict_in, Prepared, prepared, CanApply, IsSoundRow, IsSound}
-use Rattle.fluid_ticket.specs.Ledger.{state_of, StandsFor}
+use Rattle.fluid_ticket.specs.State.{State, minimum, change_of, changed, after, settled_in, message_in, given_or, outcome, verdict_of, verdict_in, Prepared, prepared, CanApply, HasMinimumUpTo, IsSoundRow, IsSound}
+use Rattle.fluid_ticket.specs.Ledger.{state_of, StandsFor, IsAnswered}
 use Rattle.fluid_ticket.proofs.Outcomes.{admitted_row, below_row}
 use Rattle.fluid_ticket.proofs.Sound.{minimum-le-sequence, held_minimum}
 use Rattle.fluid_ticket.proofs.Prepares.{reference_is}
@@ -64,46 +69,63 @@ module _ (s : State) (spare : ℕ) (room : 0 < spare) where
   can_submit id submission moment (Refused rule) is = can_hold id submission rule (is_below rule) refl is
   can_submit id submission moment Admitted is = (ap is_some (admitted_row s id submission is).1, room)
 
-  pub can_apply : (raw : Raw) → CanApply (prepared s raw).change table
-  unfolding prepared verdict_in change_of
-  can_apply (Join id scopes detail moment) =
-      elim (get s.rows id) as (λ o. get s.rows id ≡ o → CanApply (change_of s (Join id scopes detail moment) (cond (is_some o) Dropped (Sequenced (message_in s (Join id scopes detail moment))))) table) [
+  pub can_apply : (answer : Answer) (raw : Raw) → CanApply (prepared s answer raw).change table
+  unfolding prepared verdict_in change_of message_in unsettled
+  can_apply answer (Join id scopes detail moment) =
+      elim (get s.rows id) as (λ o. get s.rows id ≡ o → CanApply (change_of s (Join id scopes detail moment) (cond (is_some o) Dropped (sequenced (message_in s answer (Join id scopes detail moment))))) table) [
         | None ↦ λ there. (there, room)
         | Some row ↦ λ there. tt
       ] refl
-  can_apply (Leave id moment) =
-      elim (is_some (get s.rows id)) as (λ b. CanApply (change_of s (Leave id moment) (cond b (Sequenced (message_in s (Leave id moment))) Dropped)) table) [ true ↦ tt | false ↦ tt ]
-  can_apply (Submit id submission moment) = can_submit id submission moment (outcome s id submission) refl
-  can_apply (Report summary found moment) = tt
+  can_apply answer (Leave id moment) =
+      elim (is_some (get s.rows id)) as (λ b. CanApply (change_of s (Leave id moment) (cond b (sequenced (message_in s answer (Leave id moment))) Dropped)) table) [ true ↦ tt | false ↦ tt ]
+  can_apply answer (Submit id submission moment) = can_submit id submission moment (outcome s id submission) refl
+  can_apply answer (Report summary found moment) = no_change (sequenced (message_in s answer (Report summary found moment)))
+    where
+      no_change : (v : Verdict) → CanApply (change_of s (Report summary found moment) v) table
+      no_change (Sequenced m) = tt
+      no_change (Nacked nack) = tt
+      no_change Dropped = tt
 
 -- ---- what was sequenced is the message
 
-joined_message : (b : Bool) (x m : Message) → cond b Dropped (Sequenced x) ≡ Sequenced m → m ≡ x
-joined_message true x m is = cc
-joined_message false x m is = cc
+sequenced_some : (o : Option Message) (m : Message) → sequenced o ≡ Sequenced m → o ≡ Some m
+sequenced_some None m is = absurd (cc)
+sequenced_some (Some x) m is = cc
 
-left_message : (b : Bool) (x m : Message) → cond b (Sequenced x) Dropped ≡ Sequenced m → m ≡ x
-left_message true x m is = cc
-left_message false x m is = cc
+joined_message : (b : Bool) (o : Option Message) (m : Message) → cond b Dropped (sequenced o) ≡ Sequenced m → o ≡ Some m
+joined_message true o m is = absurd (cc)
+joined_message false o m is = sequenced_some o m is
 
-submitted_message : (s : State) (id : List ℕ) (submission : Submission) (moment : ℕ) (o : Outcome) (m : Message) → verdict_of s id submission moment o ≡ Sequenced m → m ≡ message_in s (Submit id submission moment)
-submitted_message s id submission moment Duplicate m is = cc
-submitted_message s id submission moment (Refused rule) m is = cc
-submitted_message s id submission moment Admitted m is = cc
+left_message : (b : Bool) (o : Option Message) (m : Message) → cond b (sequenced o) Dropped ≡ Sequenced m → o ≡ Some m
+left_message true o m is = sequenced_some o m is
+left_message false o m is = absurd (cc)
 
-pub is_message_in : (s : State) (raw : Raw) (m : Message) → verdict_in s raw ≡ Sequenced m → m ≡ message_in s raw
-unfolding verdict_in
-is_message_in s (Join id scopes detail moment) m is = joined_message (is_some (get s.rows id)) _ m is
-is_message_in s (Leave id moment) m is = left_message (is_some (get s.rows id)) _ m is
-is_message_in s (Submit id submission moment) m is = submitted_message s id submission moment (outcome s id submission) m is
-is_message_in s (Report summary found moment) m is = cc
-
-number_in : (s : State) (raw : Raw) → (message_in s raw).number ≡ s.sequence + 1
+submitted_message : (s : State) (answer : Answer) (id : List ℕ) (submission : Submission) (moment : ℕ) (o : Outcome) (m : Message) →
+    verdict_of s id submission moment o ≡ Sequenced m → message_in s answer (Submit id submission moment) ≡ Some m
 unfolding message_in unsettled
-number_in s (Join id scopes detail moment) = refl
-number_in s (Leave id moment) = refl
-number_in s (Submit id submission moment) = refl
-number_in s (Report summary found moment) = refl
+submitted_message s answer id submission moment Duplicate m is = absurd (cc)
+submitted_message s answer id submission moment (Refused rule) m is = absurd (cc)
+submitted_message s answer id submission moment Admitted m is = cc
+
+pub is_message_in : (s : State) (answer : Answer) (raw : Raw) (m : Message) → verdict_in s answer raw ≡ Sequenced m → message_in s answer raw ≡ Some m
+unfolding verdict_in
+is_message_in s answer (Join id scopes detail moment) m is = joined_message (is_some (get s.rows id)) _ m is
+is_message_in s answer (Leave id moment) m is = left_message (is_some (get s.rows id)) _ m is
+is_message_in s answer (Submit id submission moment) m is = submitted_message s answer id submission moment (outcome s id submission) m is
+is_message_in s answer (Report summary found moment) m is = sequenced_some _ m is
+
+some_message : (x m : Message) → Some x ≡ Some m → x ≡ m
+some_message x m is = cc
+
+settled_number : (s : State) (raw : Raw) (number : ℕ) (o : Option Message) (m : Message) → ((x : Message) → o ≡ Some x → x.number ≡ number) →
+    option_map (settled_in s raw) o ≡ Some m → m.number ≡ number
+settled_number s raw number None m at is = absurd (cc)
+settled_number s raw number (Some x) m at is = sym (ap (λ (y : Message). y.number) (some_message _ m is)) ∙ at x refl
+
+pub number_in : (s : State) (answer : Answer) (raw : Raw) (m : Message) → message_in s answer raw ≡ Some m → m.number ≡ s.sequence + 1
+unfolding message_in
+number_in s answer raw m is =
+    settled_number s raw (s.sequence + 1) (unsettled (s.sequence + 1) (λ summary found. answer) raw) m (unsettled-number (s.sequence + 1) (λ summary found. answer) raw) is
 
 -- the minimum in a message has no part in what it changes
 settled : (s : State) (raw : Raw) (m : Message) (n : ℕ) → after s raw (Sequenced (record m { minimum = n })) ≡ after s raw (Sequenced m)
@@ -113,20 +135,25 @@ settled s (Leave id moment) m n = refl
 settled s (Submit id submission moment) m n = refl
 settled s (Report summary found moment) m n = refl
 
-minimum_in : (s : State) (raw : Raw) → (message_in s raw).minimum ≡ minimum (after s raw (Sequenced (message_in s raw)))
+settled_minimum : (s : State) (raw : Raw) (o : Option Message) (m : Message) → option_map (settled_in s raw) o ≡ Some m → m.minimum ≡ minimum (after s raw (Sequenced m))
+settled_minimum s raw None m is = absurd (cc)
+settled_minimum s raw (Some x) m is = rw (sym (some_message _ m is)) (ap minimum (sym (settled s raw x _)))
+
+minimum_in : (s : State) (answer : Answer) (raw : Raw) (m : Message) → message_in s answer raw ≡ Some m → m.minimum ≡ minimum (after s raw (Sequenced m))
 unfolding message_in
-minimum_in s raw = ap minimum (sym (settled s raw (unsettled (s.sequence + 1) raw) _))
+minimum_in s answer raw m is = settled_minimum s raw (unsettled (s.sequence + 1) (λ summary found. answer) raw) m is
 
 -- ---- the state behind
 
 -- the parts of what was prepared
-pub record HasParts (s : State) (raw : Raw) (verdict : Verdict) (change : Change) : Type 0 where
-  pub verdict_is : verdict ≡ verdict_in s raw
+pub record HasParts (s : State) (answer : Answer) (raw : Raw) (verdict : Verdict) (change : Change) : Type 0 where
+  pub verdict_is : verdict ≡ verdict_in s answer raw
   pub change_is : change ≡ change_of s raw verdict
 
-pub parts_of : (s : State) (raw : Raw) (parts : Verdict × Change) (ready : Prepared) → parts ≡ (ready.verdict, ready.change) → ready ≡ prepared s raw → HasParts s raw parts.0 parts.1
+pub parts_of : (s : State) (answer : Answer) (raw : Raw) (parts : Verdict × Change) (ready : Prepared) → parts ≡ (ready.verdict, ready.change) → ready ≡ prepared s answer raw →
+    HasParts s answer raw parts.0 parts.1
 unfolding prepared
-parts_of s raw parts ready pair is =
+parts_of s answer raw parts ready pair is =
     let verdict = ap (λ (p : Verdict × Change). p.0) pair ∙ ap (λ (r : Prepared). r.verdict) is in
     record {
       verdict_is = verdict;
@@ -136,7 +163,7 @@ parts_of s raw parts ready pair is =
 same_state : (s t : State) → s.sequence ≡ t.sequence → s.rows ≡ t.rows → s ≡ t
 same_state s t sequence rows = λ i. record { sequence = sequence i; rows = rows i }
 
-module _ (s : State) (raw : Raw) (verdict : Verdict) (change : Change) (parts : HasParts s raw verdict change) (rows : Rows) (applied : rows ≡ changed change s.rows) where
+module _ (s : State) (answer : Answer) (raw : Raw) (verdict : Verdict) (change : Change) (parts : HasParts s answer raw verdict change) (rows : Rows) (applied : rows ≡ changed change s.rows) where
   rows_after : rows ≡ (after s raw verdict).rows
   unfolding after
   rows_after = applied ∙ ap (λ c. changed c s.rows) parts.change_is
@@ -145,7 +172,7 @@ module _ (s : State) (raw : Raw) (verdict : Verdict) (change : Change) (parts : 
   unfolding after
   after_sequenced m is =
       same_state _ _
-      (ap (λ (x : Message). x.number) (is_message_in s raw m (sym parts.verdict_is ∙ is)) ∙ number_in s raw ∙ ap (λ v. s.sequence + length (messages_of v)) (sym is))
+      (number_in s answer raw m (is_message_in s answer raw m (sym parts.verdict_is ∙ is)) ∙ ap (λ v. s.sequence + length (messages_of v)) (sym is))
       rows_after
 
   pub after_other : ((m : Message) → verdict ≡ Sequenced m → ⊥) → record { sequence = s.sequence; rows = rows } ≡ after s raw verdict
@@ -216,8 +243,7 @@ given_seen sequence (pos n) seen = let low : n ≤ sequence = ltb-false _ _ seen
 given_seen sequence (negsuc n) seen = omega arith
 
 accepted_sound : (s : State) (id : List ℕ) (submission : Submission) (moment : ℕ) → IsSound s → outcome s id submission ≡ Admitted →
-    BringsSound s (s.sequence + 1) (Accepts id submission.client_number (count_of (message_in s (Submit id submission moment)).reference))
-unfolding message_in unsettled
+    BringsSound s (s.sequence + 1) (Accepts id submission.client_number (count_of (submission_message (s.sequence + 1) id submission moment).reference))
 accepted_sound s id submission moment sound is =
     let admitted = admitted_row s id submission is in
     λ row there.
@@ -235,46 +261,74 @@ module _ (s : State) (sound : IsSound s) where
   refused_brings id submission true = λ row there. held_sound s s.sequence submission.client_number row sound (omega arith)
   refused_brings id submission false = tt
 
-  brings : (raw : Raw) → BringsSound s (s.sequence + length (messages_of (verdict_in s raw))) (change_of s raw (verdict_in s raw))
-  unfolding verdict_in change_of
-  brings (Join id scopes detail moment) =
+  brings : (answer : Answer) (raw : Raw) → BringsSound s (s.sequence + length (messages_of (verdict_in s answer raw))) (change_of s raw (verdict_in s answer raw))
+  unfolding verdict_in change_of message_in unsettled
+  brings answer (Join id scopes detail moment) =
       elim (is_some (get s.rows id)) as (λ b.
-      BringsSound s (s.sequence + length (messages_of (cond b Dropped (Sequenced (message_in s (Join id scopes detail moment))))))
-      (change_of s (Join id scopes detail moment) (cond b Dropped (Sequenced (message_in s (Join id scopes detail moment)))))) [
+      BringsSound s (s.sequence + length (messages_of (cond b Dropped (sequenced (message_in s answer (Join id scopes detail moment))))))
+      (change_of s (Join id scopes detail moment) (cond b Dropped (sequenced (message_in s answer (Join id scopes detail moment)))))) [
         | true ↦ tt
         | false ↦ record { reference = let low = minimum-le-sequence s sound in omega arith; last = λ in_order. omega arith }
       ]
-  brings (Leave id moment) =
+  brings answer (Leave id moment) =
       elim (is_some (get s.rows id)) as (λ b.
-      BringsSound s (s.sequence + length (messages_of (cond b (Sequenced (message_in s (Leave id moment))) Dropped)))
-      (change_of s (Leave id moment) (cond b (Sequenced (message_in s (Leave id moment))) Dropped))) [ true ↦ tt | false ↦ tt ]
-  brings (Submit id submission moment) =
+      BringsSound s (s.sequence + length (messages_of (cond b (sequenced (message_in s answer (Leave id moment))) Dropped)))
+      (change_of s (Leave id moment) (cond b (sequenced (message_in s answer (Leave id moment))) Dropped))) [ true ↦ tt | false ↦ tt ]
+  brings answer (Submit id submission moment) =
       elim (outcome s id submission) as (λ o. outcome s id submission ≡ o →
       BringsSound s (s.sequence + length (messages_of (verdict_of s id submission moment o))) (change_of s (Submit id submission moment) (verdict_of s id submission moment o))) [
         | Duplicate ↦ λ is. tt
         | Refused rule ↦ λ is. subst (λ n. BringsSound s n (cond (is_below rule) (Holds id submission.client_number (minimum s)) Nothing)) (sym (add-zero s.sequence)) (refused_brings id submission (is_below rule))
         | Admitted ↦ λ is. accepted_sound s id submission moment sound is
       ] refl
-  brings (Report summary found moment) = tt
+  brings answer (Report summary found moment) = nothing_brought (sequenced (message_in s answer (Report summary found moment)))
+    where
+      nothing_brought : (v : Verdict) → BringsSound s (s.sequence + length (messages_of v)) (change_of s (Report summary found moment) v)
+      nothing_brought (Sequenced m) = tt
+      nothing_brought (Nacked nack) = tt
+      nothing_brought Dropped = tt
 
   few_after : (v : Verdict) → s.sequence < 2 ^ 53 - 1 → s.sequence + length (messages_of v) ≤ 2 ^ 53 - 1
   few_after (Sequenced m) few = omega arith
   few_after (Nacked nack) few = omega arith
   few_after Dropped few = omega arith
 
-  pub sound_after : (raw : Raw) (verdict : Verdict) → verdict ≡ verdict_in s raw → s.sequence < 2 ^ 53 - 1 → IsSound (after s raw verdict)
+  pub sound_after : (answer : Answer) (raw : Raw) (verdict : Verdict) → verdict ≡ verdict_in s answer raw → s.sequence < 2 ^ 53 - 1 → IsSound (after s raw verdict)
   unfolding after
-  sound_after raw verdict is few = subst (λ v. IsSound (after s raw v)) (sym is) (record {
-    few = few_after (verdict_in s raw) few;
-    rows = rows_sound s (s.sequence + length (messages_of (verdict_in s raw))) sound (omega arith) (change_of s raw (verdict_in s raw)) (brings raw);
+  sound_after answer raw verdict is few = subst (λ v. IsSound (after s raw v)) (sym is) (record {
+    few = few_after (verdict_in s answer raw) few;
+    rows = rows_sound s (s.sequence + length (messages_of (verdict_in s answer raw))) sound (omega arith) (change_of s raw (verdict_in s answer raw)) (brings answer raw);
   })
 
 -- ---- its minimum
 
-pub minimum_sequenced : (s : State) (raw : Raw) (verdict : Verdict) (m : Message) → verdict ≡ verdict_in s raw → verdict ≡ Sequenced m → m.minimum ≡ minimum (after s raw verdict)
-minimum_sequenced s raw verdict m by is =
-    let same = is_message_in s raw m (sym by ∙ is) in
-    ap (λ (x : Message). x.minimum) same ∙ minimum_in s raw ∙ ap (λ x. minimum (after s raw (Sequenced x))) (sym same) ∙ ap (λ v. minimum (after s raw v)) (sym is)
+pub minimum_sequenced : (s : State) (answer : Answer) (raw : Raw) (verdict : Verdict) (m : Message) → verdict ≡ verdict_in s answer raw → verdict ≡ Sequenced m → m.minimum ≡ minimum (after s raw verdict)
+minimum_sequenced s answer raw verdict m by is =
+    minimum_in s answer raw m (is_message_in s answer raw m (sym by ∙ is)) ∙ ap (λ v. minimum (after s raw v)) (sym is)
+
+one_more : (s : State) (raw : Raw) (m : Message) → (after s raw (Sequenced m)).sequence ≡ s.sequence + 1
+unfolding after
+one_more s raw m = refl
+
+-- a message's minimum isn't above its number
+pub minimum_within : (s : State) (answer : Answer) (raw : Raw) (verdict : Verdict) → IsSound s → s.sequence < 2 ^ 53 - 1 → verdict ≡ verdict_in s answer raw →
+    HasMinimumUpTo (s.sequence + 1) verdict
+minimum_within s answer raw (Sequenced m) sound few is =
+    let low = minimum-le-sequence (after s raw (Sequenced m)) (sound_after s sound answer raw (Sequenced m) is few) in
+    omega (arith, low, minimum_sequenced s answer raw (Sequenced m) m is refl, one_more s raw m)
+minimum_within s answer raw (Nacked nack) sound few is = tt
+minimum_within s answer raw Dropped sound few is = tt
+
+prepared_verdict : (s : State) (answer : Answer) (raw : Raw) (ready : Prepared) → ready ≡ prepared s answer raw → ready.verdict ≡ verdict_in s answer raw
+unfolding prepared
+prepared_verdict s answer raw ready is = ap (λ (r : Prepared). r.verdict) is
+
+-- and so it is of what is prepared
+pub bounded_in : (result : Result Prepared NoMemory) (s t : State) (answer : Answer) (raw : Raw) → IfOk result (λ ready. ready ≡ prepared s answer raw) → s ≡ t → IsSound t →
+    t.sequence < 2 ^ 53 - 1 → IfOk result (λ ready. HasMinimumUpTo (t.sequence + 1) ready.verdict)
+bounded_in (Ok ready) s t answer raw is same sound few =
+    minimum_within t answer raw ready.verdict sound few (prepared_verdict t answer raw ready (is ∙ ap (λ u. prepared u answer raw) same))
+bounded_in (Err fault) s t answer raw is same sound few = tt
 
 stays : (s : State) → unwrap_or (least s.rows) (s.sequence + 0) ≡ minimum s
 stays s = ap (λ n. unwrap_or (least s.rows) n) (add-zero s.sequence)
@@ -286,13 +340,19 @@ held_stays s id submission rule true h is =
     let there = below_row s id submission (is ∙ ap Refused (refused_below rule h)) in
     rw there.1 (held_minimum s id there.0 (record there.0 { last = submission.client_number; reference = minimum s; nacked = true }) (s.sequence + 0) there.1 refl)
 
-joined_stays : (s : State) (id : List ℕ) (raw : Raw) (b : Bool) (m : Message) → ((x : Message) → cond b Dropped (Sequenced m) ≡ Sequenced x → ⊥) → minimum (after s raw Dropped) ≡ minimum s → minimum (after s raw (cond b Dropped (Sequenced m))) ≡ minimum s
-joined_stays s id raw true m other is = is
-joined_stays s id raw false m other is = absurd (other m refl)
+unsequenced_stays : (s : State) (raw : Raw) (o : Option Message) → ((x : Message) → sequenced o ≡ Sequenced x → ⊥) → minimum (after s raw Dropped) ≡ minimum s → minimum (after s raw (sequenced o)) ≡ minimum s
+unsequenced_stays s raw None other is = is
+unsequenced_stays s raw (Some m) other is = absurd (other m refl)
 
-left_stays : (s : State) (id : List ℕ) (raw : Raw) (b : Bool) (m : Message) → ((x : Message) → cond b (Sequenced m) Dropped ≡ Sequenced x → ⊥) → minimum (after s raw Dropped) ≡ minimum s → minimum (after s raw (cond b (Sequenced m) Dropped)) ≡ minimum s
-left_stays s id raw true m other is = absurd (other m refl)
-left_stays s id raw false m other is = is
+joined_stays : (s : State) (raw : Raw) (b : Bool) (o : Option Message) → ((x : Message) → cond b Dropped (sequenced o) ≡ Sequenced x → ⊥) → minimum (after s raw Dropped) ≡ minimum s →
+    minimum (after s raw (cond b Dropped (sequenced o))) ≡ minimum s
+joined_stays s raw true o other is = is
+joined_stays s raw false o other is = unsequenced_stays s raw o other is
+
+left_stays : (s : State) (raw : Raw) (b : Bool) (o : Option Message) → ((x : Message) → cond b (sequenced o) Dropped ≡ Sequenced x → ⊥) → minimum (after s raw Dropped) ≡ minimum s →
+    minimum (after s raw (cond b (sequenced o) Dropped)) ≡ minimum s
+left_stays s raw true o other is = unsequenced_stays s raw o other is
+left_stays s raw false o other is = is
 
 dropped_stays : (s : State) (raw : Raw) → minimum (after s raw Dropped) ≡ minimum s
 unfolding after change_of
@@ -308,16 +368,17 @@ submitted_stays s id submission moment Duplicate is other = stays s
 submitted_stays s id submission moment (Refused rule) is other = held_stays s id submission rule (is_below rule) refl is
 submitted_stays s id submission moment Admitted is other = absurd (other _ refl)
 
-other_stays : (s : State) (raw : Raw) → ((m : Message) → verdict_in s raw ≡ Sequenced m → ⊥) → minimum (after s raw (verdict_in s raw)) ≡ minimum s
+other_stays : (s : State) (answer : Answer) (raw : Raw) → ((m : Message) → verdict_in s answer raw ≡ Sequenced m → ⊥) → minimum (after s raw (verdict_in s answer raw)) ≡ minimum s
 unfolding verdict_in
-other_stays s (Join id scopes detail moment) other = joined_stays s id (Join id scopes detail moment) (is_some (get s.rows id)) _ other (dropped_stays s (Join id scopes detail moment))
-other_stays s (Leave id moment) other = left_stays s id (Leave id moment) (is_some (get s.rows id)) _ other (dropped_stays s (Leave id moment))
-other_stays s (Submit id submission moment) other = submitted_stays s id submission moment (outcome s id submission) refl other
-other_stays s (Report summary found moment) other = dropped_stays s (Report summary found moment)
+other_stays s answer (Join id scopes detail moment) other = joined_stays s (Join id scopes detail moment) (is_some (get s.rows id)) _ other (dropped_stays s (Join id scopes detail moment))
+other_stays s answer (Leave id moment) other = left_stays s (Leave id moment) (is_some (get s.rows id)) _ other (dropped_stays s (Leave id moment))
+other_stays s answer (Submit id submission moment) other = submitted_stays s id submission moment (outcome s id submission) refl other
+other_stays s answer (Report summary found moment) other =
+    unsequenced_stays s (Report summary found moment) (message_in s answer (Report summary found moment)) other (dropped_stays s (Report summary found moment))
 
 -- what is not sequenced leaves the minimum as it is
-pub minimum_other : (s : State) (raw : Raw) (verdict : Verdict) → verdict ≡ verdict_in s raw → ((m : Message) → verdict ≡ Sequenced m → ⊥) → minimum (after s raw verdict) ≡ minimum s
-minimum_other s raw verdict by other = ap (λ v. minimum (after s raw v)) by ∙ other_stays s raw (λ m is. other m (by ∙ is))
+pub minimum_other : (s : State) (answer : Answer) (raw : Raw) (verdict : Verdict) → verdict ≡ verdict_in s answer raw → ((m : Message) → verdict ≡ Sequenced m → ⊥) → minimum (after s raw verdict) ≡ minimum s
+minimum_other s answer raw verdict by other = ap (λ v. minimum (after s raw v)) by ∙ other_stays s answer raw (λ m is. other m (by ∙ is))
 
 -- ---- what it stands for
 
@@ -328,18 +389,34 @@ followed_submission s id submission moment Admitted is =
     let admitted = admitted_row s id submission is in
     λ row there. subst (λ (r : Row). r.nacked ≡ false) (same_Some _ _ (sym admitted.1 ∙ there)) admitted.2.in_order
 
-followed : (s : State) (raw : Raw) → IsFollowed s raw (verdict_in s raw)
+-- only of a submission it matters that it was sequenced
+unfollowed_join : (s : State) (id : List ℕ) (scopes : Scopes) (detail : Tree) (moment : ℕ) (v : Verdict) → IsFollowed s (Join id scopes detail moment) v
+unfollowed_join s id scopes detail moment (Sequenced m) = tt
+unfollowed_join s id scopes detail moment (Nacked nack) = tt
+unfollowed_join s id scopes detail moment Dropped = tt
+
+unfollowed_leave : (s : State) (id : List ℕ) (moment : ℕ) (v : Verdict) → IsFollowed s (Leave id moment) v
+unfollowed_leave s id moment (Sequenced m) = tt
+unfollowed_leave s id moment (Nacked nack) = tt
+unfollowed_leave s id moment Dropped = tt
+
+unfollowed_report : (s : State) (summary : ℕ) (found : Bool) (moment : ℕ) (v : Verdict) → IsFollowed s (Report summary found moment) v
+unfollowed_report s summary found moment (Sequenced m) = tt
+unfollowed_report s summary found moment (Nacked nack) = tt
+unfollowed_report s summary found moment Dropped = tt
+
+followed : (s : State) (answer : Answer) (raw : Raw) → IsFollowed s raw (verdict_in s answer raw)
 unfolding verdict_in
-followed s (Join id scopes detail moment) = tt
-followed s (Leave id moment) = tt
-followed s (Submit id submission moment) = followed_submission s id submission moment (outcome s id submission) refl
-followed s (Report summary found moment) = tt
+followed s answer (Join id scopes detail moment) = unfollowed_join s id scopes detail moment (verdict_in s answer (Join id scopes detail moment))
+followed s answer (Leave id moment) = unfollowed_leave s id moment (verdict_in s answer (Leave id moment))
+followed s answer (Submit id submission moment) = followed_submission s id submission moment (outcome s id submission) refl
+followed s answer (Report summary found moment) = unfollowed_report s summary found moment (verdict_in s answer (Report summary found moment))
 
 -- a state that stood for a ledger stands, behind an entry, for the ledger with this entry
-pub stands_after : (s t : State) (raw : Raw) (verdict : Verdict) (ledger : Ledger) → verdict ≡ verdict_in s raw → t ≡ after s raw verdict → StandsFor s ledger →
-    (verdict ≡ rules.verdict ledger raw) × StandsFor t (ledger ++ (raw, verdict) ∷ [])
-stands_after s t raw verdict ledger by is stands =
-    let in_ledger : verdict ≡ verdict_in (state_of ledger) raw = by ∙ ap (λ u. verdict_in u raw) stands.is in (
-      in_ledger ∙ verdict-state_of ledger raw,
-      record { is = is ∙ ap (λ u. after u raw verdict) stands.is ∙ sym (state_of-push ledger raw verdict (subst (IsFollowed (state_of ledger) raw) (sym in_ledger) (followed (state_of ledger) raw))) },
+pub stands_after : (s t : State) (answer : Answer) (raw : Raw) (verdict : Verdict) (ledger : Ledger) → verdict ≡ verdict_in s answer raw → t ≡ after s raw verdict →
+    StandsFor s ledger → IsAnswered ledger raw answer → (verdict ≡ rules.verdict ledger raw) × StandsFor t (ledger ++ (raw, verdict) ∷ [])
+stands_after s t answer raw verdict ledger by is stands answered =
+    let in_ledger : verdict ≡ verdict_in (state_of ledger) answer raw = by ∙ ap (λ u. verdict_in u answer raw) stands.is in (
+      in_ledger ∙ verdict-state_of ledger answer raw answered,
+      record { is = is ∙ ap (λ u. after u raw verdict) stands.is ∙ sym (state_of-push ledger raw verdict (subst (IsFollowed (state_of ledger) raw) (sym in_ledger) (followed (state_of ledger) answer raw))) },
     )

@@ -23,7 +23,10 @@ use Rattle.fluid_types.proofs.Ledgers.{seq-push}
 use Rattle.fluid_rules.specs.Past as past
 use Rattle.fluid_rules.specs.Past.{Client, IsLeast, has_id, is_below, count_of, client_behind, client_submitting}
 use Rattle.fluid_rules.specs.Rules as rules
-use Rattle.fluid_rules.specs.Rules.{past_of, is_joined, last_number, is_nacked, reference, scopes, client, joined, unsettled, first_case}
+use Rattle.fluid_rules.specs.Rules.{past_of, is_joined, last_number, is_nacked, reference, scopes, client, joined, answer_message, submission_message, unsettled, settled, sequenced, first_case}
+use Rattle.fluid_rules.specs.Scribe as scribe
+use Rattle.fluid_rules.specs.Scribe.{reported}
+use Rattle.fluid_rules.specs.declared.answers.Answer.{Answer}
 use Rattle.fluid_rules.proofs.Ids.{same_id}
 use Rattle.fluid_rules.proofs.Minimum.{joined-has, is_joined-client, minimum-is_least, least-unique}
 use Rattle.fluid_rules.proofs.Pushed.{client-push}
@@ -33,8 +36,8 @@ use Rattle.fluid_clients.proofs.Laws.{byte_order_total, byte_order-IsAntisymmetr
 use Rattle.fluid_ticket.specs.declared.ready.Change.TheVariants.{Nothing, Holds}
 use Rattle.fluid_ticket.specs.declared.outcome.Outcome.TheVariants.{Duplicate, Refused, Admitted}
 use Rattle.fluid_ticket.specs.State as state
-use Rattle.fluid_ticket.specs.State.{State, start, change_of, change_row, changed, after, message_in, first_fit, outcome_by, outcome_at, outcome, verdict_of, verdict_in, Prepared, prepared}
-use Rattle.fluid_ticket.specs.Ledger.{row_of, state_of, StandsFor}
+use Rattle.fluid_ticket.specs.State.{State, start, change_of, change_row, changed, after, settled_in, message_in, first_fit, outcome_by, outcome_at, outcome, verdict_of, verdict_in, Prepared, prepared}
+use Rattle.fluid_ticket.specs.Ledger.{row_of, state_of, StandsFor, IsAnswered}
 use Rattle.fluid_ticket.proofs.Sound.{minimum-le-reference}
 
 -- ---- what the state says of a client
@@ -221,13 +224,41 @@ state_of-push ledger raw verdict followed =
 
 -- ---- the verdict
 
--- the message of an entry
-message-state_of : (ledger : Ledger) (raw : Raw) → IsFollowed (state_of ledger) raw (Sequenced (unsettled (seq ledger + 1) raw)) →
-    message_in (state_of ledger) raw ≡ rules.message ledger raw
-unfolding rules.message message_in state_of
-message-state_of ledger raw followed =
-    let m = unsettled (seq ledger + 1) raw in
+-- what the rules ask the scribe over the order, and the answer handed in
+answered_same : (ledger : Ledger) (answer : Answer) (raw : Raw) (number : ℕ) → IsAnswered ledger raw answer →
+    unsettled number (λ summary found. answer) raw ≡ unsettled number (scribe.answer (order ledger)) raw
+unfolding unsettled
+answered_same ledger answer (Join id scopes detail moment) number is = refl
+answered_same ledger answer (Leave id moment) number is = refl
+answered_same ledger answer (Submit id submission moment) number is = refl
+answered_same ledger answer (Report summary found moment) number is =
+    ap (λ a. option_map (answer_message number moment) (reported summary a)) is
+
+settled-state_of : (ledger : Ledger) (raw : Raw) (m : Message) → IsFollowed (state_of ledger) raw (Sequenced m) → settled_in (state_of ledger) raw m ≡ settled ledger raw m
+settled-state_of ledger raw m followed =
     ap (λ (n : ℕ). record m { minimum = n }) (sym (sym (minimum-state_of (ledger ++ (raw, Sequenced m) ∷ [])) ∙ ap state.minimum (state_of-push ledger raw (Sequenced m) followed)))
+
+settled_some : (ledger : Ledger) (raw : Raw) (o : Option Message) → ((m : Message) → IsFollowed (state_of ledger) raw (Sequenced m)) →
+    option_map (settled_in (state_of ledger) raw) o ≡ option_map (settled ledger raw) o
+settled_some ledger raw None followed = refl
+settled_some ledger raw (Some m) followed = ap Some (settled-state_of ledger raw m (followed m))
+
+-- the message of an entry other than a submission
+message-state_of : (ledger : Ledger) (answer : Answer) (raw : Raw) → IsAnswered ledger raw answer → ((m : Message) → IsFollowed (state_of ledger) raw (Sequenced m)) →
+    message_in (state_of ledger) answer raw ≡ rules.message ledger raw
+unfolding rules.message message_in state_of
+message-state_of ledger answer raw is followed =
+    ap (option_map (settled_in (state_of ledger) raw)) (answered_same ledger answer raw (seq ledger + 1) is)
+    ∙ settled_some ledger raw (unsettled (seq ledger + 1) (scribe.answer (order ledger)) raw) followed
+
+-- the message of a submission
+submitted-state_of : (ledger : Ledger) (id : List ℕ) (submission : Submission) (moment : ℕ) →
+    IsFollowed (state_of ledger) (Submit id submission moment) (Sequenced (submission_message (seq ledger + 1) id submission moment)) →
+    Sequenced (settled_in (state_of ledger) (Submit id submission moment) (submission_message ((state_of ledger).sequence + 1) id submission moment))
+    ≡ sequenced (rules.message ledger (Submit id submission moment))
+unfolding rules.message unsettled state_of
+submitted-state_of ledger id submission moment followed =
+    ap Sequenced (settled-state_of ledger (Submit id submission moment) (submission_message (seq ledger + 1) id submission moment) followed)
 
 nack-state_of : (ledger : Ledger) (submission : Submission) (rule : _) →
     Nacked (record { rule = rule; operation = Some submission; minimum = pos (state.minimum (state_of ledger)) }) ≡ Nacked (rules.nack ledger submission rule)
@@ -263,7 +294,10 @@ parts_of ledger c said (Some held) h is =
 
 module _ (ledger : Ledger) (c : List ℕ) (submission : Submission) (moment : ℕ) where
   -- the two tables, test by test
-  same_case : (a b n l h x : Bool) → (n ≡ false → message_in (state_of ledger) (Submit c submission moment) ≡ rules.message ledger (Submit c submission moment)) →
+  abbrev taken : Verdict
+  taken = Sequenced (settled_in (state_of ledger) (Submit c submission moment) (submission_message ((state_of ledger).sequence + 1) c submission moment))
+
+  same_case : (a b n l h x : Bool) → (n ≡ false → taken ≡ sequenced (rules.message ledger (Submit c submission moment))) →
       verdict_of (state_of ledger) c submission moment
       (first_fit ((a, Duplicate) ∷ (b, Refused Gap) ∷ (n, Refused Nonexistent) ∷ (l, Refused Below) ∷ (h, Refused Ahead) ∷ (x, Refused Scope) ∷ []) Admitted)
       ≡ first_case
@@ -274,14 +308,14 @@ module _ (ledger : Ledger) (c : List ℕ) (submission : Submission) (moment : �
       ∷ (h, Nacked (rules.nack ledger submission Ahead))
       ∷ (x, Nacked (rules.nack ledger submission Scope))
       ∷ [])
-      (Sequenced (rules.message ledger (Submit c submission moment)))
+      (sequenced (rules.message ledger (Submit c submission moment)))
   same_case true b n l h x message = refl
   same_case false true n l h x message = nack-state_of ledger submission Gap
   same_case false false true l h x message = nack-state_of ledger submission Nonexistent
   same_case false false false true h x message = nack-state_of ledger submission Below
   same_case false false false false true x message = nack-state_of ledger submission Ahead
   same_case false false false false false true message = nack-state_of ledger submission Scope
-  same_case false false false false false false message = ap Sequenced (message refl)
+  same_case false false false false false false message = message refl
 
   by_table : (said : Client) → client ledger c ≡ Some said → HasParts ledger c said →
       verdict_of (state_of ledger) c submission moment (outcome_by (seq ledger) (rules.minimum ledger) (rowed said) submission) ≡ rules.submission_verdict ledger c submission moment
@@ -289,7 +323,7 @@ module _ (ledger : Ledger) (c : List ℕ) (submission : Submission) (moment : �
   by_table said is parts =
       rw (parts.joined, parts.last, parts.nacked, parts.scopes)
       (same_case _ _ said.nacked _ _ _ (λ in_order.
-      message-state_of ledger (Submit c submission moment) (λ row there.
+      submitted-state_of ledger c submission moment (λ row there.
       ap (λ (r : Row). r.nacked) (same_Some _ _ (sym there ∙ get-state_of ledger c ∙ ap (option_map rowed) is)) ∙ in_order)))
 
   of_joined : (said : Client) → client ledger c ≡ Some said →
@@ -316,29 +350,31 @@ module _ (ledger : Ledger) (c : List ℕ) (submission : Submission) (moment : �
       ] refl
 
 -- the verdict in the state of a ledger is that of the rules
-pub verdict-state_of : (ledger : Ledger) (raw : Raw) → verdict_in (state_of ledger) raw ≡ rules.verdict ledger raw
+pub verdict-state_of : (ledger : Ledger) (answer : Answer) (raw : Raw) → IsAnswered ledger raw answer → verdict_in (state_of ledger) answer raw ≡ rules.verdict ledger raw
 unfolding verdict_in rules.verdict
-verdict-state_of ledger (Join id scopes detail moment) =
-    rw (joined-state_of ledger id, message-state_of ledger (Join id scopes detail moment) tt)
-verdict-state_of ledger (Leave id moment) =
-    rw (joined-state_of ledger id, message-state_of ledger (Leave id moment) tt)
-verdict-state_of ledger (Submit id submission moment) = submission-state_of ledger id submission moment
-verdict-state_of ledger (Report summary found moment) = refl
+verdict-state_of ledger answer (Join id scopes detail moment) is =
+    rw (joined-state_of ledger id, message-state_of ledger answer (Join id scopes detail moment) tt (λ _. tt))
+verdict-state_of ledger answer (Leave id moment) is =
+    rw (joined-state_of ledger id, message-state_of ledger answer (Leave id moment) tt (λ _. tt))
+verdict-state_of ledger answer (Submit id submission moment) is = submission-state_of ledger id submission moment
+verdict-state_of ledger answer (Report summary found moment) is =
+    ap sequenced (message-state_of ledger answer (Report summary found moment) is (λ _. tt))
 
-prepared-verdict : (s : State) (raw : Raw) → (prepared s raw).verdict ≡ verdict_in s raw
+prepared-verdict : (s : State) (answer : Answer) (raw : Raw) → (prepared s answer raw).verdict ≡ verdict_in s answer raw
 unfolding prepared
-prepared-verdict s raw = refl
+prepared-verdict s answer raw = refl
 
 -- the verdict of what was prepared in a state that stands for a ledger
-pub verdict_of_prepared : (ready : Prepared) (s : State) (raw : Raw) (ledger : Ledger) → ready ≡ prepared s raw → StandsFor s ledger → ready.verdict ≡ rules.verdict ledger raw
-verdict_of_prepared ready s raw ledger is stands =
-    ap (λ (r : Prepared). r.verdict) is ∙ prepared-verdict s raw ∙ ap (λ t. verdict_in t raw) stands.is ∙ verdict-state_of ledger raw
+pub verdict_of_prepared : (ready : Prepared) (s : State) (answer : Answer) (raw : Raw) (ledger : Ledger) → ready ≡ prepared s answer raw → IsAnswered ledger raw answer →
+    StandsFor s ledger → ready.verdict ≡ rules.verdict ledger raw
+verdict_of_prepared ready s answer raw ledger is answered stands =
+    ap (λ (r : Prepared). r.verdict) is ∙ prepared-verdict s answer raw ∙ ap (λ t. verdict_in t answer raw) stands.is ∙ verdict-state_of ledger answer raw answered
 
-pub verdict_of_ready : (result : Result Prepared NoMemory) (s t : State) (raw other : Raw) (ledger : Ledger) → IfOk result (λ ready. ready ≡ prepared s raw) → s ≡ t → other ≡ raw → StandsFor t ledger →
-    IfOk result (λ ready. ready.verdict ≡ rules.verdict ledger other)
-verdict_of_ready (Ok ready) s t raw other ledger is same entry stands =
-    verdict_of_prepared ready t other ledger (is ∙ ap (λ u. prepared u raw) same ∙ ap (prepared t) (sym entry)) stands
-verdict_of_ready (Err fault) s t raw other ledger is same entry stands = tt
+pub verdict_of_ready : (result : Result Prepared NoMemory) (s t : State) (answer : Answer) (raw other : Raw) (ledger : Ledger) → IfOk result (λ ready. ready ≡ prepared s answer raw) →
+    s ≡ t → other ≡ raw → StandsFor t ledger → IsAnswered ledger other answer → IfOk result (λ ready. ready.verdict ≡ rules.verdict ledger other)
+verdict_of_ready (Ok ready) s t answer raw other ledger is same entry stands answered =
+    verdict_of_prepared ready t answer other ledger (is ∙ ap (λ u. prepared u answer raw) same ∙ ap (prepared t answer) (sym entry)) answered stands
+verdict_of_ready (Err fault) s t answer raw other ledger is same entry stands answered = tt
 
 -- ---- what it stands for
 

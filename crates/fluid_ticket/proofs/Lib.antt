@@ -1,5 +1,7 @@
 mod Outcomes
 mod Sound
+mod Members
 mod Prepares
 pub mod Ledgers
-mod Commits
+pub mod Heard
+pub mod Commits

@@ -1,7 +1,11 @@
 -- The state of a ledger.
 use Rattle.std.specs.Prelude.{◌≡◌, ℕ, List, map}
 use Rattle.std.specs.FinMap.{from_entries}
-use Rattle.fluid_types.specs.Ledger.{Ledger, seq}
+use Rattle.fluid_types.specs.declared.entries.Raw.{Raw}
+use Rattle.fluid_types.specs.declared.entries.Raw.TheVariants.{Join, Leave, Submit, Report}
+use Rattle.fluid_types.specs.Ledger.{Ledger, order, seq}
+use Rattle.fluid_rules.specs.Scribe as scribe
+use Rattle.fluid_rules.specs.declared.answers.Answer.{Answer}
 use Rattle.fluid_rules.specs.Rules.{last_number, reference, is_nacked, scopes, joined}
 use Rattle.fluid_clients.specs.declared.table.Row.{Row}
 use Rattle.fluid_ticket.specs.State.{State}
@@ -20,3 +24,10 @@ state_of ledger = record {
 -- a state stands for a ledger where it is what the ledger says
 pub record StandsFor (s : State) (ledger : Ledger) : Type 0 where
   pub is : s ≡ state_of ledger
+
+-- the answer to an entry is the scribe's over the order of a ledger; only a report asks for one
+abbrev pub IsAnswered : Ledger → Raw → Answer → Type 0
+IsAnswered ledger (Join id scopes detail moment) answer = Unit {0}
+IsAnswered ledger (Leave id moment) answer = Unit {0}
+IsAnswered ledger (Submit id submission moment) answer = Unit {0}
+IsAnswered ledger (Report summary found moment) answer = answer ≡ scribe.answer (order ledger) summary found

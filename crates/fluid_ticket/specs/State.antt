@@ -1,18 +1,22 @@
 -- What is kept of the entries so far, the verdict of the next one in it, and what that verdict makes of it.
-use Rattle.std.specs.Prelude.{◌≡◌, ℕ, ◌+◌, ◌-◌, ◌^◌, ◌<◌, ◌≤◌, ℤ, pos, negsuc, nat_lt, nat_le, int_lt, Bool, true, false, not, ◌&&◌, if◌then◌else◌, List, [], ◌∷◌, length, Option, Some, None, is_some, IsSome, unwrap_or, refl}
+use Rattle.std.specs.Prelude.{◌≡◌, ℕ, ◌+◌, ◌-◌, ◌^◌, ◌<◌, ◌≤◌, ℤ, pos, negsuc, nat_lt, nat_le, int_lt, Bool, true, false, not, ◌&&◌, if◌then◌else◌, List, [], ◌∷◌, length, Option, Some, None, is_some, IsSome, unwrap_or, option_map, refl}
 use Rattle.std.specs.Option.{option_map_or}
 use Rattle.std.specs.Coded.{Coded, code_by, coded×, coded_ℕ, coded_list}
 use Rattle.std.specs.FinMap.{empty, get, insert, remove, code}
 use Rattle.fluid_types.specs.declared.entries.Raw.{Raw}
 use Rattle.fluid_types.specs.declared.entries.Raw.TheVariants.{Join, Leave, Submit, Report}
 use Rattle.fluid_types.specs.declared.entries.Submission.{Submission}
+use Rattle.fluid_json.specs.Tree.{Tree}
+use Rattle.fluid_types.specs.declared.messages.Kind.{Kind}
 use Rattle.fluid_types.specs.declared.messages.Message.{Message}
 use Rattle.fluid_types.specs.declared.nacks.NackRule.TheVariants.{Gap, Nonexistent, Below, Ahead, Scope}
 use Rattle.fluid_types.specs.declared.verdicts.Verdict.{Verdict}
 use Rattle.fluid_types.specs.declared.verdicts.Verdict.TheVariants.{Sequenced, Nacked, Dropped}
 use Rattle.fluid_types.specs.Ledger.{messages_of}
 use Rattle.fluid_rules.specs.Past.{is_below, count_of}
-use Rattle.fluid_rules.specs.Rules.{leaves_reference, is_summarize, unsettled}
+use Rattle.fluid_rules.specs.Rules.{leaves_reference, is_summarize, submission_message, answer_message, unsettled, sequenced}
+use Rattle.fluid_rules.specs.declared.answers.Answer.{Answer}
+use Rattle.fluid_rules.specs.declared.answers.Answer.TheVariants.{Dropped as unanswered}
 use Rattle.fluid_clients.specs.declared.table.Row.{Row}
 use Rattle.fluid_clients.specs.Table.{Rows, Table, least, row_code}
 use Rattle.fluid_ticket.specs.declared.ready.Change.{Change}
@@ -66,11 +70,14 @@ after s raw verdict = record {
 
 -- ---- the verdict
 
--- the message of an entry that is sequenced next: it has the next number, and the minimum that holds behind it
-unfoldable pub message_in : State → Raw → Message
-message_in s raw =
-    let m = unsettled (s.sequence + 1) raw in
-    record m { minimum = minimum (after s raw (Sequenced m)) }
+-- a message with the minimum that holds behind its entry
+abbrev pub settled_in : State → Raw → Message → Message
+settled_in s raw m = record m { minimum = minimum (after s raw (Sequenced m)) }
+
+-- the message of an entry that is sequenced next, where a report gets this answer: it has the next number, and the minimum
+-- that holds behind it
+unfoldable pub message_in : State → Answer → Raw → Option Message
+message_in s answer raw = option_map (settled_in s raw) (unsettled (s.sequence + 1) (λ summary found. answer) raw)
 
 -- the first case that fits
 abbrev pub first_fit : {X : Type 0} → List (Bool × X) → X → X
@@ -116,14 +123,29 @@ outcome s id submission = outcome_at s (get s.rows id) submission
 abbrev pub verdict_of : State → List ℕ → Submission → ℕ → Outcome → Verdict
 verdict_of s id submission moment Duplicate = Dropped
 verdict_of s id submission moment (Refused rule) = Nacked (record { rule = rule; operation = Some submission; minimum = pos (minimum s) })
-verdict_of s id submission moment Admitted = Sequenced (message_in s (Submit id submission moment))
+verdict_of s id submission moment Admitted = Sequenced (settled_in s (Submit id submission moment) (submission_message (s.sequence + 1) id submission moment))
 
--- a join of a joined client and a leave of one that isn't joined are dropped, and so is a report
-unfoldable pub verdict_in : State → Raw → Verdict
-verdict_in s (Join id scopes detail moment) = if is_some (get s.rows id) then Dropped else Sequenced (message_in s (Join id scopes detail moment))
-verdict_in s (Leave id moment) = if is_some (get s.rows id) then Sequenced (message_in s (Leave id moment)) else Dropped
-verdict_in s (Submit id submission moment) = verdict_of s id submission moment (outcome s id submission)
-verdict_in s (Report summary found moment) = Dropped
+-- a join of a joined client and a leave of one that isn't joined are dropped, and so is a report that isn't answered. The
+-- answer is looked at only for a report
+unfoldable pub verdict_in : State → Answer → Raw → Verdict
+verdict_in s answer (Join id scopes detail moment) =
+    if is_some (get s.rows id) then Dropped else sequenced (message_in s answer (Join id scopes detail moment))
+verdict_in s answer (Leave id moment) = if is_some (get s.rows id) then sequenced (message_in s answer (Leave id moment)) else Dropped
+verdict_in s answer (Submit id submission moment) = verdict_of s id submission moment (outcome s id submission)
+verdict_in s answer (Report summary found moment) = sequenced (message_in s answer (Report summary found moment))
+
+-- the answer that an entry gets: a report on a number that no message of the order has is dropped, whatever was answered
+abbrev pub heard : State → Raw → Answer → Answer
+heard s (Join id scopes detail moment) answer = answer
+heard s (Leave id moment) answer = answer
+heard s (Submit id submission moment) answer = answer
+heard s (Report summary found moment) answer = if nat_le summary s.sequence then answer else unanswered
+
+-- the minimum of a message is at most this number
+abbrev pub HasMinimumUpTo : ℕ → Verdict → Type 0
+HasMinimumUpTo number (Sequenced m) = m.minimum ≤ number
+HasMinimumUpTo number (Nacked nack) = Unit {0}
+HasMinimumUpTo number Dropped = Unit {0}
 
 -- ---- an entry that is prepared
 
@@ -133,8 +155,14 @@ pub record Prepared : Type 0 where
   pub change : Change
 
 -- what an entry is prepared as
-unfoldable pub prepared : State → Raw → Prepared
-prepared s raw = record { verdict = verdict_in s raw; change = change_of s raw (verdict_in s raw) }
+unfoldable pub prepared : State → Answer → Raw → Prepared
+prepared s answer raw = record { verdict = verdict_in s answer raw; change = change_of s raw (verdict_in s answer raw) }
+
+-- for private clauses: a report that is answered by a message of this kind and these contents
+abbrev pub answered : State → Kind → Tree → ℕ → Prepared
+answered s kind contents moment =
+    let m = answer_message (s.sequence + 1) moment (kind, contents) in
+    record { verdict = Sequenced (record m { minimum = unwrap_or (least s.rows) (s.sequence + 1) }); change = Nothing }
 
 -- ---- a sequencer
 
@@ -150,8 +178,9 @@ sequencing_code =
 
 -- the ready is that of an entry in the state that the sequencer is in, with the room that it may need
 pub record IsPreparedIn (q : Sequencing) (ready : Prepared) : Type 0 where
+  pub answer : Answer
   pub raw : Raw
-  pub is : ready ≡ prepared q.state raw
+  pub is : ready ≡ prepared q.state answer raw
   pub numbered : q.state.sequence < 2 ^ 53 - 1
   pub room : 0 < q.spare
 

@@ -9,9 +9,10 @@
 //! - `sequencer`: `Sequencer`.
 //! - `ready`: a prepared entry, `Ready`, and what it changes.
 //! - `outcome`: what becomes of a submission.
-//! - `messages`: the messages of joins and leaves.
+//! - `messages`: the messages of entries. `answers`: what the answers to a summary say.
 #![tactic(auto)]
 
+mod answers;
 mod messages;
 mod outcome;
 mod ready;

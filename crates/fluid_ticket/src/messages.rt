@@ -2,11 +2,11 @@
 ghost use Rattle.std.specs.Prelude.{◌≡◌, ◌<◌, ◌^◌, IfOk, pos, Some, if◌then◌else◌};
 ghost use Rattle.fluid_json.specs.Tree.{text};
 ghost use Rattle.fluid_json.specs.Printed.{printed};
-ghost use Rattle.fluid_rules.specs.Rules.{kind_of, join_data, leaves_reference, system_message, unsettled};
+ghost use Rattle.fluid_rules.specs.Rules.{kind_of, join_data, leaves_reference, system_message, answer_message, submission_message};
 ghost use Rattle.fluid_ticket.specs.State.{given_or};
 
 use fluid_json::{Json, NoMemory, Printer, Text};
-use fluid_types::{ClientId, Field, Kind, Message, Nack, NackRule, Offered, Raw, Submission};
+use fluid_types::{ClientId, Field, Kind, Message, Nack, NackRule, Offered, Submission};
 use std::alloc::Global;
 
 // A message that no client sent.
@@ -28,6 +28,30 @@ pub(crate) fn system_message(
         kind,
         contents: Json::null(),
         system: Some(system),
+        metadata: None,
+        moment,
+    }
+}
+
+// The message of a report that is answered.
+pub(crate) fn answer_message(
+    kind: Kind,
+    number: u64,
+    minimum: u64,
+    contents: Json,
+    moment: u64,
+) -> Message
+    ensures { result ≡ record (answer_message number moment (kind, contents)) { minimum = minimum } }
+{
+    Message {
+        client: None,
+        client_number: -1,
+        reference: -1,
+        number,
+        minimum,
+        kind,
+        contents,
+        system: None,
         metadata: None,
         moment,
     }
@@ -57,7 +81,6 @@ pub(crate) fn leave_data(alloc: Global, id: &ClientId) -> Result<Text, NoMemory>
 }
 
 // The message of a submission that is sequenced.
-#[tactic(auto, unfolding(fluid_rules::specs::Rules::unsettled))]
 pub(crate) fn submitted(
     alloc: Global,
     id: &ClientId,
@@ -69,7 +92,7 @@ pub(crate) fn submitted(
     requires counted { submission.now.client_number < 2 ^ 63 }
     requires numbered { number < 2 ^ 63 }
     ensures { IfOk result (λ message.
-        message ≡ record (unsettled number (Raw.Submit id.now submission.now moment)) { minimum = minimum }) }
+        message ≡ record (submission_message number id.now submission.now moment) { minimum = minimum }) }
 {
     let client = id.copy(alloc)?;
     let contents = submission.contents.copy(alloc)?;

@@ -1,16 +1,22 @@
 // The sequencer.
-ghost use Rattle.std.specs.Prelude.{◌≡◌, ◌-◌, ◌^◌, ◌<◌, ◌≤◌, ◌++◌, ◌∷◌, [], IfOk, if◌then◌else◌};
+ghost use Rattle.std.specs.Prelude.{◌≡◌, ◌+◌, ◌-◌, ◌^◌, ◌<◌, ◌≤◌, ◌++◌, ◌∷◌, [], Bool, IfOk, if◌then◌else◌};
 ghost use Rattle.fluid_rules.specs.Past.{is_below};
 ghost use Rattle.fluid_types.specs.Ledger.{Ledger, seq as last_sequence};
-ghost use Rattle.fluid_rules.specs.Rules.{minimum as minimum_by_rules, verdict as verdict_by_rules};
-ghost use Rattle.fluid_ticket.specs.State.{start, minimum, outcome, after, changed, prepared, IsPreparedIn, CanApply};
-ghost use Rattle.fluid_ticket.specs.Ledger.{StandsFor};
+ghost use Rattle.fluid_rules.specs.Rules.{minimum as minimum_by_rules, verdict as verdict_by_rules, IsLegal};
+ghost use Rattle.fluid_rules.specs.Scribe.{ack_contents, refusal_contents};
+ghost use Rattle.fluid_ticket.specs.State.{start, minimum, outcome, after, changed, heard, HasMinimumUpTo, prepared, answered, IsPreparedIn, CanApply};
+ghost use Rattle.fluid_ticket.specs.Ledger.{StandsFor, IsAnswered};
 
-use crate::messages::{given_or, join_data, leave_data, nack, submitted, system_message};
+use crate::answers::{ack_contents, refusal_contents};
+use crate::messages::{
+    answer_message, given_or, join_data, leave_data, nack, submitted, system_message,
+};
 use crate::outcome::{Outcome, outcome_by};
 use crate::ready::{Change, Ready};
 use fluid_clients::{Clients, Row};
 use fluid_json::{Json, NoMemory};
+use fluid_rules::{Answer, SummaryRule};
+use fluid_tree::Id;
 use fluid_types::{ClientId, Kind, NackRule, Raw, Scopes, Submission, Verdict};
 use std::alloc::Global;
 use std::marker::Model;
@@ -73,13 +79,18 @@ impl Sequencer {
     }
 
     /// Gives an entry its verdict and makes every growth that this verdict needs. The state stays.
-    pub fn prepare(&mut self, alloc: Global, raw: &Raw) -> Result<Ready, NoMemory>
+    /// The scribe's answer is looked at only for a report, and only for one on a number that a message of the order has: any other
+    /// report is dropped.
+    pub fn prepare(&mut self, alloc: Global, raw: &Raw, answer: &Answer) -> Result<Ready, NoMemory>
         requires { self.old.state.sequence < 2 ^ 53 - 1 }
         ensures same { self.new.state ≡ self.old.state }
         ensures spare { self.old.spare ≤ self.new.spare }
-        ensures ready { IfOk result (λ ready. ready ≡ prepared self.old.state raw.now) }
+        ensures ready { IfOk result (λ ready. ready ≡ prepared self.old.state (heard self.old.state raw.now answer.now) raw.now) }
+        ensures bounded { IfOk result (λ ready. HasMinimumUpTo (self.old.state.sequence + 1) ready.verdict) }
         ensures committable { IfOk result (IsPreparedIn self.new) }
-        ensures verdict { (ledger : Ledger) → StandsFor self.old.state ledger →
+        ensures verdict { (ledger : Ledger) → StandsFor self.old.state ledger → IsAnswered ledger raw.now (heard self.old.state raw.now answer.now) →
+            IfOk result (λ ready. ready.verdict ≡ verdict_by_rules ledger raw.now) }
+        ensures legal { (ledger : Ledger) → IsLegal ledger → StandsFor self.old.state ledger → IsAnswered ledger raw.now answer.now →
             IfOk result (λ ready. ready.verdict ≡ verdict_by_rules ledger raw.now) }
     {
         self.clients.reserve()?;
@@ -96,7 +107,11 @@ impl Sequencer {
                 submission,
                 moment,
             } => self.prepare_submission(alloc, id, submission, *moment),
-            Raw::Report { .. } => Ok(Ready::new(Verdict::Dropped, Change::Nothing)),
+            Raw::Report {
+                summary,
+                moment,
+                ..
+            } => self.prepare_report(alloc, *summary, *moment, answer),
         }
     }
 
@@ -104,8 +119,10 @@ impl Sequencer {
     pub fn commit(&mut self, ready: Ready) -> Verdict
         requires { IsPreparedIn self.old ready }
         ensures verdict { result ≡ ready.verdict }
-        ensures after { (raw : Raw) → ready ≡ prepared self.old.state raw → self.new.state ≡ after self.old.state raw result }
-        ensures stands { (ledger : Ledger) (raw : Raw) → ready ≡ prepared self.old.state raw → StandsFor self.old.state ledger →
+        ensures after { (answer : Answer) (raw : Raw) → ready ≡ prepared self.old.state answer raw →
+            self.new.state ≡ after self.old.state raw result }
+        ensures stands { (ledger : Ledger) (answer : Answer) (raw : Raw) → ready ≡ prepared self.old.state answer raw →
+            StandsFor self.old.state ledger → IsAnswered ledger raw answer →
             (result ≡ verdict_by_rules ledger raw) × StandsFor self.new.state (ledger ++ (raw, result) ∷ []) }
     {
         let (verdict, change) = ready.into_parts();
@@ -126,7 +143,7 @@ impl Sequencer {
         moment: u64,
     ) -> Result<Ready, NoMemory>
         requires { self.now.state.sequence < 2 ^ 53 - 1 }
-        ensures { IfOk result (λ ready. ready ≡ prepared self.now.state (Raw.Join id.now scopes detail.now moment)) }
+        ensures { (answer : Answer) → IfOk result (λ ready. ready ≡ prepared self.now.state answer (Raw.Join id.now scopes detail.now moment)) }
     {
         if self.clients.row(id).is_some() {
             return Ok(Ready::new(Verdict::Dropped, Change::Nothing));
@@ -146,7 +163,7 @@ impl Sequencer {
 
     fn prepare_leave(&self, alloc: Global, id: &ClientId, moment: u64) -> Result<Ready, NoMemory>
         requires { self.now.state.sequence < 2 ^ 53 - 1 }
-        ensures { IfOk result (λ ready. ready ≡ prepared self.now.state (Raw.Leave id.now moment)) }
+        ensures { (answer : Answer) → IfOk result (λ ready. ready ≡ prepared self.now.state answer (Raw.Leave id.now moment)) }
     {
         if self.clients.row(id).is_none() {
             return Ok(Ready::new(Verdict::Dropped, Change::Nothing));
@@ -167,13 +184,74 @@ impl Sequencer {
         moment: u64,
     ) -> Result<Ready, NoMemory>
         requires { self.now.state.sequence < 2 ^ 53 - 1 }
-        ensures { IfOk result (λ ready. ready ≡ prepared self.now.state (Raw.Submit id.now submission.now moment)) }
+        ensures { (answer : Answer) → IfOk result (λ ready. ready ≡ prepared self.now.state answer (Raw.Submit id.now submission.now moment)) }
     {
         match self.outcome(id, submission) {
             Outcome::Duplicate => Ok(Ready::new(Verdict::Dropped, Change::Nothing)),
             Outcome::Refused(rule) => self.refuse(alloc, rule, id, submission, moment),
             Outcome::Admitted => self.admit(alloc, id, submission, moment),
         }
+    }
+
+    fn prepare_report(
+        &self,
+        alloc: Global,
+        summary: u64,
+        moment: u64,
+        answer: &Answer,
+    ) -> Result<Ready, NoMemory>
+        requires { self.now.state.sequence < 2 ^ 53 - 1 }
+        ensures { (found : Bool) → IfOk result (λ ready. ready ≡ prepared self.now.state (heard self.now.state (Raw.Report summary found moment) answer.now) (Raw.Report summary found moment)) }
+    {
+        if summary > self.sequence {
+            return Ok(Ready::new(Verdict::Dropped, Change::Nothing));
+        }
+        match *answer {
+            Answer::Dropped => Ok(Ready::new(Verdict::Dropped, Change::Nothing)),
+            Answer::Ack { handle } => self.acknowledge(alloc, summary, moment, handle),
+            Answer::Refused(rule) => self.refuse_summary(alloc, summary, moment, rule),
+        }
+    }
+
+    fn acknowledge(
+        &self,
+        alloc: Global,
+        summary: u64,
+        moment: u64,
+        handle: Id,
+    ) -> Result<Ready, NoMemory>
+        requires few { self.now.state.sequence < 2 ^ 53 - 1 }
+        requires on_order { summary ≤ self.now.state.sequence }
+        ensures { IfOk result (λ ready. ready ≡ answered self.now.state Kind.SummaryAck (ack_contents summary handle) moment) }
+    {
+        let contents = ack_contents(alloc, summary, handle)?;
+        Ok(self.answered(Kind::SummaryAck, contents, moment))
+    }
+
+    fn refuse_summary(
+        &self,
+        alloc: Global,
+        summary: u64,
+        moment: u64,
+        rule: SummaryRule,
+    ) -> Result<Ready, NoMemory>
+        requires few { self.now.state.sequence < 2 ^ 53 - 1 }
+        requires on_order { summary ≤ self.now.state.sequence }
+        ensures { IfOk result (λ ready. ready ≡ answered self.now.state Kind.SummaryNack (refusal_contents summary rule) moment) }
+    {
+        let contents = refusal_contents(alloc, summary, rule)?;
+        Ok(self.answered(Kind::SummaryNack, contents, moment))
+    }
+
+    // A report that is answered by a message of this kind and these contents.
+    fn answered(&self, kind: Kind, contents: Json, moment: u64) -> Ready
+        requires { self.now.state.sequence < 2 ^ 53 - 1 }
+        ensures { result ≡ answered self.now.state kind contents moment }
+    {
+        let number = self.sequence + 1;
+        let minimum = self.clients.min().unwrap_or(number);
+        let message = answer_message(kind, number, minimum, contents, moment);
+        Ready::new(Verdict::Sequenced(message), Change::Nothing)
     }
 
     fn outcome(&self, id: &ClientId, submission: &Submission) -> Outcome
@@ -194,7 +272,7 @@ impl Sequencer {
         moment: u64,
     ) -> Result<Ready, NoMemory>
         requires { outcome self.now.state id.now submission.now ≡ Outcome.Refused rule }
-        ensures { IfOk result (λ ready. ready ≡ prepared self.now.state (Raw.Submit id.now submission.now moment)) }
+        ensures { (answer : Answer) → IfOk result (λ ready. ready ≡ prepared self.now.state answer (Raw.Submit id.now submission.now moment)) }
     {
         let operation = submission.copy(alloc)?;
         let refusal = nack(rule, operation, self.minimum);
@@ -211,7 +289,7 @@ impl Sequencer {
     ) -> Result<Ready, NoMemory>
         requires numbered { self.now.state.sequence < 2 ^ 53 - 1 }
         requires admitted { outcome self.now.state id.now submission.now ≡ Outcome.Admitted }
-        ensures { IfOk result (λ ready. ready ≡ prepared self.now.state (Raw.Submit id.now submission.now moment)) }
+        ensures { (answer : Answer) → IfOk result (λ ready. ready ≡ prepared self.now.state answer (Raw.Submit id.now submission.now moment)) }
     {
         let number = self.sequence + 1;
         // Of the negative references only -1 is admitted.

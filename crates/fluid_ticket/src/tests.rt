@@ -1,7 +1,9 @@
 // Entries with the verdicts that are wanted of them.
 use crate::Sequencer;
-use fluid_json::Json;
-use fluid_types::{ClientId, NackRule, Offered, Raw, Scopes, Submission, Verdict};
+use fluid_json::{Json, print};
+use fluid_rules::{Answer, SummaryRule};
+use fluid_tree::Id;
+use fluid_types::{ClientId, Kind, NackRule, Offered, Raw, Scopes, Submission, Verdict};
 use std::alloc::Global;
 use std::process::Abort;
 use std::test::Fail;
@@ -78,7 +80,7 @@ fn enter(
 ) -> Result<Verdict, Fail> {
     let raw = raw(alloc, entry)?;
     assert!(rt; sequencer.seq() < 1000);
-    let ready = sequencer.prepare(alloc, &raw)?;
+    let ready = sequencer.prepare(alloc, &raw, &Answer::Dropped)?;
     let prepared = what_shows(ready.verdict());
     let verdict = sequencer.commit(ready);
     assert_eq!(rt; what_shows(&verdict), prepared);
@@ -137,6 +139,73 @@ fn two_writers_and_a_refused_reference(rt: HostRuntime) -> Result<(), Fail> {
     assert_verdicts(&rt, alloc, &mut sequencer, &entries)?;
     assert_eq!(rt; (sequencer.seq(), sequencer.min()), (10, 9));
     assert_eq!(rt; sequencer.clients().count(), 1);
+    Ok(())
+}
+
+// Answers to a report on the message 2, with the kinds and the contents of their messages.
+const ANSWERS: &[(Option<SummaryRule>, Kind, &str)] = &[
+    (
+        None,
+        Kind::SummaryAck,
+        r#"{"handle":"4b825dc642cb6eb9a060e54bf8d69288fbee4904","summaryProposal":{"summarySequenceNumber":2}}"#,
+    ),
+    (
+        Some(SummaryRule::Malformed),
+        Kind::SummaryNack,
+        r#"{"code":400,"message":"summarize contents are malformed","summaryProposal":{"summarySequenceNumber":2}}"#,
+    ),
+    (
+        Some(SummaryRule::StaleHead),
+        Kind::SummaryNack,
+        r#"{"code":400,"message":"head is not the last acknowledged summary","summaryProposal":{"summarySequenceNumber":2}}"#,
+    ),
+    (
+        Some(SummaryRule::OldReference),
+        Kind::SummaryNack,
+        r#"{"code":400,"message":"reference is below the last acknowledged summary","summaryProposal":{"summarySequenceNumber":2}}"#,
+    ),
+    (
+        Some(SummaryRule::Missing),
+        Kind::SummaryNack,
+        r#"{"code":400,"message":"summary tree is not stored","summaryProposal":{"summarySequenceNumber":2}}"#,
+    ),
+];
+
+#[test]
+fn a_report_gets_the_message_of_its_answer(rt: HostRuntime) -> Result<(), Fail> {
+    let alloc = rt.alloc();
+    let mut sequencer = Sequencer::new(alloc);
+    let entries = [
+        (Entry::Join("A"), Shown::At(1, 0)),
+        (Entry::Op("A", 1, 1), Shown::At(2, 1)),
+    ];
+    assert_verdicts(&rt, alloc, &mut sequencer, &entries)?;
+    let handle = Id::read("4b825dc642cb6eb9a060e54bf8d69288fbee4904").expect(&rt, "an id");
+    let mut number = 2_u64;
+    for (rule, kind, contents) in ANSWERS {
+        let answer = match rule {
+            Some(rule) => Answer::Refused(*rule),
+            None => Answer::Ack { handle },
+        };
+        let report = Raw::Report {
+            summary: 2,
+            found: true,
+            moment: 9,
+        };
+        assert!(rt; 2 <= sequencer.seq() && sequencer.seq() < 1000);
+        let ready = sequencer.prepare(alloc, &report, &answer)?;
+        let Verdict::Sequenced(message) = sequencer.commit(ready) else {
+            panic!(rt; "the report is sequenced");
+        };
+        number = number.saturating_add(1);
+        assert_eq!(rt;
+            (message.number, message.minimum, message.moment),
+            (number, 1, 9)
+        );
+        assert_eq!(rt; message.kind, *kind);
+        assert_eq!(rt; print(alloc, &message.contents)?.as_str(), *contents);
+        assert!(rt; message.client.is_none() && message.system.is_none());
+    }
     Ok(())
 }
 

@@ -14,9 +14,9 @@ submitted-requires-clause-counted c =
     omega (arith, last, next, c.self.invariant.sound.few)
 
 pub returns : goal.returns
-returns c =
+returns c = λ answer.
     let outcome = rw (← c.self.view_is) at c.requires.admitted in
     let row = admitted_row _ c.args.id.now c.args.submission.now outcome in
     let reference : c.given_or-reference.result ≡ given_or (c.self.inside.sequence + 1) c.args.submission.now.reference = search rules in
     rw (← c.self.view_is, c.new.ensures, c.in_ok-message.ensures, c.in_ok-id.ensures, c.min-minimum.ensures, c.unwrap_or-others.ensures, c.min_without.ensures, reference)
-    (sym (submit_admitted _ c.args.id.now c.args.moment c.args.submission.now row.0 row.1 outcome row.2.high))
+    (sym (submit_admitted _ c.args.id.now c.args.moment c.args.submission.now answer row.0 row.1 outcome row.2.high))

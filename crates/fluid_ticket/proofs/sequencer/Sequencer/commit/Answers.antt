@@ -7,50 +7,50 @@ pub apply-requires : goal.apply-requires
 apply-requires c =
     let room = rw (← c.self.view_is) at c.requires.room in
     let is = rw (← c.self.view_is) at c.requires.is in
-    record { fits = rw (c.into_parts-verdict.ensures, is) (can_apply _ c.self.inside.clients.spare room c.requires.raw) }
+    record { fits = rw (c.into_parts-verdict.ensures, is) (can_apply _ c.self.inside.clients.spare room c.requires.answer c.requires.raw) }
 
 pub invariant_of-self : goal.invariant_of-self
 invariant_of-self c =
     let same = ap (λ (q : Sequencing). q.state) c.self.view_is in
     let numbered = rw (← c.self.view_is) at c.requires.numbered in
-    let parts = parts_of _ c.requires.raw c.into_parts-verdict.result c.args.ready c.into_parts-verdict.ensures (c.requires.is ∙ ap (λ s. prepared s c.requires.raw) (sym same)) in
-    let behind = after_sequenced _ c.requires.raw _ _ parts _ c.apply.ensures c.in-Sequenced.message c.in-Sequenced.is in
+    let parts = parts_of _ c.requires.answer c.requires.raw c.into_parts-verdict.result c.args.ready c.into_parts-verdict.ensures (c.requires.is ∙ ap (λ s. prepared s c.requires.answer c.requires.raw) (sym same)) in
+    let behind = after_sequenced _ c.requires.answer c.requires.raw _ _ parts _ c.apply.ensures c.in-Sequenced.message c.in-Sequenced.is in
     subst (λ s. IsKept s c.in-Sequenced.message.minimum) (sym behind)
     (record {
-      sound = sound_after _ c.self.invariant.sound c.requires.raw _ parts.verdict_is numbered;
-      is_minimum = minimum_sequenced _ c.requires.raw _ c.in-Sequenced.message parts.verdict_is c.in-Sequenced.is;
+      sound = sound_after _ c.self.invariant.sound c.requires.answer c.requires.raw _ parts.verdict_is numbered;
+      is_minimum = minimum_sequenced _ c.requires.answer c.requires.raw _ c.in-Sequenced.message parts.verdict_is c.in-Sequenced.is;
     })
 
 pub invariant_of-self-in_default : goal.invariant_of-self-in_default
 invariant_of-self-in_default c =
     let same = ap (λ (q : Sequencing). q.state) c.self.view_is in
     let numbered = rw (← c.self.view_is) at c.requires.numbered in
-    let parts = parts_of _ c.requires.raw c.into_parts-verdict.result c.args.ready c.into_parts-verdict.ensures (c.requires.is ∙ ap (λ s. prepared s c.requires.raw) (sym same)) in
-    let behind = after_other _ c.requires.raw _ _ parts _ c.apply.ensures c.in_default.not-Sequenced in
+    let parts = parts_of _ c.requires.answer c.requires.raw c.into_parts-verdict.result c.args.ready c.into_parts-verdict.ensures (c.requires.is ∙ ap (λ s. prepared s c.requires.answer c.requires.raw) (sym same)) in
+    let behind = after_other _ c.requires.answer c.requires.raw _ _ parts _ c.apply.ensures c.in_default.not-Sequenced in
     subst (λ s. IsKept s c.self.inside.minimum) (sym behind)
     (record {
-      sound = sound_after _ c.self.invariant.sound c.requires.raw _ parts.verdict_is numbered;
-      is_minimum = c.self.invariant.is_minimum ∙ sym (minimum_other _ c.requires.raw _ parts.verdict_is c.in_default.not-Sequenced);
+      sound = sound_after _ c.self.invariant.sound c.requires.answer c.requires.raw _ parts.verdict_is numbered;
+      is_minimum = c.self.invariant.is_minimum ∙ sym (minimum_other _ c.requires.answer c.requires.raw _ parts.verdict_is c.in_default.not-Sequenced);
     })
 
 pub returns-in-Sequenced-clause-after : goal.returns-in-Sequenced-clause-after
-returns-in-Sequenced-clause-after c = λ raw is.
+returns-in-Sequenced-clause-after c = λ answer raw is.
     let same = ap (λ (q : Sequencing). q.state) c.self.view_is in
-    let parts = parts_of _ raw c.into_parts-verdict.result c.args.ready c.into_parts-verdict.ensures (is ∙ ap (λ s. prepared s raw) (sym same)) in
-    after_sequenced _ raw _ _ parts _ c.apply.ensures c.in-Sequenced.message c.in-Sequenced.is ∙ ap (λ s. after s raw c.into_parts-verdict.result.0) same
+    let parts = parts_of _ answer raw c.into_parts-verdict.result c.args.ready c.into_parts-verdict.ensures (is ∙ ap (λ s. prepared s answer raw) (sym same)) in
+    after_sequenced _ answer raw _ _ parts _ c.apply.ensures c.in-Sequenced.message c.in-Sequenced.is ∙ ap (λ s. after s raw c.into_parts-verdict.result.0) same
 
 pub returns-in-Sequenced-clause-stands : goal.returns-in-Sequenced-clause-stands
-returns-in-Sequenced-clause-stands c = λ ledger raw is stands.
-    let parts = parts_of _ raw c.into_parts-verdict.result c.args.ready c.into_parts-verdict.ensures is in
-    stands_after _ _ raw c.into_parts-verdict.result.0 ledger parts.verdict_is (returns-in-Sequenced-clause-after c raw is) stands
+returns-in-Sequenced-clause-stands c = λ ledger answer raw is stands answered.
+    let parts = parts_of _ answer raw c.into_parts-verdict.result c.args.ready c.into_parts-verdict.ensures is in
+    stands_after _ _ answer raw c.into_parts-verdict.result.0 ledger parts.verdict_is (returns-in-Sequenced-clause-after c answer raw is) stands answered
 
 pub returns-in_default-clause-after : goal.returns-in_default-clause-after
-returns-in_default-clause-after c = λ raw is.
+returns-in_default-clause-after c = λ answer raw is.
     let same = ap (λ (q : Sequencing). q.state) c.self.view_is in
-    let parts = parts_of _ raw c.into_parts-verdict.result c.args.ready c.into_parts-verdict.ensures (is ∙ ap (λ s. prepared s raw) (sym same)) in
-    after_other _ raw _ _ parts _ c.apply.ensures c.in_default.not-Sequenced ∙ ap (λ s. after s raw c.into_parts-verdict.result.0) same
+    let parts = parts_of _ answer raw c.into_parts-verdict.result c.args.ready c.into_parts-verdict.ensures (is ∙ ap (λ s. prepared s answer raw) (sym same)) in
+    after_other _ answer raw _ _ parts _ c.apply.ensures c.in_default.not-Sequenced ∙ ap (λ s. after s raw c.into_parts-verdict.result.0) same
 
 pub returns-in_default-clause-stands : goal.returns-in_default-clause-stands
-returns-in_default-clause-stands c = λ ledger raw is stands.
-    let parts = parts_of _ raw c.into_parts-verdict.result c.args.ready c.into_parts-verdict.ensures is in
-    stands_after _ _ raw c.into_parts-verdict.result.0 ledger parts.verdict_is (returns-in_default-clause-after c raw is) stands
+returns-in_default-clause-stands c = λ ledger answer raw is stands answered.
+    let parts = parts_of _ answer raw c.into_parts-verdict.result c.args.ready c.into_parts-verdict.ensures is in
+    stands_after _ _ answer raw c.into_parts-verdict.result.0 ledger parts.verdict_is (returns-in_default-clause-after c answer raw is) stands answered

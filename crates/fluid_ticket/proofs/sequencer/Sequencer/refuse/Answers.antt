@@ -9,7 +9,7 @@ nack-refusal-requires c =
     omega (arith, c.self.invariant.is_minimum, small, c.self.invariant.sound.few)
 
 pub returns : goal.returns
-returns c =
+returns c = λ answer.
     let outcome = rw (← c.self.view_is) at c.requires in
     rw (← c.self.view_is, c.new.ensures, c.nack-refusal.ensures, c.in_ok-operation.ensures, c.in_ok-change.ensures, c.self.invariant.is_minimum)
-    (sym (submit_refused _ c.args.id.now c.args.moment c.args.submission.now c.args.rule outcome))
+    (sym (submit_refused _ c.args.id.now c.args.moment c.args.submission.now answer c.args.rule outcome))
