@@ -1,5 +1,5 @@
 -- What holds of every scribe, with one message more.
-use Rattle.std.proofs.Common.{◌≡◌, ℕ, suc, ◌+◌, ◌<◌, ◌≤◌, Bool, true, false, ◌&&◌, if◌then◌else◌, List, [], ◌∷◌, ◌++◌, length, Some, None, refl, sym, ◌∙◌, ap, arith}
+use Rattle.std.proofs.Common.{◌≡◌, ℕ, ◌<◌, ◌≤◌, Bool, true, false, ◌&&◌, if◌then◌else◌, List, [], ◌∷◌, ◌++◌, Some, None, refl, sym, ◌∙◌, ap, arith}
 use Rattle.std.specs.Prelude.{option_to_list}
 use Rattle.fluid_types.specs.Ledger.{Ledger, order, messages_of}
 use Rattle.fluid_types.specs.declared.entries.Raw.{Raw}
@@ -10,21 +10,16 @@ use Rattle.fluid_tree.specs.declared.id.SummaryRef.{SummaryRef}
 use Rattle.fluid_rules.specs.Scribe.{is_summarize, unanswered, acks_behind, acks}
 use Rattle.fluid_rules.specs.ScribeLaws.{unanswered_by}
 use Rattle.fluid_rules.proofs.Summaries.{unanswered-push, acks-push}
-use Rattle.fluid_quorum.specs.Order.{AreNumberedFrom}
 use Rattle.fluid_scribe.specs.Scribing.{Scribing, Prepared, prepared, least_room, IsKept}
 use Rattle.fluid_scribe.specs.Ledger.{StandsFor}
 
 pub start-kept : IsKept [] [] []
 unfolding unanswered acks acks_behind
-start-kept = record { first = tt; waiting_are = refl; acks_are = refl }
+start-kept = record { waiting_are = refl; acks_are = refl }
 
 pub start-stands : (spare : ℕ) → StandsFor (record { messages = []; spare = spare }) []
 unfolding order
 start-stands spare = record { is = refl }
-
-pub numbered-push : (n : ℕ) (ms : List Message) (m : Message) → AreNumberedFrom n ms → m.number ≡ n + length ms → AreNumberedFrom n (ms ++ m ∷ [])
-numbered-push n [] m numbered next = (omega (arith, next), tt)
-numbered-push n (x ∷ ms) m numbered next = (numbered.0, numbered-push (suc n) ms m numbered.1 (omega (arith, next)))
 
 waits : (b : Bool) (m : Message) → option_to_list (if b then Some m else None) ≡ (if b && true then m ∷ [] else [])
 waits true m = refl
@@ -32,10 +27,8 @@ waits false m = refl
 
 -- what is kept behind a message that was prepared
 pub kept-push : (ms ws : List Message) (known : List SummaryRef) (ready : Prepared) → IsKept ms ws known → ready ≡ prepared ms ready.message →
-    ready.message.number ≡ length ms + 1 →
     IsKept (ms ++ ready.message ∷ []) (unanswered_by ready.message ws ++ option_to_list ready.waiting) (known ++ option_to_list ready.ack)
-kept-push ms ws known ready kept is next = record {
-  first = numbered-push 1 ms ready.message kept.first (omega (arith, next));
+kept-push ms ws known ready kept is = record {
   waiting_are =
       ap (λ list. unanswered_by ready.message list ++ option_to_list ready.waiting) kept.waiting_are
       ∙ ap (λ one. unanswered_by ready.message (unanswered ms) ++ option_to_list one) (ap (λ (r : Prepared). r.waiting) is)

@@ -2,6 +2,7 @@
 use Rattle.std.specs.Prelude.{ℕ, Bool, true, false, not, ◌&&◌, List, [], ◌∷◌, Option, Some, None, is_none, option_map}
 use Rattle.fluid_types.specs.Blobs.{blobs}
 use Rattle.fluid_types.specs.declared.messages.Message.{Message}
+use Rattle.fluid_tree.specs.Summary.{tree, children}
 use Rattle.fluid_tree.specs.declared.id.SummaryRef.{SummaryRef}
 use Rattle.fluid_rules.specs.Rules.{first_case}
 use Rattle.fluid_rules.specs.Scribe.{proposed_by, reference_of, pending, protocol, answer_to, is_stale, is_old}
@@ -34,6 +35,18 @@ job_of order m = record {
 -- that of the pending one
 abbrev pub job : List Message → Option Job
 job order = option_map (job_of order) (pending order)
+
+-- ---- what doesn't depend on the order's state
+
+-- an answer, whichever version an Ack acknowledges
+abbrev pub without_version : Answer → Answer
+without_version Dropped = Dropped
+without_version (Ack handle) = Ack []
+without_version (Refused rule) = Refused rule
+
+-- a job, whichever tree is to be `.protocol`
+abbrev pub without_protocol : Job → Job
+without_protocol job = record job { protocol = tree (children []) }
 
 -- ---- for private clauses: the rule that refuses a summary behind this acknowledgement, whatever is found
 abbrev pub refused_by : Option SummaryRef → ℕ → Proposed → Option SummaryRule

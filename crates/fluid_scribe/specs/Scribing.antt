@@ -1,9 +1,8 @@
 -- A scribe as contracts see it: the messages that it took, oldest first, and for how many more there is room already.
-use Rattle.std.specs.Prelude.{◌≡◌, ℕ, ◌+◌, ◌<◌, min, List, length, Option, Some, None, if◌then◌else◌}
+use Rattle.std.specs.Prelude.{◌≡◌, ℕ, ◌<◌, min, List, Option, Some, None, if◌then◌else◌}
 use Rattle.fluid_types.specs.declared.messages.Message.{Message}
 use Rattle.fluid_tree.specs.declared.id.SummaryRef.{SummaryRef}
 use Rattle.fluid_rules.specs.Scribe.{is_summarize, unanswered, acks, ack_of}
-use Rattle.fluid_quorum.specs.Order.{AreFirst}
 
 pub record Scribing : Type 0 where
   pub messages : List Message
@@ -24,10 +23,9 @@ pub record Prepared : Type 0 where
 abbrev pub prepared : List Message → Message → Prepared
 prepared messages m = record { message = m; waiting = if is_summarize m.kind then Some m else None; ack = ack_of messages m }
 
--- the ready is that of the next message of the order, and there is room for it
+-- the ready is that of its message behind those that were taken, and there is room for it
 pub record IsPreparedIn (s : Scribing) (ready : Prepared) : Type 0 where
   pub is : ready ≡ prepared s.messages ready.message
-  pub next : ready.message.number ≡ length s.messages + 1
   pub room : 0 < s.spare
 
 abbrev pub Parts : Type 0
@@ -41,8 +39,7 @@ of_parts parts = record { message = parts.0; waiting = parts.1.0; ack = parts.1.
 
 -- ---- what holds of every scribe
 
--- the messages are the first of an order, and the summarize messages that wait and the acknowledgements are kept beside them
+-- the summarize messages that wait and the acknowledgements are kept beside the messages
 pub record IsKept (messages waiting : List Message) (known : List SummaryRef) : Type 0 where
-  pub first : AreFirst messages
   pub waiting_are : waiting ≡ unanswered messages
   pub acks_are : known ≡ acks messages

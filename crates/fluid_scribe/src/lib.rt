@@ -2,7 +2,8 @@
 //!
 //! A scribe takes the messages of one order, one after another. A message is prepared, which makes every growth, and then
 //! committed, which takes no memory; what is not committed changes nothing. Contracts see the list of the messages that it
-//! took (`specs/Scribing.antt`), and its answers are the rules' over that list.
+//! took (`specs/Scribing.antt`), and its answers are the rules' over that list. It takes messages with any numbers; what is
+//! said of the order's state at a reference is said of messages with the numbers 1, 2, 3 and so on.
 //!
 //! - `scribe`: `Scribe`. `ready`: a prepared message, `ScribeReady`.
 //! - `job`: what is to be done about the pending summarize, `Job`.

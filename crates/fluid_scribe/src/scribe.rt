@@ -1,13 +1,15 @@
 // The scribe.
-ghost use Rattle.std.specs.Prelude.{◌≡◌, ◌==◌, find, option_map, option_copied, ◌+◌, ◌-◌, ◌≤◌, ◌<◌, ◌++◌, ◌∷◌, [], length, vec_len, vec_capacity, if◌then◌else◌, option_to_list, Some, None, IfOk, OnOk};
-ghost use Rattle.fluid_types.specs.Ledger.{Ledger, messages_of};
+ghost use Rattle.std.specs.Prelude.{◌≡◌, ◌==◌, find, option_map, option_copied, ◌-◌, ◌≤◌, ◌<◌, ◌++◌, ◌∷◌, [], length, vec_len, vec_capacity, if◌then◌else◌, option_to_list, Some, None, IfOk, OnOk};
+ghost use Rattle.fluid_types.specs.Ledger.{Ledger, order, messages_of};
 ghost use Rattle.fluid_types.specs.declared.entries.Raw.{Raw};
 ghost use Rattle.fluid_types.specs.declared.verdicts.Verdict.{Verdict};
+ghost use Rattle.fluid_quorum.specs.Order.{AreFirst};
+ghost use Rattle.fluid_rules.specs.Rules.{IsLegal};
 ghost use Rattle.fluid_rules.specs.Scribe.{acks, pending, last_ack, is_summarize, ack_of, answer, answer_to};
 ghost use Rattle.fluid_rules.specs.ScribeLaws.{unanswered_by};
 ghost use Rattle.fluid_scribe.specs.Scribing.{prepared, IsPreparedIn};
 ghost use Rattle.fluid_scribe.specs.Ledger.{StandsFor};
-ghost use Rattle.fluid_scribe.specs.Jobs.{job, job_of};
+ghost use Rattle.fluid_scribe.specs.Jobs.{job, job_of, without_version, without_protocol};
 
 use crate::job::Job;
 use crate::judging::{may_be_acknowledged, refused_by};
@@ -59,17 +61,16 @@ impl Scribe {
         }
     }
 
-    /// The number of the last message that it took, 0 before the first. Takes no memory.
+    /// How many messages it took, which is the number of the last one where they have the numbers 1, 2, 3 and so on. Takes no
+    /// memory.
     pub fn number(&self) -> u64
         ensures { result ≡ length self.now.messages }
     {
         self.messages.len() as u64
     }
 
-    /// Makes every growth that the next message of the order needs: its number is one more than `number()` says, which a
-    /// caller that doesn't know it compares first. The messages stay, whatever is answered.
+    /// Makes every growth that one more message needs, whatever its number. The messages stay, whatever is answered.
     pub fn prepare(&mut self, alloc: Global, message: &Message) -> Result<ScribeReady, NoMemory>
-        requires { message.now.number ≡ length self.old.messages + 1 }
         ensures same { self.new.messages ≡ self.old.messages }
         ensures spare { self.old.spare ≤ self.new.spare }
         ensures ready { IfOk result (λ ready. ready ≡ prepared self.old.messages message.now) }
@@ -93,10 +94,13 @@ impl Scribe {
         self.messages.push(message).unwrap();
     }
 
-    /// What is to be done about the pending summarize; None exactly where none is pending.
+    /// What is to be done about the pending summarize; None exactly where none is pending. The state at its reference is the
+    /// order's where the messages have the numbers 1, 2, 3 and so on, as those of every order have.
     pub fn job(&mut self, alloc: Global) -> Result<Option<Job>, NoMemory>
         ensures same { self.new ≡ self.old }
-        ensures job { IfOk result (λ given. given ≡ job self.old.messages) }
+        ensures job { AreFirst self.old.messages → IfOk result (λ given. given ≡ job self.old.messages) }
+        ensures any { IfOk result (λ given. option_map without_protocol given ≡ option_map without_protocol (job self.old.messages)) }
+        ensures stands { (ledger : Ledger) → IsLegal ledger → StandsFor self.old ledger → IfOk result (λ given. given ≡ job (order ledger)) }
     {
         let Some(summarize) = self.pending() else {
             return Ok(None);
@@ -106,10 +110,15 @@ impl Scribe {
     }
 
     /// The answer to a report on the summarize with this number: whether the tree that it names was found to be stored whole.
+    /// What is acknowledged has the state at the summarize's reference, which is the order's where the messages have the numbers
+    /// 1, 2, 3 and so on, as those of every order have.
     #[tactic(auto, unfolding(fluid_rules::specs::Scribe::answer))]
     pub fn answer(&mut self, alloc: Global, summary: u64, found: bool) -> Result<Answer, NoMemory>
         ensures same { self.new ≡ self.old }
-        ensures answer { IfOk result (λ given. given ≡ answer self.old.messages summary found) }
+        ensures answer { AreFirst self.old.messages → IfOk result (λ given. given ≡ answer self.old.messages summary found) }
+        ensures any { IfOk result (λ given. without_version given ≡ without_version (answer self.old.messages summary found)) }
+        ensures stands { (ledger : Ledger) → IsLegal ledger → StandsFor self.old ledger →
+            IfOk result (λ given. given ≡ answer (order ledger) summary found) }
     {
         let Some(summarize) = self.pending() else {
             return Ok(Answer::Dropped);
@@ -180,7 +189,8 @@ impl Scribe {
 
     // The job of a summarize.
     fn job_of(&self, alloc: Global, summarize: &Message) -> Result<Job, NoMemory>
-        ensures { IfOk result (λ job. job ≡ job_of self.now.messages summarize.now) }
+        ensures job { AreFirst self.now.messages → IfOk result (λ job. job ≡ job_of self.now.messages summarize.now) }
+        ensures any { IfOk result (λ job. without_protocol job ≡ without_protocol (job_of self.now.messages summarize.now)) }
     {
         let proposed = proposed_by(alloc, summarize)?;
         let reference = reference_of(summarize);
@@ -197,7 +207,8 @@ impl Scribe {
 
     // The answer to a summarize.
     fn answer_to(&self, alloc: Global, summarize: &Message, found: bool) -> Result<Answer, NoMemory>
-        ensures { IfOk result (λ answer. answer ≡ answer_to self.now.messages found summarize.now) }
+        ensures answer { AreFirst self.now.messages → IfOk result (λ answer. answer ≡ answer_to self.now.messages found summarize.now) }
+        ensures any { IfOk result (λ answer. without_version answer ≡ without_version (answer_to self.now.messages found summarize.now)) }
     {
         let Some(proposed) = proposed_by(alloc, summarize)? else {
             return Ok(Answer::Refused(SummaryRule::Malformed));

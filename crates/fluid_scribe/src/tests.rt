@@ -36,7 +36,45 @@ fn id(rt: &impl Abort, text: &str) -> Id {
     Id::read(text).expect(rt, "40 lower-case digits")
 }
 
-// The next message of the order, whose minimum is two below its number.
+const REFUSAL_OF_40: &str =
+    "{\"code\":400,\"message\":\"summary tree is not stored\",\"summaryProposal\":{\"summarySequenceNumber\":40}}";
+
+// A message with this number, whose minimum is two below it.
+fn numbered(
+    alloc: Global,
+    number: u64,
+    kind: Kind,
+    reference: i64,
+    contents: &str,
+    system: Option<Text>,
+) -> Result<Message, Fail> {
+    Ok(Message {
+        client: None,
+        client_number: -1,
+        reference,
+        number,
+        minimum: number.saturating_sub(2),
+        kind,
+        contents: read(alloc, contents)?,
+        system,
+        metadata: None,
+        moment: 5,
+    })
+}
+
+fn commit(
+    rt: &impl Abort,
+    alloc: Global,
+    scribe: &mut Scribe,
+    message: &Message,
+) -> Result<(), Fail> {
+    let ready = scribe.prepare(alloc, message)?;
+    assert_eq!(rt; ready.message().number, message.number);
+    scribe.commit(ready);
+    Ok(())
+}
+
+// The next message of the order.
 fn take(
     rt: &impl Abort,
     alloc: Global,
@@ -48,22 +86,8 @@ fn take(
 ) -> Result<(), Fail> {
     assert!(rt; scribe.number() < 1000);
     let number = scribe.number() + 1;
-    let message = Message {
-        client: None,
-        client_number: -1,
-        reference,
-        number,
-        minimum: number.saturating_sub(2),
-        kind,
-        contents: read(alloc, contents)?,
-        system,
-        metadata: None,
-        moment: 5,
-    };
-    let ready = scribe.prepare(alloc, &message)?;
-    assert_eq!(rt; ready.message().number, number);
-    scribe.commit(ready);
-    Ok(())
+    let message = numbered(alloc, number, kind, reference, contents, system)?;
+    commit(rt, alloc, scribe, &message)
 }
 
 // A member joins at 23, and a summarize with the reference 20 stands at 25.
@@ -279,5 +303,36 @@ fn a_reference_may_not_go_back(rt: HostRuntime) -> Result<(), Fail> {
     assert_eq!(rt; (job.reference, job.needs_storage), (20, true));
     let handle = id(&rt, VERSION);
     assert_eq!(rt; scribe.answer(alloc, 27, true)?, Answer::Ack { handle });
+    Ok(())
+}
+
+#[test]
+fn a_message_with_another_number_is_taken(rt: HostRuntime) -> Result<(), Fail> {
+    let alloc = rt.alloc();
+    let mut scribe = Scribe::new(alloc);
+    let first = numbered(alloc, 40, Kind::Summarize, 30, FIRST, None)?;
+    commit(&rt, alloc, &mut scribe, &first)?;
+    assert_eq!(rt; scribe.number(), 1);
+    let job = scribe.job(alloc)?.expect(&rt, "one is pending");
+    assert_eq!(rt;
+        (job.summary, job.reference, job.needs_storage),
+        (40, 30, true)
+    );
+    let attributes = "{\"minimumSequenceNumber\":0,\"sequenceNumber\":0}";
+    assert!(rt; has_blob(&job.protocol, "attributes", attributes));
+    let missing = Answer::Refused(SummaryRule::Missing);
+    assert_eq!(rt; scribe.answer(alloc, 40, false)?, missing);
+    assert_eq!(rt; scribe.answer(alloc, 1, true)?, Answer::Dropped);
+    let second = numbered(alloc, 0, Kind::Summarize, 0, "null", None)?;
+    commit(&rt, alloc, &mut scribe, &second)?;
+    assert_eq!(rt; scribe.number(), 2);
+    assert_eq!(rt; scribe.answer(alloc, 40, false)?, missing);
+    let refusal = numbered(alloc, 7, Kind::SummaryNack, -1, REFUSAL_OF_40, None)?;
+    commit(&rt, alloc, &mut scribe, &refusal)?;
+    assert_eq!(rt; scribe.number(), 3);
+    assert_eq!(rt; scribe.answer(alloc, 40, false)?, Answer::Dropped);
+    let malformed = Answer::Refused(SummaryRule::Malformed);
+    assert_eq!(rt; scribe.answer(alloc, 0, true)?, malformed);
+    assert!(rt; scribe.acks().is_empty());
     Ok(())
 }

@@ -1,16 +1,18 @@
 use Rattle.std.proofs.Common.{ap, ◌∙◌}
 use Rattle.fluid_types.specs.Blobs.{blobs_of}
 use Rattle.fluid_types.specs.Quorum.{quorum_of}
+use Rattle.fluid_quorum.specs.Order.{AreFirst}
 use Rattle.fluid_rules.specs.Scribe.{protocol}
 use Rattle.fluid_scribe.proofs.Orders.{numbered-take}
 use Rattle.fluid_scribe.proofs.Versions.{node_is}
 use Rattle.fluid_scribe.proofs.version.protocol_at.Goals as goal
 
-pub quorum_of-requires : goal.quorum_of-requires
-quorum_of-requires c = rw c.first_of-first.ensures (numbered-take 1 c.args.number c.args.order.now c.requires)
-
-pub returns : goal.returns
-returns c =
+pub returns-clause-protocol : goal.returns-clause-protocol
+returns-clause-protocol c = λ first.
+    let taken : AreFirst c.first_of-first.result.now = rw c.first_of-first.ensures (numbered-take 1 c.args.number c.args.order.now first) in
     c.in_ok-state.ensures.node
     ∙ node_is _
-    ∙ ap (λ q. protocol (blobs_of q)) (c.in_ok-quorum.ensures ∙ ap quorum_of c.first_of-first.ensures)
+    ∙ ap (λ q. protocol (blobs_of q)) (c.in_ok-quorum.ensures taken ∙ ap quorum_of c.first_of-first.ensures)
+
+pub returns-clause-state : goal.returns-clause-state
+returns-clause-state c = (_, c.in_ok-state.ensures.node ∙ node_is _)

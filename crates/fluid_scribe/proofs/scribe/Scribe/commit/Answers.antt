@@ -10,7 +10,7 @@ invariant_of-self c =
     let waiting : c.add_one.new.list.items ≡ unanswered_by c.args.ready.message c.self.inside.waiting.items ++ option_to_list c.args.ready.waiting = search rules in
     let known : c.add_one-2.new.list.items ≡ c.self.inside.acks.items ++ option_to_list c.args.ready.ack = search rules in
     kept-at _ _ _ _ _ _ grown waiting known
-    (kept-push _ _ _ c.args.ready c.self.invariant (rw (← c.self.view_is) at c.requires.is) (rw (← c.self.view_is) at c.requires.next))
+    (kept-push _ _ _ c.args.ready c.self.invariant (rw (← c.self.view_is) at c.requires.is))
 
 pub returns-clause-stands : goal.returns-clause-stands
 returns-clause-stands c =
