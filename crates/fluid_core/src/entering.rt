@@ -1,0 +1,210 @@
+//! Sequencer and scribe together.
+ghost use Rattle.std.specs.Prelude.{◌≡◌, ◌+◌, ◌-◌, ◌^◌, ◌<◌, ◌++◌, ◌∷◌, [], IfOk};
+ghost use Rattle.fluid_types.specs.Ledger.{Ledger, seq as last_sequence};
+ghost use Rattle.fluid_types.specs.declared.entries.Raw.{Raw as ARaw};
+ghost use Rattle.fluid_rules.specs.Rules.{minimum as minimum_by_rules, verdict as verdict_by_rules};
+ghost use Rattle.fluid_quorum.specs.Order.{AreFirst};
+ghost use Rattle.fluid_rules.specs.Scribe.{acks};
+ghost use Rattle.fluid_scribe.specs.Jobs.{job};
+ghost use Rattle.fluid_ticket.specs.State.{minimum, HasMinimumUpTo};
+ghost use Rattle.fluid_core.specs.Entering.{start, answer_for, note_for, after, prepared, IsPreparedIn, StandsFor, noted, CanTake};
+
+use fluid_clients::Clients;
+use fluid_json::NoMemory;
+use fluid_scribe::{Answer, Job, Scribe, ScribeReady, SummaryRef};
+use fluid_ticket::{Ready, Sequencer};
+use fluid_types::{Raw, Verdict};
+use std::alloc::Global;
+use std::marker::Model;
+
+/// What is kept of the entries of one document: the sequencer, and the scribe that takes each message of the order.
+#[derive(Drop)]
+pub struct Core {
+    sequencer: Sequencer,
+    scribe: Scribe,
+}
+
+impl Model for Core {
+    ghost use Rattle.std.specs.Prelude.{ℕ, List, refl};
+    ghost use Rattle.std.specs.Coded.{code_by, coded×, coded_ℕ, coded_list};
+    ghost use Rattle.std.specs.FinMap.{code};
+    ghost use Rattle.fluid_types.specs.declared.messages.Message.{Message};
+    ghost use Rattle.fluid_types.specs.contracts.messages.Message as messages;
+    ghost use Rattle.fluid_clients.specs.Table.{Rows, row_code};
+    ghost use Rattle.fluid_core.specs.Entering.{Entering, IsLevel};
+
+    ghost Value = { Entering };
+
+    ghost coded = { code_by (ℕ × (Rows × (List Message × (ℕ × ℕ)))) (coded× coded_ℕ (coded× (code (coded_list coded_ℕ) row_code) (coded× (coded_list messages.the_row.coded) (coded× coded_ℕ coded_ℕ)))) (λ e. (e.state.sequencer.sequence, (e.state.sequencer.rows, (e.state.messages, (e.clients, e.notes))))) (λ p. record { state = record { sequencer = record { sequence = p.0; rows = p.1.0 }; messages = p.1.1.0 }; clients = p.1.1.1.0; notes = p.1.1.1.1 }) (λ _. refl) };
+
+    ghost view = { λ c. record {
+      state = record { sequencer = c.sequencer.state; messages = c.scribe.messages };
+      clients = c.sequencer.spare;
+      notes = c.scribe.spare;
+    } };
+
+    ghost invariant = { λ c. IsLevel (record { sequencer = c.sequencer.state; messages = c.scribe.messages }) };
+}
+
+/// An entry with its verdict, prepared in a state of a core and not yet committed.
+#[derive(Drop)]
+pub struct CoreReady {
+    ready: Ready,
+    note: Option<ScribeReady>,
+}
+
+impl Model for CoreReady {
+    ghost use Rattle.std.specs.Prelude.{Option, refl};
+    ghost use Rattle.std.specs.Coded.{code_by, coded×, coded_option};
+    ghost use Rattle.fluid_types.specs.declared.verdicts.Verdict.{Verdict};
+    ghost use Rattle.fluid_types.specs.contracts.verdicts.Verdict as verdicts;
+    ghost use Rattle.fluid_types.specs.contracts.messages.Message as messages;
+    ghost use Rattle.fluid_tree.specs.contracts.id.SummaryRef as references;
+    ghost use Rattle.fluid_ticket.specs.declared.ready.Change.{Change};
+    ghost use Rattle.fluid_ticket.specs.contracts.ready.Change as changes;
+    ghost use Rattle.fluid_scribe.specs.Scribing.{Prepared as Note, Parts, parts_of, of_parts};
+    ghost use Rattle.fluid_core.specs.Entering.{Prepared};
+
+    ghost Value = { Prepared };
+
+    ghost coded = { code_by (Verdict × (Change × Option Note)) (coded× verdicts.the_row.coded (coded× changes.the_row.coded (coded_option (code_by Parts (coded× messages.the_row.coded (coded× (coded_option messages.the_row.coded) (coded_option references.the_row.coded))) parts_of of_parts (λ _. refl))))) (λ r. (r.ticket.verdict, (r.ticket.change, r.note))) (λ p. record { ticket = record { verdict = p.0; change = p.1.0 }; note = p.1.1 }) (λ _. refl) };
+
+    ghost view = { λ r. record { ticket = r.ready; note = r.note } };
+}
+
+impl CoreReady {
+    /// The verdict that the entry gets when it is committed. Takes no memory.
+    pub fn verdict(&self) -> &Verdict
+        ensures { result.now ≡ self.now.ticket.verdict }
+    {
+        self.ready.verdict()
+    }
+
+    fn into_parts(self) -> (Ready, Option<ScribeReady>)
+        ensures { result ≡ (self.ticket, self.note) }
+    {
+        let CoreReady { ready, note } = self;
+        (ready, note)
+    }
+}
+
+impl Core {
+    /// The core of a document without entries. Takes no memory.
+    pub fn new(alloc: Global) -> Core
+        ensures start { result.state ≡ start }
+        ensures stands { StandsFor result.state [] }
+    {
+        Core {
+            sequencer: Sequencer::new(alloc),
+            scribe: Scribe::new(alloc),
+        }
+    }
+
+    /// The last sequence number, 0 before the first message. Takes no memory.
+    pub fn seq(&self) -> u64
+        ensures is { result ≡ self.now.state.sequencer.sequence }
+        ensures stands { (ledger : Ledger) → StandsFor self.now.state ledger → result ≡ last_sequence ledger }
+    {
+        self.sequencer.seq()
+    }
+
+    /// The minimum sequence number. Takes no memory.
+    pub fn min(&self) -> u64
+        ensures is { result ≡ minimum self.now.state.sequencer }
+        ensures stands { (ledger : Ledger) → StandsFor self.now.state ledger → result ≡ minimum_by_rules ledger }
+    {
+        self.sequencer.min()
+    }
+
+    /// The joined clients. Takes no memory.
+    pub fn clients(&self) -> &Clients
+        ensures { result.now.rows ≡ self.now.state.sequencer.rows }
+    {
+        self.sequencer.clients()
+    }
+
+    /// The summaries that were acknowledged, oldest first. Takes no memory.
+    pub fn acks(&self) -> &[SummaryRef]
+        ensures { result.now ≡ acks self.now.state.messages }
+    {
+        self.scribe.acks()
+    }
+
+    /// What is to be done about the pending summarize; None exactly where none is pending.
+    pub fn job(&mut self, alloc: Global) -> Result<Option<Job>, NoMemory>
+        ensures same { self.new ≡ self.old }
+        ensures job { IfOk result (λ given. given ≡ job self.old.state.messages) }
+    {
+        self.scribe.job(alloc)
+    }
+
+    /// Gives a raw entry its verdict and makes every growth that this verdict needs. The state stays.
+    pub fn prepare(&mut self, alloc: Global, raw: &Raw) -> Result<CoreReady, NoMemory>
+        requires { self.old.state.sequencer.sequence < 2 ^ 53 - 1 }
+        ensures same { self.new.state ≡ self.old.state }
+        ensures ready { IfOk result (λ ready. ready ≡ prepared self.old.state raw.now) }
+        ensures bounded { IfOk result (λ ready. HasMinimumUpTo (self.old.state.sequencer.sequence + 1) ready.ticket.verdict) }
+        ensures committable { IfOk result (IsPreparedIn self.new) }
+        ensures verdict { (ledger : Ledger) → StandsFor self.old.state ledger →
+            IfOk result (λ ready. ready.ticket.verdict ≡ verdict_by_rules ledger raw.now) }
+    {
+        let answer = answer_for(alloc, &mut self.scribe, raw)?;
+        let ready = self.sequencer.prepare(alloc, raw, &answer)?;
+        let note = note_for(alloc, &mut self.scribe, ready.verdict())?;
+        Ok(CoreReady { ready, note })
+    }
+
+    /// Enters what was prepared, and gives its verdict. Takes no memory.
+    pub fn commit(&mut self, ready: CoreReady) -> Verdict
+        requires { IsPreparedIn self.old ready }
+        ensures verdict { result ≡ ready.ticket.verdict }
+        ensures after { (raw : ARaw) → ready ≡ prepared self.old.state raw → self.new.state ≡ after self.old.state raw result }
+        ensures stands { (ledger : Ledger) (raw : ARaw) → ready ≡ prepared self.old.state raw → StandsFor self.old.state ledger →
+            (result ≡ verdict_by_rules ledger raw) × StandsFor self.new.state (ledger ++ (raw, result) ∷ []) }
+    {
+        let (ready, note) = ready.into_parts();
+        take(&mut self.scribe, note);
+        self.sequencer.commit(ready)
+    }
+}
+
+// The scribe's answer to a report; no other entry asks for one.
+fn answer_for(alloc: Global, scribe: &mut Scribe, raw: &Raw) -> Result<Answer, NoMemory>
+    requires { AreFirst scribe.old.messages }
+    ensures same { scribe.new ≡ scribe.old }
+    ensures answer { IfOk result (λ answer. answer ≡ answer_for scribe.old.messages raw.now) }
+{
+    match raw {
+        Raw::Report { summary, found, .. } => scribe.answer(alloc, *summary, *found),
+        Raw::Join { .. } | Raw::Leave { .. } | Raw::Submit { .. } => Ok(Answer::Dropped),
+    }
+}
+
+// What the scribe prepares for the message of a verdict, where it has one.
+fn note_for(
+    alloc: Global,
+    scribe: &mut Scribe,
+    verdict: &Verdict,
+) -> Result<Option<ScribeReady>, NoMemory>
+    ensures same { scribe.new.messages ≡ scribe.old.messages }
+    ensures note { IfOk result (λ note. note ≡ note_for scribe.old.messages verdict.now) }
+    ensures takeable { IfOk result (CanTake scribe.new) }
+{
+    match verdict {
+        Verdict::Sequenced(message) => {
+            let note = scribe.prepare(alloc, message)?;
+            Ok(Some(note))
+        }
+        Verdict::Nacked(_) | Verdict::Dropped => Ok(None),
+    }
+}
+
+// Takes the message that was prepared, where there is one.
+fn take(scribe: &mut Scribe, note: Option<ScribeReady>)
+    requires { CanTake scribe.old note }
+    ensures { scribe.new.messages ≡ scribe.old.messages ++ noted note }
+{
+    if let Some(note) = note {
+        scribe.commit(note);
+    }
+}
