@@ -1,9 +1,7 @@
 -- What a sequencer that stands for a ledger keeps of its clients: as many rows as clients are joined, and a row for each.
-use Rattle.std.proofs.Common.{◌≡◌, ℕ, ◌+◌, List, [], ◌∷◌, length, map, refl, ◌∙◌, ap, not, cond, Option, None, Some, is_some, is_none, ◌≤◌, arith}
+use Rattle.std.proofs.Common.{◌≡◌, ℕ, ◌+◌, List, [], ◌∷◌, length, map, refl, ◌∙◌, ap, not, cond, Option, None, Some, is_some, is_none}
 use Rattle.std.specs.FinMap.{from_entries, find, get, len, len-empty, len-insert, get-from_entries}
 use Rattle.fluid_types.specs.Ledger.{Ledger}
-use Rattle.fluid_types.specs.declared.verdicts.Verdict.{Verdict}
-use Rattle.fluid_types.specs.declared.verdicts.Verdict.TheVariants.{Sequenced, Nacked, Dropped}
 use Rattle.fluid_types.specs.declared.entries.Raw.{Raw}
 use Rattle.fluid_types.specs.declared.entries.Raw.TheVariants.{Join, Leave, Submit, Report}
 use Rattle.fluid_rules.specs.Past.{IsBelowEach, AreInOrder}
@@ -12,12 +10,14 @@ use Rattle.fluid_rules.proofs.Minimum.{joined-in_order}
 use Rattle.fluid_clients.specs.Table.{byte_order}
 use Rattle.fluid_clients.proofs.Laws.{byte_order_total}
 use Rattle.fluid_clients.specs.declared.table.Row.{Row}
-use Rattle.fluid_ticket.specs.State.{State, after}
+use Rattle.fluid_ticket.specs.State.{State}
 use Rattle.fluid_ticket.specs.Ledger.{row_of, state_of, StandsFor}
 use Rattle.fluid_ticket.proofs.Ledgers.{joined-state_of}
+use Rattle.fluid_core.proofs.Entered.{stands-sequencer}
 use Rattle.fluidd.specs.declared.document.Document.{Document}
 use Rattle.fluidd.specs.declared.limits.Limits.{Limits}
-use Rattle.fluidd.specs.Input.{is_counted, is_new_client, counted, limit_refusal}
+use Rattle.fluid_rules.specs.Counted.{is_counted, is_new_client}
+use Rattle.fluidd.specs.Input.{limit_refusal}
 use Rattle.fluidd.specs.Output.{verdict_lines}
 use Rattle.fluidd.specs.Progress.{limit_refusal_by, Stands, is_new_in}
 use Rattle.std.proofs.Common.{add-one}
@@ -50,25 +50,14 @@ new-client s l (Submit id submission moment) h = refl
 new-client s l (Report summary found moment) h = refl
 
 pub limit-refusal : (limits : Limits) (gone : List ℕ) (l : Ledger) (d : Document) (raw : Raw) → Stands gone l d →
-    limit_refusal_by (is_counted raw) limits.entries d.counted (is_new_in d.sequencer.state.rows raw) limits.clients (len d.sequencer.state.rows)
+    limit_refusal_by (is_counted raw) limits.entries d.counted (is_new_in d.core.state.sequencer.rows raw) limits.clients (len d.core.state.sequencer.rows)
     ≡ limit_refusal limits l raw
 unfolding limit_refusal
-limit-refusal limits gone l d raw s = rw (s.counted, new-client _ l raw s.sequencer, rows-joined _ l s.sequencer) refl
+limit-refusal limits gone l d raw s = let sequencer = stands-sequencer d.core.state l s.core in
+    rw (s.counted, new-client _ l raw sequencer, rows-joined _ l sequencer) refl
 
 -- ---- no entries
-
-pub counted-none : 0 ≡ counted []
-unfolding counted
-counted-none = refl
 
 pub lines-none : [] ≡ verdict_lines []
 unfolding verdict_lines
 lines-none = refl
-
--- ---- one entry more
-
-pub after-next : (s : State) (raw : Raw) (verdict : Verdict) → (after s raw verdict).sequence ≤ s.sequence + 1
-unfolding after
-after-next s raw (Sequenced message) = omega arith
-after-next s raw (Nacked nack) = omega arith
-after-next s raw Dropped = omega arith

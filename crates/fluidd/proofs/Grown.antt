@@ -15,9 +15,10 @@ use Rattle.fluid_types.specs.Records.{raw_spelled}
 use Rattle.fluidd.specs.declared.document.Document.{Document}
 use Rattle.fluidd.specs.declared.document.Untaken.{Untaken}
 use Rattle.fluidd.specs.declared.document.Untaken.TheVariants as untaken
-use Rattle.fluidd.specs.Input.{entry_of, records, refusal, text_refusal, Accepts, counted, is_counted}
-use Rattle.std.proofs.Common.{◌+◌, cond, zero-add}
-use Rattle.std.proofs.lemmas.List.Sums.{sum_by-append}
+use Rattle.fluidd.specs.Input.{entry_of, records, refusal, text_refusal, Accepts}
+use Rattle.std.proofs.Common.{◌+◌, cond}
+use Rattle.fluid_rules.specs.Counted.{counted, is_counted}
+use Rattle.fluid_rules.proofs.Counted.{counted-push}
 use Rattle.fluid_types.specs.declared.verdicts.Verdict.{Verdict}
 use Rattle.fluidd.specs.Output.{entry_line, verdict_lines}
 use Rattle.fluidd.specs.Progress.{with_entry, with_entry_of, Admits, Takes}
@@ -55,10 +56,7 @@ unless-ok memory value expected h = ⊎_elim (λ (wanting : Ok value ≡ Err mem
 -- ---- an entry more
 
 pub counted-entry : (l : Ledger) (raw : Raw) (v : Verdict) (counts : Bool) → is_counted raw ≡ counts → counted (l ++ (raw, v) ∷ []) ≡ counted l + cond counts 1 0
-unfolding counted
-counted-entry l raw v counts h =
-    sum_by-append (λ entry. cond (is_counted entry.0) 1 0) l ((raw, v) ∷ [])
-    ∙ ap (λ n. counted l + n) (zero-add (cond (is_counted raw) 1 0) ∙ ap (λ b. cond b 1 0) h)
+counted-entry l raw v counts h = counted-push l (raw, v) ∙ ap (λ b. counted l + cond b 1 0) h
 
 pub lines-grown : (gone waiting new : List ℕ) (l : Ledger) (raw : Raw) (v : Verdict) → gone ++ waiting ≡ verdict_lines l →
     new ≡ waiting ++ entry_line (raw, v) → v ≡ verdict l raw → gone ++ new ≡ verdict_lines (with_entry l raw)

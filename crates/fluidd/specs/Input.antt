@@ -1,5 +1,5 @@
 -- Which line of an input is refused, and which raw entries the other lines spell.
-use Rattle.std.specs.Prelude.{◌≡◌, ℕ, ◌+◌, ◌==◌, ◌&&◌, nat_le, Bool, true, false, not, List, [], ◌∷◌, ◌++◌, length, count_by, Option, Some, None, Result, Ok, Err, if◌then◌else◌}
+use Rattle.std.specs.Prelude.{◌≡◌, ℕ, ◌+◌, ◌==◌, ◌&&◌, nat_le, List, [], ◌∷◌, ◌++◌, length, Option, Some, None, Result, Ok, Err, if◌then◌else◌}
 use Rattle.std.specs.List.{filter_map}
 use Rattle.fluid_io.specs.Lines.{line_answer}
 use Rattle.fluid_io.specs.declared.line.Line.{Line}
@@ -8,13 +8,13 @@ use Rattle.fluid_io.specs.declared.line.LineFault.TheVariants as line
 use Rattle.fluid_io.specs.declared.lines.TheConstants.{LONGEST_TEXT}
 use Rattle.fluid_types.specs.Ledger.{Ledger}
 use Rattle.fluid_types.specs.declared.entries.Raw.{Raw}
-use Rattle.fluid_types.specs.declared.entries.Raw.TheVariants.{Join, Leave, Submit, Report}
 use Rattle.fluid_types.specs.declared.fault.CodecFault.{CodecFault}
 use Rattle.fluid_types.specs.Records.{raw_spelled}
-use Rattle.fluid_rules.specs.Rules.{is_joined, joined, ledger}
+use Rattle.fluid_rules.specs.Rules.{joined, ledger}
+use Rattle.fluid_rules.specs.Counted.{is_counted, counted, is_new_client}
 use Rattle.fluidd.specs.declared.limits.Limits.{Limits}
 use Rattle.fluidd.specs.declared.refusal.Refusal.{Refusal}
-use Rattle.fluidd.specs.declared.refusal.Refusal.TheVariants.{TooLong, NotUtf8, TooManyLines, Unreadable, NotARecord, DocumentFull, TooManyClients}
+use Rattle.fluidd.specs.declared.refusal.Refusal.TheVariants.{TooLong, NotUtf8, TooManyLines, Unreadable, DocumentFull, TooManyClients}
 
 -- ---- what the lines spell
 
@@ -37,24 +37,6 @@ records lines = filter_map entry_of lines
 abbrev pub full : Limits
 full = record { entries = 4194304; clients = 1024 }
 
--- joins and submissions count, whatever their verdict; leaves and reports don't
-abbrev pub is_counted : Raw → Bool
-is_counted (Join id scopes detail moment) = true
-is_counted (Leave id moment) = false
-is_counted (Submit id submission moment) = true
-is_counted (Report summary found moment) = false
-
--- how many entries of a ledger count
-unfoldable pub counted : Ledger → ℕ
-counted l = count_by (λ entry. is_counted entry.0) l
-
--- a join of an id that isn't joined
-abbrev pub is_new_client : Ledger → Raw → Bool
-is_new_client l (Join id scopes detail moment) = not (is_joined l id)
-is_new_client l (Leave id moment) = false
-is_new_client l (Submit id submission moment) = false
-is_new_client l (Report summary found moment) = false
-
 -- the document is full where this entry counts and as many as may be are counted; there are too many clients where
 -- this is a new one and as many as may be are joined
 unfoldable pub limit_refusal : Limits → Ledger → Raw → Option Refusal
@@ -64,18 +46,8 @@ limit_refusal limits l raw =
 
 -- ---- which line is refused
 
-abbrev pub is_report : Raw → Bool
-is_report (Join id scopes detail moment) = false
-is_report (Leave id moment) = false
-is_report (Submit id submission moment) = false
-is_report (Report summary found moment) = true
-
--- reports aren't taken
-abbrev pub entry_refusal : Limits → Ledger → Raw → Option Refusal
-entry_refusal limits l raw = if is_report raw then Some NotARecord else limit_refusal limits l raw
-
 abbrev pub record_refusal : Limits → Ledger → Result Raw CodecFault → Option Refusal
-record_refusal limits l (Ok raw) = entry_refusal limits l raw
+record_refusal limits l (Ok raw) = limit_refusal limits l raw
 record_refusal limits l (Err fault) = Some (Unreadable fault)
 
 -- why a text is refused behind the entries of this ledger; an empty one isn't

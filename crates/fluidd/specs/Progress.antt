@@ -12,8 +12,9 @@ use Rattle.std.specs.FinMap.{get}
 use Rattle.fluid_types.specs.declared.entries.Raw.{Raw}
 use Rattle.fluid_types.specs.declared.entries.Raw.TheVariants.{Join, Leave, Submit, Report}
 use Rattle.fluid_rules.specs.Rules.{verdict, ledger}
+use Rattle.fluid_rules.specs.Counted.{counted}
 use Rattle.fluid_clients.specs.Table.{Rows}
-use Rattle.fluid_ticket.specs.Ledger.{StandsFor}
+use Rattle.fluid_core.specs.Entering.{StandsFor}
 use Rattle.fluidd.specs.declared.document.Document.{Document}
 use Rattle.fluidd.specs.declared.document.Untaken.{Untaken}
 use Rattle.fluidd.specs.declared.document.Untaken.TheVariants as untaken
@@ -24,7 +25,7 @@ use Rattle.fluidd.specs.declared.status.Status.{Status}
 use Rattle.fluidd.specs.declared.status.Status.TheVariants as status
 use Rattle.fluidd.specs.declared.sequence.Stop.{Stop}
 use Rattle.fluidd.specs.declared.sequence.Stop.TheVariants as stop
-use Rattle.fluidd.specs.Input.{records, entry_of, counted, entry_refusal, text_refusal, refusal, Accepts}
+use Rattle.fluidd.specs.Input.{records, entry_of, limit_refusal, text_refusal, refusal, Accepts}
 use Rattle.fluidd.specs.Output.{verdict_lines, AreWhole, IsWhole, IsRefused, IsBegun, IsInterrupted, IsCut, NoFault, ReadFailed, Wrote}
 use Rattle.fluidd.specs.Refusals.{bad_line}
 
@@ -41,13 +42,13 @@ with_entry_of l (Some raw) = with_entry l raw
 
 -- a document stands for a ledger of whose verdict lines these bytes have gone
 pub record Stands (gone : List ℕ) (l : Ledger) (d : Document) : Type 0 where
-  pub sequencer : StandsFor d.sequencer.state l
+  pub core : StandsFor d.core.state l
   pub counted : d.counted ≡ counted l
   pub lines : gone ++ d.waiting.items ≡ verdict_lines l
 
 -- a document has at most so many messages and counted entries
 pub record IsWithin (most : ℕ) (d : Document) : Type 0 where
-  pub sequence : d.sequencer.state.sequence ≤ most
+  pub sequence : d.core.state.sequencer.sequence ≤ most
   pub counted : d.counted ≤ most
 
 -- a join of an id that has no row
@@ -65,8 +66,8 @@ limit_refusal_by counts entries counted new clients joined =
 
 -- what a document makes of a raw entry
 abbrev pub Admits : Limits → (gone : List ℕ) → Ledger → Raw → Document → Result (Unit {0}) Untaken → Type 0
-Admits limits gone l raw new (Ok done) = (entry_refusal limits l raw ≡ None) × Stands gone (with_entry l raw) new
-Admits limits gone l raw new (Err (untaken.Refused why)) = (entry_refusal limits l raw ≡ Some why) × Stands gone l new
+Admits limits gone l raw new (Ok done) = (limit_refusal limits l raw ≡ None) × Stands gone (with_entry l raw) new
+Admits limits gone l raw new (Err (untaken.Refused why)) = (limit_refusal limits l raw ≡ Some why) × Stands gone l new
 Admits limits gone l raw new (Err untaken.NoMemory) = Stands gone l new
 
 -- what a document makes of a text

@@ -5,28 +5,28 @@ ghost use Rattle.fluid_io.specs.Streams.{Appends, AppendsFront};
 ghost use Rattle.fluid_io.specs.declared.lines.TheConstants.{MOST_LINES};
 ghost use Rattle.fluid_types.specs.Ledger.{Ledger};
 ghost use Rattle.std.specs.FinMap.{len};
-ghost use Rattle.fluidd.specs.Input.{is_counted, is_report, limit_refusal};
+ghost use Rattle.fluid_rules.specs.Counted.{is_counted};
+ghost use Rattle.fluidd.specs.Input.{limit_refusal};
 ghost use Rattle.fluidd.specs.Output.{entry_line};
 ghost use Rattle.fluidd.specs.Progress.{Stands, IsWithin, Takes, Admits, with_entry, is_new_in, limit_refusal_by};
 ghost use Rattle.fluidd.specs.Refusals.{bad_line};
 ghost use Rattle.fluid_types.specs.declared.entries.Raw.{Raw};
-ghost use Rattle.fluid_ticket.specs.State.{IsPreparedIn, prepared};
-ghost use Rattle.fluid_ticket.specs.Ledger.{StandsFor};
+ghost use Rattle.fluid_core.specs.Entering.{IsPreparedIn, prepared, StandsFor};
 
 use crate::limits::Limits;
 use crate::refusal::{Refusal, push_bad_line};
 use crate::sink::write_out;
 use fluid_codec::{push_verdict, read_raw};
+use fluid_core::{Core, CoreReady};
 use fluid_io::{Failed, Sink};
 use fluid_json::NoMemory;
-use fluid_ticket::{Ready, Sequencer};
 use fluid_types::{CodecFault, Raw, Verdict};
 use std::alloc::Global;
 
 /// A document between two lines of its input.
 #[derive(Drop)]
 pub(crate) struct Document {
-    sequencer: Sequencer,
+    core: Core,
     /// The joins and submissions that were entered.
     counted: u64,
     /// The lines for the output that haven't gone to the sink yet, each with its end.
@@ -58,7 +58,7 @@ impl Document {
         ensures within { IsWithin 0 result }
     {
         Document {
-            sequencer: Sequencer::new(alloc),
+            core: Core::new(alloc),
             counted: 0,
             waiting: Vec::new(alloc),
         }
@@ -88,9 +88,6 @@ impl Document {
         ensures within { (n : ℕ) → IsWithin n self.old → IsWithin (n + 1) self.new }
         ensures admits { (gone : List ℕ) (l : Ledger) → Stands gone l self.old → Admits limits gone l raw.now self.new result }
     {
-        if is_report(raw) {
-            return Err(Untaken::Refused(Refusal::NotARecord));
-        }
         match self.refusal(limits, raw) {
             Some(why) => Err(Untaken::Refused(why)),
             None => {
@@ -109,12 +106,12 @@ impl Document {
 
     fn limit_refusal(&self, limits: Limits, raw: &Raw) -> Option<Refusal>
         ensures { result ≡ limit_refusal_by (is_counted raw.now) limits.entries self.now.counted
-            (is_new_in self.now.sequencer.state.rows raw.now) limits.clients (len self.now.sequencer.state.rows) }
+            (is_new_in self.now.core.state.sequencer.rows raw.now) limits.clients (len self.now.core.state.sequencer.rows) }
     {
         if is_counted(raw) && limits.entries <= self.counted {
             return Some(Refusal::DocumentFull);
         }
-        if self.is_new(raw) && u64::from(limits.clients) <= self.sequencer.clients().count() {
+        if self.is_new(raw) && u64::from(limits.clients) <= self.core.clients().count() {
             return Some(Refusal::TooManyClients);
         }
         None
@@ -122,10 +119,10 @@ impl Document {
 
     // Whether an entry is a join of a client that isn't joined.
     fn is_new(&self, raw: &Raw) -> bool
-        ensures { result ≡ is_new_in self.now.sequencer.state.rows raw.now }
+        ensures { result ≡ is_new_in self.now.core.state.sequencer.rows raw.now }
     {
         match raw {
-            Raw::Join { id, .. } => self.sequencer.clients().row(id).is_none(),
+            Raw::Join { id, .. } => self.core.clients().row(id).is_none(),
             Raw::Leave { .. } | Raw::Submit { .. } | Raw::Report { .. } => false,
         }
     }
@@ -137,9 +134,9 @@ impl Document {
         ensures entered { OnOk result ((gone : List ℕ) (l : Ledger) → Stands gone l self.old → Stands gone (with_entry l raw.now) self.new) }
         ensures kept { OnErr result ((gone : List ℕ) (l : Ledger) → Stands gone l self.old → Stands gone l self.new) }
     {
-        let ready = self.sequencer.prepare(alloc, raw)?;
+        let ready = self.core.prepare(alloc, raw)?;
         push_line(alloc, &mut self.waiting, raw, ready.verdict())?;
-        commit(&mut self.sequencer, ready);
+        commit(&mut self.core, ready);
         if is_counted(raw) {
             self.counted += 1;
         }
@@ -184,13 +181,13 @@ impl Document {
 }
 
 // Commits what was prepared. Its verdict was told before.
-fn commit(sequencer: &mut Sequencer, ready: Ready)
-    requires { IsPreparedIn sequencer.old ready }
-    ensures stands { (raw : Raw) (l : Ledger) → ready ≡ prepared sequencer.old.state raw →
-        StandsFor sequencer.old.state l → StandsFor sequencer.new.state (with_entry l raw) }
-    ensures one_more { sequencer.new.state.sequence ≤ sequencer.old.state.sequence + 1 }
+fn commit(core: &mut Core, ready: CoreReady)
+    requires { IsPreparedIn core.old ready }
+    ensures stands { (raw : Raw) (l : Ledger) → ready ≡ prepared core.old.state raw →
+        StandsFor core.old.state l → StandsFor core.new.state (with_entry l raw) }
+    ensures one_more { core.new.state.sequencer.sequence ≤ core.old.state.sequencer.sequence + 1 }
 {
-    let _verdict = sequencer.commit(ready);
+    let _verdict = core.commit(ready);
 }
 
 // Whether an entry counts towards the limit of a document.
@@ -201,12 +198,6 @@ fn is_counted(raw: &Raw) -> bool
         Raw::Join { .. } | Raw::Submit { .. } => true,
         Raw::Leave { .. } | Raw::Report { .. } => false,
     }
-}
-
-fn is_report(raw: &Raw) -> bool
-    ensures { result ≡ is_report raw.now }
-{
-    matches!(raw, Raw::Report { .. })
 }
 
 // Puts the line of a verdict, with its end, behind what waits.

@@ -16,8 +16,6 @@ pub enum Refusal {
     TooManyLines,
     /// It isn't JSON within the profile, or no raw record.
     Unreadable(CodecFault),
-    /// It spells a record that isn't taken: a report.
-    NotARecord,
     /// It is a join or a submission, and the document has as many as it may have.
     DocumentFull,
     /// It is a join of a new client, and as many are joined as may be.
@@ -35,7 +33,6 @@ impl Refusal {
             Refusal::NotUtf8 => Text::copied(alloc, "not UTF-8"),
             Refusal::TooManyLines => Text::copied(alloc, "too many lines"),
             Refusal::Unreadable(fault) => fault.text(alloc),
-            Refusal::NotARecord => Text::copied(alloc, "not a record"),
             Refusal::DocumentFull => Text::copied(alloc, "document is full"),
             Refusal::TooManyClients => Text::copied(alloc, "too many clients"),
         }

@@ -103,6 +103,59 @@ const MARKED_CLIENT: &[(&str, &str)] = &[
     ),
 ];
 
+// A summary whose tree isn't stored, one that is acknowledged with the order's state at 3, and one that builds on another; each
+// report again, and one on a join, is dropped.
+const REPORTS: &[(&str, &str)] = &[
+    (
+        r#"{"raw":"join","clientId":"A","detail":null,"scopes":["doc:read","doc:write","summary:write"],"moment":1}"#,
+        r#"{"sequenced":{"clientId":null,"clientSequenceNumber":-1,"contents":null,"data":"{\"clientId\":\"A\",\"detail\":null}","minimumSequenceNumber":0,"referenceSequenceNumber":-1,"sequenceNumber":1,"timestamp":1,"type":"join"}}"#,
+    ),
+    (
+        r#"{"raw":"submit","clientId":"A","moment":2,"operation":{"clientSequenceNumber":1,"contents":{"handle":"4b825dc642cb6eb9a060e54bf8d69288fbee4904","head":""},"referenceSequenceNumber":1,"type":"summarize"}}"#,
+        r#"{"sequenced":{"clientId":"A","clientSequenceNumber":1,"contents":{"handle":"4b825dc642cb6eb9a060e54bf8d69288fbee4904","head":""},"minimumSequenceNumber":1,"referenceSequenceNumber":1,"sequenceNumber":2,"timestamp":2,"type":"summarize"}}"#,
+    ),
+    (
+        r#"{"raw":"report","found":false,"moment":3,"summary":2}"#,
+        r#"{"sequenced":{"clientId":null,"clientSequenceNumber":-1,"contents":{"code":400,"message":"summary tree is not stored","summaryProposal":{"summarySequenceNumber":2}},"minimumSequenceNumber":1,"referenceSequenceNumber":-1,"sequenceNumber":3,"timestamp":3,"type":"summaryNack"}}"#,
+    ),
+    (
+        r#"{"raw":"report","found":false,"moment":4,"summary":2}"#,
+        r#"{"dropped":true}"#,
+    ),
+    (
+        r#"{"raw":"submit","clientId":"A","moment":5,"operation":{"clientSequenceNumber":2,"contents":{"handle":"4b825dc642cb6eb9a060e54bf8d69288fbee4904","head":""},"referenceSequenceNumber":3,"type":"summarize"}}"#,
+        r#"{"sequenced":{"clientId":"A","clientSequenceNumber":2,"contents":{"handle":"4b825dc642cb6eb9a060e54bf8d69288fbee4904","head":""},"minimumSequenceNumber":3,"referenceSequenceNumber":3,"sequenceNumber":4,"timestamp":5,"type":"summarize"}}"#,
+    ),
+    (
+        r#"{"raw":"report","found":true,"moment":6,"summary":1}"#,
+        r#"{"dropped":true}"#,
+    ),
+    (
+        r#"{"raw":"report","found":true,"moment":7,"summary":4}"#,
+        r#"{"sequenced":{"clientId":null,"clientSequenceNumber":-1,"contents":{"handle":"bd68040e94df41e8e3d8ba9dbbabace616548f73","summaryProposal":{"summarySequenceNumber":4}},"minimumSequenceNumber":3,"referenceSequenceNumber":-1,"sequenceNumber":5,"timestamp":7,"type":"summaryAck"}}"#,
+    ),
+    (
+        r#"{"raw":"report","found":true,"moment":8,"summary":4}"#,
+        r#"{"dropped":true}"#,
+    ),
+    (
+        r#"{"raw":"submit","clientId":"A","moment":9,"operation":{"clientSequenceNumber":3,"contents":{"handle":"4b825dc642cb6eb9a060e54bf8d69288fbee4904","head":""},"referenceSequenceNumber":5,"type":"summarize"}}"#,
+        r#"{"sequenced":{"clientId":"A","clientSequenceNumber":3,"contents":{"handle":"4b825dc642cb6eb9a060e54bf8d69288fbee4904","head":""},"minimumSequenceNumber":5,"referenceSequenceNumber":5,"sequenceNumber":6,"timestamp":9,"type":"summarize"}}"#,
+    ),
+    (
+        r#"{"raw":"report","found":true,"moment":10,"summary":6}"#,
+        r#"{"sequenced":{"clientId":null,"clientSequenceNumber":-1,"contents":{"code":400,"message":"head is not the last acknowledged summary","summaryProposal":{"summarySequenceNumber":6}},"minimumSequenceNumber":5,"referenceSequenceNumber":-1,"sequenceNumber":7,"timestamp":10,"type":"summaryNack"}}"#,
+    ),
+    (
+        r#"{"raw":"submit","clientId":"A","moment":11,"operation":{"clientSequenceNumber":4,"contents":{"handle":"4b825dc642cb6eb9a060e54bf8d69288fbee4904","head":"bd68040e94df41e8e3d8ba9dbbabace616548f73"},"referenceSequenceNumber":2,"type":"summarize"}}"#,
+        r#"{"clientId":"A","nacked":{"content":{"code":400,"message":"Reference below the minimum","type":"BadRequestError"},"operation":{"clientSequenceNumber":4,"contents":{"handle":"4b825dc642cb6eb9a060e54bf8d69288fbee4904","head":"bd68040e94df41e8e3d8ba9dbbabace616548f73"},"referenceSequenceNumber":2,"type":"summarize"},"sequenceNumber":5}}"#,
+    ),
+    (
+        r#"{"raw":"leave","clientId":"A","moment":12}"#,
+        r#"{"sequenced":{"clientId":null,"clientSequenceNumber":-1,"contents":null,"data":"\"A\"","minimumSequenceNumber":8,"referenceSequenceNumber":-1,"sequenceNumber":8,"timestamp":12,"type":"leave"}}"#,
+    ),
+];
+
 // A summarize needs its scope; the number that it was refused under isn't used up.
 const MISSING_SCOPE: &[(&str, &str)] = &[
     (
@@ -210,8 +263,8 @@ const SECOND_LINES: &[(&str, u8, &str)] = &[
     (r#"["raw"]"#, 3, "bad line 2: bad field raw: not an object"),
     (
         r#"{"raw":"report","summary":1,"found":true,"moment":1}"#,
-        3,
-        "bad line 2: not a record",
+        0,
+        r#"{"dropped":true}"#,
     ),
     (
         r#"{"raw":"report","summary":0,"found":true,"moment":1}"#,
@@ -395,7 +448,7 @@ fn no_input_gives_no_output_and_no_words_give_the_usage_line(rt: HostRuntime) ->
 #[test]
 fn each_entry_gets_its_verdict_line(rt: HostRuntime) -> Result<(), Fail> {
     let alloc = rt.alloc();
-    for table in [MARKED_CLIENT, MISSING_SCOPE, FIVE_KINDS] {
+    for table in [MARKED_CLIENT, REPORTS, MISSING_SCOPE, FIVE_KINDS] {
         let mut input = String::new(alloc);
         let mut output = String::new(alloc);
         for (record, line) in table {

@@ -1,4 +1,4 @@
-use Rattle.fluidd.proofs.Clients.{after-next}
+use Rattle.fluid_core.proofs.Entered.{after-next}
 use Rattle.fluidd.proofs.document.commit.Goals as goal
 
 pub returns : goal.returns

@@ -1,10 +1,11 @@
-use Rattle.fluidd.proofs.Clients.{counted-none, lines-none}
-use Rattle.std.proofs.Common.{◌∙◌}
+use Rattle.std.proofs.Common.{sym, ◌∙◌}
+use Rattle.fluid_rules.proofs.Counted.{counted-none}
+use Rattle.fluidd.proofs.Clients.{lines-none}
 use Rattle.fluidd.proofs.document.Document.new.Goals as goal
 
 pub returns-clause-stands : goal.returns-clause-stands
 returns-clause-stands c = record {
-  sequencer = c.new.ensures.stands;
-  counted = counted-none;
+  core = c.new.ensures.stands;
+  counted = sym counted-none;
   lines = c.new-2.ensures.items ∙ lines-none;
 }
