@@ -33,7 +33,7 @@ use Rattle.fluid_codec.proofs.Spelled.{records_are_spelled}
 use Rattle.fluid_codec.proofs.Steps.{T_true}
 use Rattle.fluid_codec.proofs.Heard.{events_are_spelled}
 use Rattle.fluid_codec.proofs.ReadBack.{records_are_read_back}
-use Rattle.fluid_fits.specs.Laws.{longest_text, ReadRecordsFit, HeardConnectsFit, HeardSubmissionsFit}
+use Rattle.fluid_fits.specs.Laws.{longest_text, ReadRecordsFit, ReadJoinsFit, HeardConnectsFit, HeardSubmissionsFit}
 use Rattle.fluid_fits.proofs.Lexing.{escape_short}
 use Rattle.fluid_fits.proofs.Values.{values_are_bounded}
 
@@ -173,7 +173,7 @@ is_count_of low t f n h = name_of_member (SpellsCount low) (λ k. (low ≤ k) ×
 pub is_reference_of : (t : Tree) (f : Field) (n : ℤ) → Has t f SpellsReference n → IsReference n
 is_reference_of t f n h = name_of_member SpellsReference IsReference (λ a v s. record { least = s.least; most = s.most }) t f n h
 
-quoted_short : (s : List ℕ) → length (quoted s) ≤ 2 + 6 * length s
+pub quoted_short : (s : List ℕ) → length (quoted s) ≤ 2 + 6 * length s
 quoted_short s = omega (arith, escape_short s, length-append (escape s) (34 ∷ []))
 
 pub name_short : (id : List ℕ) → IsName id → length (quoted id) ≤ 386
@@ -237,11 +237,11 @@ unfolding raw_rows name_of escape_byte
 join_bytes id scopes detail moment n d m =
     omega (arith, rows_short (raw_rows (Join id scopes detail moment)), name_short id n, d, count_short moment m, scopes_short scopes)
 
-leave_bytes : (id : List ℕ) (moment : ℕ) → IsName id → moment ≤ largest → length (raw_printed (Leave id moment)) ≤ longest_record
+pub leave_bytes : (id : List ℕ) (moment : ℕ) → IsName id → moment ≤ largest → length (raw_printed (Leave id moment)) ≤ longest_record
 unfolding raw_rows name_of escape_byte
 leave_bytes id moment n m = omega (arith, rows_short (raw_rows (Leave id moment)), name_short id n, count_short moment m)
 
-report_bytes : (summary : ℕ) (found : Bool) (moment : ℕ) → summary ≤ largest → moment ≤ largest → length (raw_printed (Report summary found moment)) ≤ longest_record
+pub report_bytes : (summary : ℕ) (found : Bool) (moment : ℕ) → summary ≤ largest → moment ≤ largest → length (raw_printed (Report summary found moment)) ≤ longest_record
 unfolding raw_rows name_of escape_byte
 report_bytes summary true moment s m = omega (arith, rows_short (raw_rows (Report summary true moment)), count_short summary s, count_short moment m)
 report_bytes summary false moment s m = omega (arith, rows_short (raw_rows (Report summary false moment)), count_short summary s, count_short moment m)
@@ -341,6 +341,14 @@ pub read_records_fit : ReadRecordsFit
 read_records_fit s raw long h =
     let v = (records_are_spelled s raw).0 h in
     raw_fits raw v.0 (read_bounded s v.0 long v.1) v.2
+
+pub read_joins_fit : ReadJoinsFit
+read_joins_fit s id scopes detail moment long h other name =
+    let v = (records_are_spelled s (Join id scopes detail moment)).0 h in
+    let t : Tree = v.0 in
+    let is = v.2 in
+    join_fits other scopes detail moment name (is_count_of 0 t field.Moment moment is.its_moment).1
+    (any_bounded bytes 99 field.Detail t detail (omega arith) (read_bounded s t long v.1) is.its_detail)
 
 -- ---- events
 

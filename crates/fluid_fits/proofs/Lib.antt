@@ -8,4 +8,5 @@ pub mod Kept
 pub mod Values
 pub mod Entries
 pub mod Fitting
+pub mod Messages
 pub mod Faults
