@@ -1,1 +1,1 @@
-mod Back
+pub mod Back

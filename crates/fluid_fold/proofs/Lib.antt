@@ -1,0 +1,10 @@
+pub mod Onwards
+pub mod Pushing
+pub mod Levels
+pub mod Records
+pub mod Entering
+pub mod Foldings
+pub mod Progress
+pub mod Beginnings
+pub mod Keeps
+pub mod Reloading
