@@ -1,0 +1,12 @@
+pub mod Listed
+pub mod Named
+pub mod Ids
+pub mod Safe
+pub mod Storing
+pub mod Stands
+pub mod Rests
+pub mod Others
+pub mod Restarting
+pub mod Removing
+pub mod Leaving
+pub mod Beginning

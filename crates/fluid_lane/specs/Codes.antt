@@ -1,0 +1,47 @@
+-- A lane's standing as a tuple of its parts, for the proofs that tell values apart.
+use Rattle.std.specs.Prelude.{ℕ, Bool, List, Option, refl}
+use Rattle.std.specs.Coded.{Coded, code_by, coded×, coded_ℕ, coded_bool, coded_list, coded_option}
+use Rattle.std.specs.FinMap.{code}
+use Rattle.fluid_types.specs.declared.messages.Message.{Message}
+use Rattle.fluid_types.specs.contracts.messages.Message as messages
+use Rattle.fluid_clients.specs.Table.{Rows, row_code}
+use Rattle.fluid_log.specs.Keeping.{Content, Keeping}
+use Rattle.fluid_fold.specs.Folding.{Folding}
+use Rattle.fluid_lane.specs.declared.limits.Limits.{Limits}
+use Rattle.fluid_lane.specs.contracts.limits.Limits as limits
+use Rattle.fluid_lane.specs.declared.steps.Side.{Side}
+use Rattle.fluid_lane.specs.contracts.steps.Side as sides
+use Rattle.fluid_lane.specs.Standing.{Standing}
+
+abbrev Texts : Type 0
+Texts = List (List ℕ)
+
+abbrev texts_code : Coded Texts
+texts_code = coded_list (coded_list coded_ℕ)
+
+abbrev content_code : Coded Content
+content_code =
+    code_by (Texts × (Texts × Texts)) (coded× texts_code (coded× texts_code texts_code)) (λ c. (c.log, (c.deltas, c.checkpoints)))
+    (λ p. record { log = p.0; deltas = p.1.0; checkpoints = p.1.1 }) (λ _. refl)
+
+abbrev keeping_code : Coded Keeping
+keeping_code =
+    code_by (Option Content × (ℕ × (ℕ × (ℕ × (ℕ × ℕ))))) (coded× (coded_option content_code) (coded× coded_ℕ (coded× coded_ℕ (coded× coded_ℕ (coded× coded_ℕ coded_ℕ)))))
+    (λ k. (k.content, (k.records, (k.deltas, (k.checkpoints, (k.faults, k.reads))))))
+    (λ p. record { content = p.0; records = p.1.0; deltas = p.1.1.0; checkpoints = p.1.1.1.0; faults = p.1.1.1.1.0; reads = p.1.1.1.1.1 }) (λ _. refl)
+
+abbrev folding_code : Coded Folding
+folding_code =
+    code_by (ℕ × (Rows × (List Message × (ℕ × (List Message × (ℕ × ℕ))))))
+    (coded× coded_ℕ (coded× (code (coded_list coded_ℕ) row_code) (coded× (coded_list messages.the_row.coded) (coded× coded_ℕ (coded× (coded_list messages.the_row.coded) (coded× coded_ℕ coded_ℕ))))))
+    (λ f. (f.state.sequencer.sequence, (f.state.sequencer.rows, (f.state.messages, (f.before, (f.held, (f.entered, f.counted)))))))
+    (λ p. record { state = record { sequencer = record { sequence = p.0; rows = p.1.0 }; messages = p.1.1.0 }; before = p.1.1.1.0; held = p.1.1.1.1.0; entered = p.1.1.1.1.1.0; counted = p.1.1.1.1.1.1 })
+    (λ _. refl)
+
+abbrev pub standing_code : Coded Standing
+standing_code =
+    code_by (Keeping × (Folding × (Limits × (ℕ × (ℕ × (Option Side × Bool))))))
+    (coded× keeping_code (coded× folding_code (coded× limits.the_row.coded (coded× coded_ℕ (coded× coded_ℕ (coded× (coded_option sides.the_row.coded) coded_bool))))))
+    (λ s. (s.keeping, (s.folding, (s.limits, (s.opened, (s.sides, (s.last, s.owed)))))))
+    (λ p. record { keeping = p.0; folding = p.1.0; limits = p.1.1.0; opened = p.1.1.1.0; sides = p.1.1.1.1.0; last = p.1.1.1.1.1.0; owed = p.1.1.1.1.1.1 })
+    (λ _. refl)
