@@ -1,4 +1,5 @@
-"""Builds, feeds and times the two programs of this benchmark: the proved `fluidd sequence`, and the hand-written baseline."""
+"""Builds, feeds and times the programs of the benchmarks: the proved `fluidd sequence`, the proved program that enters the same
+records into a lane, and the hand-written baseline."""
 import filecmp
 import os
 import re
@@ -14,7 +15,7 @@ DEBIAN_CRATES = Path("/usr/share/cargo/registry")
 
 
 class Program:
-    """One of the two programs: its name, and the words that start it."""
+    """One of the programs: its name, and the words that start it."""
 
     def __init__(self, name, words):
         self.name = name
@@ -33,14 +34,24 @@ def say(text):
     print(text, file=sys.stderr, flush=True)
 
 
-def proved():
-    """The proved program, which is built where it is missing."""
-    program = TOP / "crates" / "fluidd" / "out" / "fluidd"
+def built(crate, words):
+    """The proved program of a crate with these words, which is built where it is missing."""
+    program = TOP / "crates" / crate / "out" / crate
     if not program.exists():
-        say("bench: proving and building fluidd, which takes some minutes")
-        subprocess.run(["rt", "run", "--", "sequence"], cwd=TOP / "crates" / "fluidd", stdin=subprocess.DEVNULL,
+        say(f"bench: proving and building {crate}, which takes some minutes")
+        subprocess.run(["rt", "run", "--", *words], cwd=TOP / "crates" / crate, stdin=subprocess.DEVNULL,
                        stdout=sys.stderr, check=True)
-    return Program("fluidd", [program, "sequence"])
+    return Program(crate, [program, *words])
+
+
+def proved():
+    """The proved program that gives a verdict line for each record."""
+    return built("fluidd", ["sequence"])
+
+
+def lane():
+    """The proved program that enters each record into a lane over a keeper in memory."""
+    return built("lane_bench", [])
 
 
 def baseline():
@@ -63,13 +74,13 @@ def programs():
     return [program for program in (proved(), baseline()) if program]
 
 
-def records(clients, operations, contents):
-    """A file of raw records, written anew."""
+def records(clients, operations, contents, numbered=False):
+    """A file of raw records, written anew; with joins as a lane numbers them where that is asked for."""
     OUT.mkdir(exist_ok=True)
-    path = OUT / f"{clients}-clients-{operations}-operations-{contents}-bytes.jsonl"
+    path = OUT / f"{clients}-clients-{operations}-operations-{contents}-bytes{'-numbered' if numbered else ''}.jsonl"
     with path.open("wb") as out:
         subprocess.run([TOP / "bench" / "records", "--clients", str(clients), "--operations", str(operations),
-                        "--contents", str(contents)], stdout=out, check=True)
+                        "--contents", str(contents), *(["--numbered"] if numbered else [])], stdout=out, check=True)
     return path
 
 
@@ -99,8 +110,8 @@ def compare(both, source):
 
 
 def least(both, sources, runs):
-    """For each input the least time and the most memory of each program, by its name, over so many rounds. A round runs both
-    programs over every input, so that what else the machine does meets all of them alike."""
+    """For each input the least time and the most memory of each program, by its name, over so many rounds. A round runs the
+    programs in turn over every input, so that what else the machine does meets all of them alike."""
     taken = [{program.name: [] for program in both} for _ in sources]
     for _ in range(runs):
         for source, by_name in zip(sources, taken):
