@@ -3,6 +3,7 @@ use Rattle.std.specs.Prelude.{◌≡◌, ℕ, ◌<◌, min, List, Option, Some, 
 use Rattle.fluid_types.specs.declared.messages.Message.{Message}
 use Rattle.fluid_tree.specs.declared.id.SummaryRef.{SummaryRef}
 use Rattle.fluid_rules.specs.Scribe.{is_summarize, unanswered, acks, ack_of}
+use Rattle.fluid_scribe.specs.declared.ready.ScribeNote.{ScribeNote}
 
 pub record Scribing : Type 0 where
   pub messages : List Message
@@ -20,8 +21,16 @@ pub record Prepared : Type 0 where
   pub waiting : Option Message
   pub ack : Option SummaryRef
 
+-- what is kept beside a message behind these
+abbrev pub note_of : List Message → Message → ScribeNote
+note_of messages m = record { waiting = if is_summarize m.kind then Some m else None; ack = ack_of messages m }
+
+-- a message with what is kept beside it
+abbrev pub with_note : Message → ScribeNote → Prepared
+with_note m note = record { message = m; waiting = note.waiting; ack = note.ack }
+
 abbrev pub prepared : List Message → Message → Prepared
-prepared messages m = record { message = m; waiting = if is_summarize m.kind then Some m else None; ack = ack_of messages m }
+prepared messages m = with_note m (note_of messages m)
 
 -- the ready is that of its message behind those that were taken, and there is room for it
 pub record IsPreparedIn (s : Scribing) (ready : Prepared) : Type 0 where

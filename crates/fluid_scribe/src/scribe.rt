@@ -7,14 +7,14 @@ ghost use Rattle.fluid_quorum.specs.Order.{AreFirst};
 ghost use Rattle.fluid_rules.specs.Rules.{IsLegal};
 ghost use Rattle.fluid_rules.specs.Scribe.{acks, pending, last_ack, is_summarize, ack_of, answer, answer_to};
 ghost use Rattle.fluid_rules.specs.ScribeLaws.{unanswered_by};
-ghost use Rattle.fluid_scribe.specs.Scribing.{prepared, IsPreparedIn};
+ghost use Rattle.fluid_scribe.specs.Scribing.{prepared, note_of, with_note, IsPreparedIn};
 ghost use Rattle.fluid_scribe.specs.Ledger.{StandsFor};
 ghost use Rattle.fluid_scribe.specs.Jobs.{job, job_of, without_version, without_protocol};
 
 use crate::job::Job;
 use crate::judging::{may_be_acknowledged, refused_by};
 use crate::reading::{answered_by, handling, proposed_by, reference_of};
-use crate::ready::ScribeReady;
+use crate::ready::{ScribeNote, ScribeReady};
 use crate::version::{protocol_at, version};
 use fluid_json::NoMemory;
 use fluid_rules::{Answer, Proposed, SummaryRule};
@@ -69,15 +69,17 @@ impl Scribe {
         self.messages.len() as u64
     }
 
-    /// Makes every growth that one more message needs, whatever its number. The messages stay, whatever is answered.
+    /// Makes every growth that one more message needs, whatever its number, and copies it. The messages stay, whatever is
+    /// answered.
     pub fn prepare(&mut self, alloc: Global, message: &Message) -> Result<ScribeReady, NoMemory>
         ensures same { self.new.messages ≡ self.old.messages }
         ensures spare { self.old.spare ≤ self.new.spare }
         ensures ready { IfOk result (λ ready. ready ≡ prepared self.old.messages message.now) }
         ensures committable { IfOk result (IsPreparedIn self.new) }
     {
-        self.reserve()?;
-        self.prepared(alloc, message)
+        let note = self.note(alloc, message)?;
+        let message = message.copy(alloc)?;
+        Ok(ScribeReady::new(message, note))
     }
 
     /// Takes the message that was prepared. Takes no memory.
@@ -87,7 +89,30 @@ impl Scribe {
         ensures stands { (ledger : Ledger) (entry : Raw × Verdict) → StandsFor self.old ledger → messages_of entry.1 ≡ ready.message ∷ [] →
             StandsFor self.new (ledger ++ entry ∷ []) }
     {
-        let (message, waiting, ack) = ready.into_parts();
+        let (message, note) = ready.into_parts();
+        self.take(message, note);
+    }
+
+    /// Makes every growth that one more message needs, whatever its number, and gives what is kept beside it. The messages stay,
+    /// whatever is answered.
+    pub fn note(&mut self, alloc: Global, message: &Message) -> Result<ScribeNote, NoMemory>
+        ensures same { self.new.messages ≡ self.old.messages }
+        ensures spare { self.old.spare ≤ self.new.spare }
+        ensures note { IfOk result (λ note. note ≡ note_of self.old.messages message.now) }
+        ensures takable { IfOk result (λ note. IsPreparedIn self.new (with_note message.now note)) }
+    {
+        self.reserve()?;
+        self.noted(alloc, message)
+    }
+
+    /// Takes a message itself, with what was to be kept beside it. Takes no memory.
+    pub fn take(&mut self, message: Message, note: ScribeNote)
+        requires { IsPreparedIn self.old (with_note message note) }
+        ensures after { self.new.messages ≡ self.old.messages ++ message ∷ [] }
+        ensures stands { (ledger : Ledger) (entry : Raw × Verdict) → StandsFor self.old ledger → messages_of entry.1 ≡ message ∷ [] →
+            StandsFor self.new (ledger ++ entry ∷ []) }
+    {
+        let ScribeNote { waiting, ack } = note;
         take_answered(&mut self.waiting, &message);
         add_one(&mut self.waiting, waiting);
         add_one(&mut self.acks, ack);
@@ -148,13 +173,12 @@ impl Scribe {
         Ok(())
     }
 
-    fn prepared(&self, alloc: Global, message: &Message) -> Result<ScribeReady, NoMemory>
-        ensures { IfOk result (λ ready. ready ≡ prepared self.now.messages message.now) }
+    fn noted(&self, alloc: Global, message: &Message) -> Result<ScribeNote, NoMemory>
+        ensures { IfOk result (λ note. note ≡ note_of self.now.messages message.now) }
     {
         let ack = self.ack_of(message);
         let waiting = copied_summarize(alloc, message)?;
-        let message = message.copy(alloc)?;
-        Ok(ScribeReady::new(message, waiting, ack))
+        Ok(ScribeNote { waiting, ack })
     }
 
     fn pending(&self) -> Option<&Message>
