@@ -11,12 +11,13 @@ use Rattle.fluid_types.proofs.Ledgers.{order-push}
 use Rattle.fluid_rules.specs.Rules as rules
 use Rattle.fluid_quorum.specs.Order.{AreNumberedFrom, AreFirst}
 use Rattle.fluid_scribe.specs.Scribing as scribing
+use Rattle.fluid_scribe.specs.declared.ready.ScribeNote.{ScribeNote}
 use Rattle.fluid_ticket.specs.State as ticket
 use Rattle.fluid_ticket.specs.Ledger as ledger
 use Rattle.fluid_ticket.proofs.Ledgers as tickets
 use Rattle.fluid_ticket.proofs.Heard.{heard_on_order}
 use Rattle.fluid_ticket.proofs.Commits.{is_message_in, number_in, stands_after}
-use Rattle.fluid_core.specs.Entering.{State, start, answer_for, verdict_in, after, state_of, StandsFor, Prepared, note_for, prepared, Entering, HasRoom, IsPreparedIn, IsLevel, noted, CanTake}
+use Rattle.fluid_core.specs.Entering.{State, start, answer_for, verdict_in, after, state_of, StandsFor, Prepared, note_for, note_of, with_note, prepared, Entering, HasRoom, IsPreparedIn, IsLevel, noted, CanTake}
 
 -- ---- the state of a ledger
 
@@ -133,10 +134,18 @@ verdict_of s raw p is = ap (λ (r : ticket.Prepared). r.verdict) is
 same_prepared : (p q : Prepared) → p.ticket ≡ q.ticket → p.note ≡ q.note → p ≡ q
 same_prepared p q ticket note = λ i. record { ticket = ticket i; note = note i }
 
-pub prepared-is : (s : State) (raw : Raw) (p : ticket.Prepared) (note : Option scribing.Prepared) → p ≡ ticket.prepared s.sequencer (answer_for s.messages raw) raw →
-    note ≡ note_for s.messages p.verdict → record { ticket = p; note = note } ≡ prepared s raw
+-- what the scribe notes of the message of a verdict is what it prepares for it
+note-for : (ms : List Message) (verdict : Verdict) → with_note verdict (note_of ms verdict) ≡ note_for ms verdict
+note-for ms (Sequenced m) = refl
+note-for ms (Nacked nack) = refl
+note-for ms Dropped = refl
+
+pub prepared-is : (s : State) (raw : Raw) (p : ticket.Prepared) (note : Option ScribeNote) → p ≡ ticket.prepared s.sequencer (answer_for s.messages raw) raw →
+    note ≡ note_of s.messages p.verdict → record { ticket = p; note = with_note p.verdict note } ≡ prepared s raw
 unfolding prepared
-prepared-is s raw p taken is noted_is = same_prepared _ _ is (noted_is ∙ ap (note_for s.messages) (verdict_of s raw p is))
+prepared-is s raw p kept is noted_is =
+    same_prepared _ _ is
+    (ap (with_note p.verdict) noted_is ∙ note-for s.messages p.verdict ∙ ap (note_for s.messages) (verdict_of s raw p is))
 
 -- the parts of what was prepared
 pub record HasParts (s : State) (raw : Raw) (ready : Prepared) : Type 0 where

@@ -1,18 +1,25 @@
 -- Sequencer and scribe together: what they keep of the entries so far, the verdict of the next one, and what it makes of it.
-use Rattle.std.specs.Prelude.{◌≡◌, ℕ, ◌-◌, ◌^◌, ◌<◌, List, [], ◌∷◌, ◌++◌, length, Option, Some, None}
+use Rattle.std.specs.Prelude.{◌≡◌, ℕ, ◌-◌, ◌^◌, ◌<◌, List, [], ◌∷◌, ◌++◌, length, Option, Some, None, refl}
+use Rattle.std.specs.Coded.{Coded, code_by, coded×, coded_option}
 use Rattle.fluid_types.specs.declared.entries.Raw.{Raw}
 use Rattle.fluid_types.specs.declared.entries.Raw.TheVariants.{Join, Leave, Submit, Report}
 use Rattle.fluid_types.specs.declared.messages.Message.{Message}
 use Rattle.fluid_types.specs.declared.verdicts.Verdict.{Verdict}
 use Rattle.fluid_types.specs.declared.verdicts.Verdict.TheVariants.{Sequenced, Nacked, Dropped}
+use Rattle.fluid_types.specs.contracts.messages.Message as messages
+use Rattle.fluid_types.specs.contracts.verdicts.Verdict as verdicts
 use Rattle.fluid_types.specs.Ledger.{Ledger, order, messages_of}
+use Rattle.fluid_tree.specs.contracts.id.SummaryRef as references
 use Rattle.fluid_quorum.specs.Order.{AreFirst}
 use Rattle.fluid_rules.specs.Scribe.{answer}
 use Rattle.fluid_rules.specs.declared.answers.Answer.{Answer}
 use Rattle.fluid_rules.specs.declared.answers.Answer.TheVariants.{Dropped as unanswered}
 use Rattle.fluid_scribe.specs.Scribing as scribing
+use Rattle.fluid_scribe.specs.declared.ready.ScribeNote.{ScribeNote}
 use Rattle.fluid_ticket.specs.State as ticket
 use Rattle.fluid_ticket.specs.Ledger as ledger
+use Rattle.fluid_ticket.specs.declared.ready.Change.{Change}
+use Rattle.fluid_ticket.specs.contracts.ready.Change as changes
 
 -- the sequencer's state, and the messages of the order, which the scribe took
 pub record State : Type 0 where
@@ -54,11 +61,32 @@ pub record Prepared : Type 0 where
   pub ticket : ticket.Prepared
   pub note : Option scribing.Prepared
 
+abbrev pub prepared_code : Coded Prepared
+prepared_code =
+    code_by (Verdict × (Change × Option scribing.Prepared))
+    (coded×
+    verdicts.the_row.coded
+    (coded×
+    changes.the_row.coded
+    (coded_option
+    (code_by scribing.Parts (coded× messages.the_row.coded (coded× (coded_option messages.the_row.coded) (coded_option references.the_row.coded)))
+    scribing.parts_of scribing.of_parts (λ _. refl)))))
+    (λ p. (p.ticket.verdict, (p.ticket.change, p.note)))
+    (λ parts. record { ticket = record { verdict = parts.0; change = parts.1.0 }; note = parts.1.1 })
+    (λ _. refl)
+
 -- what the scribe prepares for the message of a verdict
 abbrev pub note_for : List Message → Verdict → Option scribing.Prepared
 note_for messages (Sequenced m) = Some (scribing.prepared messages m)
 note_for messages (Nacked nack) = None
 note_for messages Dropped = None
+
+-- the message of a verdict with what is kept beside it, where there are both
+abbrev pub with_note : Verdict → Option ScribeNote → Option scribing.Prepared
+with_note (Sequenced m) (Some note) = Some (scribing.with_note m note)
+with_note (Sequenced m) None = None
+with_note (Nacked nack) beside = None
+with_note Dropped beside = None
 
 -- what an entry is prepared as
 unfoldable pub prepared : State → Raw → Prepared
@@ -93,7 +121,13 @@ pub record IsLevel (s : State) : Type 0 where
   pub level : s.sequencer.sequence ≡ length s.messages
   pub first : AreFirst s.messages
 
--- ---- for private clauses: the messages of what the scribe prepared, and whether it can take them
+-- ---- for private clauses: what the scribe notes of the message of a verdict, the messages of what it prepared, and whether it
+-- can take them
+abbrev pub note_of : List Message → Verdict → Option ScribeNote
+note_of messages (Sequenced m) = Some (scribing.note_of messages m)
+note_of messages (Nacked nack) = None
+note_of messages Dropped = None
+
 abbrev pub noted : Option scribing.Prepared → List Message
 noted None = []
 noted (Some note) = note.message ∷ []

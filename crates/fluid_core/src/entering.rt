@@ -1,5 +1,5 @@
 //! Sequencer and scribe together.
-ghost use Rattle.std.specs.Prelude.{◌≡◌, ◌+◌, ◌-◌, ◌^◌, ◌<◌, ◌++◌, ◌∷◌, [], IfOk};
+ghost use Rattle.std.specs.Prelude.{◌≡◌, ◌+◌, ◌-◌, ◌^◌, ◌<◌, ◌≤◌, ◌++◌, ◌∷◌, [], IfOk};
 ghost use Rattle.fluid_types.specs.Ledger.{Ledger, seq as last_sequence};
 ghost use Rattle.fluid_types.specs.declared.entries.Raw.{Raw as ARaw};
 ghost use Rattle.fluid_rules.specs.Rules.{minimum as minimum_by_rules, verdict as verdict_by_rules};
@@ -7,11 +7,11 @@ ghost use Rattle.fluid_quorum.specs.Order.{AreFirst};
 ghost use Rattle.fluid_rules.specs.Scribe.{acks};
 ghost use Rattle.fluid_scribe.specs.Jobs.{job};
 ghost use Rattle.fluid_ticket.specs.State.{minimum, HasMinimumUpTo};
-ghost use Rattle.fluid_core.specs.Entering.{start, answer_for, note_for, after, prepared, IsPreparedIn, StandsFor, noted, CanTake};
+ghost use Rattle.fluid_core.specs.Entering.{start, answer_for, note_of, with_note, after, prepared, IsPreparedIn, StandsFor, noted, CanTake};
 
 use fluid_clients::Clients;
 use fluid_json::NoMemory;
-use fluid_scribe::{Answer, Job, Scribe, ScribeReady, SummaryRef};
+use fluid_scribe::{Answer, Job, Scribe, ScribeNote, SummaryRef};
 use fluid_ticket::{Ready, Sequencer};
 use fluid_types::{Raw, Verdict};
 use std::alloc::Global;
@@ -46,45 +46,81 @@ impl Model for Core {
     ghost invariant = { λ c. IsLevel (record { sequencer = c.sequencer.state; messages = c.scribe.messages }) };
 }
 
-/// An entry with its verdict, prepared in a state of a core and not yet committed.
+/// An entry with its verdict, prepared in a state of a core and not yet entered.
 #[derive(Drop)]
-pub struct CoreReady {
+pub struct CoreEntry {
     ready: Ready,
-    note: Option<ScribeReady>,
+    note: Option<ScribeNote>,
 }
 
-impl Model for CoreReady {
-    ghost use Rattle.std.specs.Prelude.{Option, refl};
-    ghost use Rattle.std.specs.Coded.{code_by, coded×, coded_option};
-    ghost use Rattle.fluid_types.specs.declared.verdicts.Verdict.{Verdict};
-    ghost use Rattle.fluid_types.specs.contracts.verdicts.Verdict as verdicts;
-    ghost use Rattle.fluid_types.specs.contracts.messages.Message as messages;
-    ghost use Rattle.fluid_tree.specs.contracts.id.SummaryRef as references;
-    ghost use Rattle.fluid_ticket.specs.declared.ready.Change.{Change};
-    ghost use Rattle.fluid_ticket.specs.contracts.ready.Change as changes;
-    ghost use Rattle.fluid_scribe.specs.Scribing.{Prepared as Note, Parts, parts_of, of_parts};
-    ghost use Rattle.fluid_core.specs.Entering.{Prepared};
+impl Model for CoreEntry {
+    ghost use Rattle.fluid_core.specs.Entering.{Prepared, prepared_code, with_note};
 
     ghost Value = { Prepared };
 
-    ghost coded = { code_by (Verdict × (Change × Option Note)) (coded× verdicts.the_row.coded (coded× changes.the_row.coded (coded_option (code_by Parts (coded× messages.the_row.coded (coded× (coded_option messages.the_row.coded) (coded_option references.the_row.coded))) parts_of of_parts (λ _. refl))))) (λ r. (r.ticket.verdict, (r.ticket.change, r.note))) (λ p. record { ticket = record { verdict = p.0; change = p.1.0 }; note = p.1.1 }) (λ _. refl) };
+    ghost coded = { prepared_code };
 
-    ghost view = { λ r. record { ticket = r.ready; note = r.note } };
+    ghost view = { λ e. record { ticket = e.ready; note = with_note e.ready.verdict e.note } };
 }
 
-impl CoreReady {
-    /// The verdict that the entry gets when it is committed. Takes no memory.
+impl CoreEntry {
+    /// The verdict that the entry gets when it is entered. Takes no memory.
     pub fn verdict(&self) -> &Verdict
         ensures { result.now ≡ self.now.ticket.verdict }
     {
         self.ready.verdict()
     }
 
-    fn into_parts(self) -> (Ready, Option<ScribeReady>)
-        ensures { result ≡ (self.ticket, self.note) }
+    fn into_parts(self) -> (Ready, Option<ScribeNote>)
+        ensures ready { result.0 ≡ self.ticket }
+        ensures note { with_note result.0.verdict result.1 ≡ self.note }
     {
-        let CoreReady { ready, note } = self;
+        let CoreEntry { ready, note } = self;
         (ready, note)
+    }
+}
+
+/// An entry with its verdict, which is given back when it is committed, prepared in a state of a core and not yet committed.
+#[derive(Drop)]
+pub struct CoreReady {
+    entry: CoreEntry,
+    verdict: Verdict,
+}
+
+impl Model for CoreReady {
+    ghost use Rattle.std.specs.Prelude.{◌≡◌};
+    ghost use Rattle.fluid_core.specs.Entering.{Prepared, prepared_code};
+
+    ghost Value = { Prepared };
+
+    ghost coded = { prepared_code };
+
+    ghost view = { λ r. r.entry };
+
+    ghost invariant = { λ r. r.verdict ≡ r.entry.ticket.verdict };
+}
+
+impl CoreReady {
+    fn new(entry: CoreEntry, verdict: Verdict) -> CoreReady
+        requires { verdict ≡ entry.ticket.verdict }
+        ensures { result ≡ entry }
+    {
+        CoreReady { entry, verdict }
+    }
+
+    /// The verdict that the entry gets when it is committed. Takes no memory.
+    pub fn verdict(&self) -> &Verdict
+        ensures { result.now ≡ self.now.ticket.verdict }
+    {
+        &self.verdict
+    }
+
+    fn into_parts(self) -> (CoreEntry, Verdict)
+        ensures entry { result.0 ≡ self }
+        ensures verdict { result.1 ≡ self.ticket.verdict }
+    {
+        let CoreReady { entry, verdict } = self;
+        (entry, verdict)
     }
 }
 
@@ -142,16 +178,16 @@ impl Core {
     pub fn prepare(&mut self, alloc: Global, raw: &Raw) -> Result<CoreReady, NoMemory>
         requires { self.old.state.sequencer.sequence < 2 ^ 53 - 1 }
         ensures same { self.new.state ≡ self.old.state }
+        ensures room { (self.old.clients ≤ self.new.clients) × (self.old.notes ≤ self.new.notes) }
         ensures ready { IfOk result (λ ready. ready ≡ prepared self.old.state raw.now) }
         ensures bounded { IfOk result (λ ready. HasMinimumUpTo (self.old.state.sequencer.sequence + 1) ready.ticket.verdict) }
         ensures committable { IfOk result (IsPreparedIn self.new) }
         ensures verdict { (ledger : Ledger) → StandsFor self.old.state ledger →
             IfOk result (λ ready. ready.ticket.verdict ≡ verdict_by_rules ledger raw.now) }
     {
-        let answer = answer_for(alloc, &mut self.scribe, raw)?;
-        let ready = self.sequencer.prepare(alloc, raw, &answer)?;
-        let note = note_for(alloc, &mut self.scribe, ready.verdict())?;
-        Ok(CoreReady { ready, note })
+        let entry = self.prepare_entry(alloc, raw)?;
+        let verdict = entry.verdict().copy(alloc)?;
+        Ok(CoreReady::new(entry, verdict))
     }
 
     /// Enters what was prepared, and gives its verdict. Takes no memory.
@@ -162,9 +198,39 @@ impl Core {
         ensures stands { (ledger : Ledger) (raw : ARaw) → ready ≡ prepared self.old.state raw → StandsFor self.old.state ledger →
             (result ≡ verdict_by_rules ledger raw) × StandsFor self.new.state (ledger ++ (raw, result) ∷ []) }
     {
-        let (ready, note) = ready.into_parts();
-        take(&mut self.scribe, note);
-        self.sequencer.commit(ready)
+        let (entry, verdict) = ready.into_parts();
+        self.enter(entry);
+        verdict
+    }
+
+    /// The same as `prepare` for who needs no verdict behind the entry: its message isn't copied, but for a summarize, which is to
+    /// wait for its answer.
+    pub fn prepare_entry(&mut self, alloc: Global, raw: &Raw) -> Result<CoreEntry, NoMemory>
+        requires { self.old.state.sequencer.sequence < 2 ^ 53 - 1 }
+        ensures same { self.new.state ≡ self.old.state }
+        ensures room { (self.old.clients ≤ self.new.clients) × (self.old.notes ≤ self.new.notes) }
+        ensures entry { IfOk result (λ entry. entry ≡ prepared self.old.state raw.now) }
+        ensures bounded { IfOk result (λ entry. HasMinimumUpTo (self.old.state.sequencer.sequence + 1) entry.ticket.verdict) }
+        ensures enterable { IfOk result (IsPreparedIn self.new) }
+        ensures verdict { (ledger : Ledger) → StandsFor self.old.state ledger →
+            IfOk result (λ entry. entry.ticket.verdict ≡ verdict_by_rules ledger raw.now) }
+    {
+        let answer = answer_for(alloc, &mut self.scribe, raw)?;
+        let ready = self.sequencer.prepare(alloc, raw, &answer)?;
+        let note = note_of(alloc, &mut self.scribe, ready.verdict())?;
+        Ok(CoreEntry { ready, note })
+    }
+
+    /// Enters what was prepared; its message moves to the scribe. Takes no memory.
+    pub fn enter(&mut self, entry: CoreEntry)
+        requires { IsPreparedIn self.old entry }
+        ensures after { (raw : ARaw) → entry ≡ prepared self.old.state raw → self.new.state ≡ after self.old.state raw entry.ticket.verdict }
+        ensures stands { (ledger : Ledger) (raw : ARaw) → entry ≡ prepared self.old.state raw → StandsFor self.old.state ledger →
+            (entry.ticket.verdict ≡ verdict_by_rules ledger raw) × StandsFor self.new.state (ledger ++ (raw, entry.ticket.verdict) ∷ []) }
+    {
+        let (ready, note) = entry.into_parts();
+        let verdict = self.sequencer.commit(ready);
+        take(&mut self.scribe, verdict, note);
     }
 }
 
@@ -180,31 +246,32 @@ fn answer_for(alloc: Global, scribe: &mut Scribe, raw: &Raw) -> Result<Answer, N
     }
 }
 
-// What the scribe prepares for the message of a verdict, where it has one.
-fn note_for(
+// What the scribe keeps beside the message of a verdict, where it has one.
+fn note_of(
     alloc: Global,
     scribe: &mut Scribe,
     verdict: &Verdict,
-) -> Result<Option<ScribeReady>, NoMemory>
+) -> Result<Option<ScribeNote>, NoMemory>
     ensures same { scribe.new.messages ≡ scribe.old.messages }
-    ensures note { IfOk result (λ note. note ≡ note_for scribe.old.messages verdict.now) }
-    ensures takeable { IfOk result (CanTake scribe.new) }
+    ensures spare { scribe.old.spare ≤ scribe.new.spare }
+    ensures note { IfOk result (λ note. note ≡ note_of scribe.old.messages verdict.now) }
+    ensures takable { IfOk result (λ note. CanTake scribe.new (with_note verdict.now note)) }
 {
     match verdict {
         Verdict::Sequenced(message) => {
-            let note = scribe.prepare(alloc, message)?;
+            let note = scribe.note(alloc, message)?;
             Ok(Some(note))
         }
         Verdict::Nacked(_) | Verdict::Dropped => Ok(None),
     }
 }
 
-// Takes the message that was prepared, where there is one.
-fn take(scribe: &mut Scribe, note: Option<ScribeReady>)
-    requires { CanTake scribe.old note }
-    ensures { scribe.new.messages ≡ scribe.old.messages ++ noted note }
+// Takes the message of a verdict with what was to be kept beside it, where there is one.
+fn take(scribe: &mut Scribe, verdict: Verdict, note: Option<ScribeNote>)
+    requires { CanTake scribe.old (with_note verdict note) }
+    ensures { scribe.new.messages ≡ scribe.old.messages ++ noted (with_note verdict note) }
 {
-    if let Some(note) = note {
-        scribe.commit(note);
+    if let (Verdict::Sequenced(message), Some(note)) = (verdict, note) {
+        scribe.take(message, note);
     }
 }

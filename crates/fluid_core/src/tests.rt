@@ -65,7 +65,7 @@ fn what_shows(verdict: &Verdict) -> Option<(Kind, u64, u64)> {
     }
 }
 
-// Prepares each entry twice, and enters the second: what is prepared and left changes nothing.
+// Prepares each entry both ways, and commits the second: what is prepared and left changes nothing.
 fn assert_entered(
     rt: &impl Abort,
     alloc: Global,
@@ -75,7 +75,7 @@ fn assert_entered(
     for (entry, wanted) in entries {
         let raw = raw(alloc, entry)?;
         assert!(rt; core.seq() < 1000);
-        let left = core.prepare(alloc, &raw)?;
+        let left = core.prepare_entry(alloc, &raw)?;
         assert_eq!(rt; what_shows(left.verdict()), *wanted);
         let ready = core.prepare(alloc, &raw)?;
         let verdict = core.commit(ready);
