@@ -118,8 +118,8 @@ message_of Dropped = None
 
 -- prepared as this raw entry, with the room that it may need
 pub record IsReadyIn (f : Folded) (raw : Raw) (p : Prepared) : Type 0 where
-  pub committable : entering.IsPreparedIn (core_of f) p.ready
-  pub ready : p.ready ≡ entering.prepared f.folding.state raw
+  pub enterable : entering.IsPreparedIn (core_of f) p.entry
+  pub entry : p.entry ≡ entering.prepared f.folding.state raw
   pub message : p.message ≡ message_of (verdict_in f.folding.state raw)
   pub keepable : All IsKeepable (messages_of (verdict_in f.folding.state raw))
   pub next : AreNumbered (f.folding.before + length f.folding.held + 1) (messages_of (verdict_in f.folding.state raw))

@@ -28,8 +28,12 @@ pub fn enter<K: Keeper>(
 {
     let record = print_raw(alloc, raw)?;
     let prepared = folded.prepare(alloc, raw)?;
+    let verdict = prepared.verdict().copy(alloc)?;
     match append(alloc, keeper, record.as_str()) {
-        Ok(()) => Ok(folded.commit(prepared)),
+        Ok(()) => {
+            folded.commit(prepared);
+            Ok(verdict)
+        }
         Err(fault) => {
             let_go(prepared);
             Err(fault)

@@ -15,7 +15,7 @@ ghost use Rattle.fluid_ticket.specs.State.{minimum};
 ghost use Rattle.fluid_fold.specs.Folding.{Folded as Kept, most, counts, nothing_folded, taken_up, pushed_of, message_of, Commits, IsLevelled, IsReadyIn, IsReady};
 
 use fluid_clients::Clients;
-use fluid_core::{Core, CoreReady};
+use fluid_core::{Core, CoreEntry};
 use fluid_deltas::{DeltaFault, Deltas};
 use fluid_json::NoMemory;
 use fluid_log::Keeper;
@@ -53,7 +53,7 @@ impl Model for Folded {
 // An entry that is prepared and not yet committed.
 #[derive(Drop)]
 pub(crate) struct Prepared {
-    ready: CoreReady,
+    entry: CoreEntry,
     message: Option<Message>,
     counts: u64,
 }
@@ -175,29 +175,38 @@ impl Folded {
         ensures ready { IfOk result (IsReadyIn self.new raw.now) }
     {
         self.deltas.reserve()?;
-        let ready = self.core.prepare(alloc, raw)?;
-        let message = message_of(alloc, ready.verdict())?;
+        let entry = self.core.prepare_entry(alloc, raw)?;
+        let message = message_of(alloc, entry.verdict())?;
         Ok(Prepared {
-            ready,
+            entry,
             message,
             counts: counts(raw),
         })
     }
 
-    // Enters what was prepared, and gives its verdict. Takes no memory.
-    pub(crate) fn commit(&mut self, prepared: Prepared) -> Verdict
+    // Enters what was prepared. Takes no memory.
+    pub(crate) fn commit(&mut self, prepared: Prepared)
         requires { IsReady self.old prepared }
-        ensures { (raw : ARaw) → IsReadyIn self.old raw prepared → Commits self.old.folding self.new.folding raw result }
+        ensures { (raw : ARaw) → IsReadyIn self.old raw prepared → Commits self.old.folding self.new.folding raw prepared.entry.ticket.verdict }
     {
         let Prepared {
-            ready,
+            entry,
             message,
             counts,
         } = prepared;
         push(&mut self.deltas, message);
         self.entered += 1;
         self.counted += counts;
-        self.core.commit(ready)
+        self.core.enter(entry);
+    }
+}
+
+impl Prepared {
+    // The verdict that the entry gets when it is committed.
+    pub(crate) fn verdict(&self) -> &Verdict
+        ensures { result.now ≡ self.now.entry.ticket.verdict }
+    {
+        self.entry.verdict()
     }
 }
 

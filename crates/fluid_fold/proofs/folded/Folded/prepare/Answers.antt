@@ -8,13 +8,13 @@ pub returns-clause-ready : goal.returns-clause-ready
 returns-clause-ready c =
     let raw = c.args.raw.now in
     let few = rw (← c.self.view_is) at c.requires.few in
-    let ready = c.in_ok-ready.ensures.ready ∙ ap (λ s. entering.prepared s raw) (sym c.in_ok-ready.ensures.same) in
+    let entry = c.in_ok-entry.ensures.entry ∙ ap (λ s. entering.prepared s raw) (sym c.in_ok-entry.ensures.same) in
     record {
-      committable = c.in_ok-ready.ensures.committable;
-      ready = ready;
-      message = c.in_ok-message.ensures ∙ ap message_of (c.verdict.ensures ∙ verdict_prepared _ raw _ ready);
-      keepable = rw c.in_ok-ready.ensures.same (next-keepable _ raw c.self.invariant few c.requires.fits);
-      next = rw (c.in_ok-reserve.ensures.before, c.in_ok-reserve.ensures.held, c.in_ok-ready.ensures.same) (next-numbered _ raw c.self.invariant);
+      enterable = c.in_ok-entry.ensures.enterable;
+      entry = entry;
+      message = c.in_ok-message.ensures ∙ ap message_of (c.verdict.ensures ∙ verdict_prepared _ raw _ entry);
+      keepable = rw c.in_ok-entry.ensures.same (next-keepable _ raw c.self.invariant few c.requires.fits);
+      next = rw (c.in_ok-reserve.ensures.before, c.in_ok-reserve.ensures.held, c.in_ok-entry.ensures.same) (next-numbered _ raw c.self.invariant);
       counts = c.counts.ensures;
       few = few;
       room = c.in_ok-reserve.ensures.room;
