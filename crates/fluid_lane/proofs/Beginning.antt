@@ -1,6 +1,6 @@
 -- What a lane that was started stands for, and what a keeper has where the start was cut short.
-use Rattle.std.proofs.Common.{◌≡◌, ℕ, zero, suc, ◌+◌, ◌≤◌, false, [], ◌∷◌, ◌++◌, length, map, Option, Some, None, is_some, Result, Ok, Err, refl, sym, ap, subst, ◌∙◌, arith, inl, inr, ⊎_elim, append-nil, append_assoc, All}
-use Rattle.std.specs.FinMap.{keys}
+use Rattle.std.proofs.Common.{◌≡◌, ℕ, zero, suc, ◌+◌, ◌<◌, ◌≤◌, false, List, [], ◌∷◌, ◌++◌, length, map, Option, Some, None, is_some, Result, Ok, Err, refl, sym, ap, subst, ◌∙◌, arith, inl, inr, ⊎_elim, append-nil, append_assoc, All}
+use Rattle.std.specs.FinMap.{keys, len}
 use Rattle.std.proofs.lemmas.Bool.{lt-leb, false≢true}
 use Rattle.fluid_io.specs.Causes.{Tells}
 use Rattle.fluid_io.specs.declared.faults.FaultNote.{FaultNote}
@@ -11,6 +11,7 @@ use Rattle.fluid_types.specs.declared.verdicts.Verdict.TheVariants.{Dropped}
 use Rattle.fluid_types.specs.Ledger.{Ledger}
 use Rattle.fluid_log.specs.Keeping.{Content, Keeping, HasLengths, IsSized}
 use Rattle.fluid_log.specs.Calls.{KeepsSame, with_record, add_record}
+use Rattle.fluid_log.proofs.Sameness.{same_itself}
 use Rattle.fluid_deltas.specs.Pushed.{AreNumbered, IsKeepable}
 use Rattle.fluid_deltas.specs.Ranges.{IsNoted}
 use Rattle.fluid_deltas.proofs.Telling.{tells_along, tells_becomes, tells_from, tells_both, tells_each}
@@ -19,7 +20,7 @@ use Rattle.fluid_fold.specs.declared.fault.LaneFault.{LaneFault}
 use Rattle.fluid_fold.specs.declared.fault.LaneFault.TheVariants.{LogFailed, Full, BadRecord, NoCheckpoint, CheckpointsFull, TooManyClients, DeltaFailed, NoMemory, BadCheckpoint, TooLarge, Worn}
 use Rattle.fluid_fold.specs.Folding.{Folding, folding_of, IsLevelled}
 use Rattle.fluid_fold.specs.Loading.{loaded, newest, ReadsBehind, IsBadAs, IsLoadFault}
-use Rattle.fluid_fold.specs.Kept.{IsKept}
+use Rattle.fluid_fold.specs.Kept.{records, IsKept}
 use Rattle.fluid_fold.proofs.Keeps.{kept_entered}
 use Rattle.fluid_types.specs.Printed.{raw_printed}
 use Rattle.fluid_rules.specs.Rules.{verdict}
@@ -29,8 +30,10 @@ use Rattle.fluid_lane.specs.declared.limits.Limits.{Limits}
 use Rattle.fluid_lane.specs.Steps.{ledger, last_side, stored, AreNoted, steps}
 use Rattle.fluid_lane.specs.Standing.{Standing, IsFor, IsTold, LaneStands}
 use Rattle.fluid_lane.specs.Refusals.{IsNotBad, IsCausedBy}
-use Rattle.fluid_lane.specs.Starting.{run, leaves, opening, HasLeft, HasTorn, LeavesAll, LeftSome, StartsBad, Starts, IsOpened, IsStartFault, LeavesBad, Grows, takes}
-use Rattle.fluid_lane.proofs.Leaving.{told_map}
+use Rattle.fluid_lane.specs.Starting.{run, leaves, takes, opening, with_records, HasLeft, HasTorn, LeavesAll, LeftSome, StartsBad, Starts, IsOpened, IsStartFault, LeavesBad, Grows, StopsAtLeave}
+use Rattle.fluid_lane.proofs.Ids.{length-keys}
+use Rattle.fluid_lane.proofs.Recorded.{records-push, with_more, with_before, with_behind}
+use Rattle.fluid_lane.proofs.Leaving.{told_map, logged}
 use Rattle.fluid_lane.proofs.Restarting.{told_too, same_ok, never_err}
 
 -- ---- what was read
@@ -229,7 +232,7 @@ left_some moment old mid new f now l (NoCheckpoint asked stored) opens does kept
 left_some moment old mid new f now l CheckpointsFull opens does kept = absurd does
 left_some moment old mid new f now l TooManyClients opens does kept = absurd does
 left_some moment old mid new f now l (DeltaFailed note) opens does kept = absurd does
-left_some moment old mid new f now l NoMemory opens does kept = left_whole moment old mid new f now l opens does kept
+left_some moment old mid new f now l NoMemory opens does kept = left_whole moment old mid new f now l opens does.0 kept
 left_some moment old mid new f now l (BadCheckpoint number fault) opens does kept = absurd does
 left_some moment old mid new f now l (TooLarge bytes) opens does kept = absurd does
 left_some moment old mid new f now l Worn opens does kept = left_whole moment old mid new f now l opens does.0 kept
@@ -247,7 +250,7 @@ told_behind moment old new f now (NoCheckpoint asked stored) does = absurd does
 told_behind moment old new f now CheckpointsFull does = absurd does
 told_behind moment old new f now TooManyClients does = absurd does
 told_behind moment old new f now (DeltaFailed note) does = absurd does
-told_behind moment old new f now NoMemory does = does.told
+told_behind moment old new f now NoMemory does = does.0.told
 told_behind moment old new f now (BadCheckpoint number fault) does = absurd does
 told_behind moment old new f now (TooLarge bytes) does = absurd does
 told_behind moment old new f now Worn does = does.0.told
@@ -349,39 +352,7 @@ caused_later before mid now (BadCheckpoint number fault) le is = tt
 caused_later before mid now (TooLarge bytes) le is = tt
 caused_later before mid now Worn le is = tt
 
--- ---- a lane that begins
-
-abbrev pub started : Keeping → Folding → Limits → ℕ → Standing
-started k f limits opened = record { keeping = k; folding = f; limits = limits; opened = opened; sides = 0; last = None; owed = false }
-
-opened_by : (moment : ℕ) (old mid new : Keeping) (f now : Folding) → Opens old mid f → HasLeft moment mid new f now → keys now.state.sequencer.rows ≡ [] → Tells old.content (IsOpened moment (newest old.checkpoints) now)
-opened_by moment old mid new f now opens has none =
-    tells_from old.content (λ c. loaded c (newest old.checkpoints) ≡ Ok f) (IsOpened moment (newest old.checkpoints) now)
-    (λ c is. record { folding = f; is = is; behind = ap (λ ids. takes now (map (λ id. Leave id moment) ids)) (sym none) ∙ sym has.folds }) opens.loads
-
-pub starts : (moment : ℕ) (old mid new : Keeping) (limits : Limits) (f now : Folding) (opened : ℕ) → Opens old mid f → HasLeft moment mid new f now → keys now.state.sequencer.rows ≡ [] → opened ≡ old.checkpoints → old.faults ≤ mid.faults
-    → Tells old.content (ReadsBehind (newest old.checkpoints) old.records old.reads mid.reads) → Starts old limits moment (started new now limits opened)
-starts moment old mid new limits f now opened opens has none found later reads =
-    let same_told : is_some new.content ≡ is_some old.content = has.told ∙ ap is_some opens.same.content in
-    let stands : (l : Ledger) → Tells old.content (IsKept false l) → Tells old.content (λ _. LaneStands (started new now limits opened) (steps (opening moment l))) =
-    λ l kept. told_too new.content old.content (LaneStands (started new now limits opened) (steps (opening moment l))) same_told
-    (begun_stands (started new now limits opened) (opening moment l) refl refl refl (has.checkpoints ∙ opens.same.checkpoints ∙ sym found) (opened_told moment old mid new f now l opens has none kept)) in
-    record {
-      stands = stands;
-      some = some_list moment old.content (started new now limits opened) same_told refl refl stands;
-      loads = opened_by moment old mid new f now opens has none;
-      reads = subst (λ n. Tells old.content (ReadsBehind (newest old.checkpoints) old.records old.reads n)) (sym has.reads) reads;
-      nobody = none;
-      limits_are = refl;
-      opened = found;
-      sides = refl;
-      last = refl;
-      owed = refl;
-      told = same_told;
-      later = omega (arith, later, has.later);
-    }
-
--- ---- what comes back with a fault
+-- ---- what is never taken away
 
 grows_same : (old new : Keeping) → KeepsSame old new → old.faults ≤ new.faults → Grows old new
 grows_same old new same later = record { records = omega (arith, same.records); deltas = same.deltas; checkpoints = same.checkpoints; told = ap is_some same.content; later = later }
@@ -396,7 +367,47 @@ grows_twice a b c first second = record {
 }
 
 grows_left : (moment : ℕ) (old new : Keeping) (f now : Folding) → HasLeft moment old new f now → Grows old new
-grows_left moment old new f now has = record { records = omega (arith, has.records); deltas = has.deltas; checkpoints = has.checkpoints; told = has.told; later = has.later }
+grows_left moment old new f now has = record { records = omega (arith, logged moment old new f now has); deltas = has.kept.deltas; checkpoints = has.kept.checkpoints; told = has.told; later = has.later }
+
+-- ---- a lane that begins
+
+abbrev pub started : Keeping → Folding → Limits → ℕ → Standing
+started k f limits opened = record { keeping = k; folding = f; limits = limits; opened = opened; sides = 0; last = None; owed = false }
+
+-- all leaves are behind what was read
+all_done : (moment : ℕ) (mid new : Keeping) (f now : Folding) (has : HasLeft moment mid new f now) → keys now.state.sequencer.rows ≡ [] → has.done ≡ run f.state (leaves moment f.state)
+all_done moment mid new f now has none = sym (append-nil has.done) ∙ ap (λ more. has.done ++ more) (sym (nobody_leaves moment now none)) ∙ sym has.splits
+
+opened_by : (moment : ℕ) (old mid new : Keeping) (limits : Limits) (f now : Folding) (opened : ℕ) → Opens old mid f → HasLeft moment mid new f now → keys now.state.sequencer.rows ≡ [] → IsOpened moment old (started new now limits opened)
+opened_by moment old mid new limits f now opened opens has none = record {
+  folding = f;
+  is = opens.loads;
+  behind = ap (λ ids. takes now (map (λ id. Leave id moment) ids)) (sym none) ∙ sym has.folds;
+  kept = subst (λ done. KeepsSame (with_records (records done) old) new) (all_done moment mid new f now has none) (with_before (records has.done) old mid new opens.same has.kept);
+}
+
+pub starts : (moment : ℕ) (old mid new : Keeping) (limits : Limits) (f now : Folding) (opened : ℕ) → Opens old mid f → HasLeft moment mid new f now → keys now.state.sequencer.rows ≡ [] → opened ≡ old.checkpoints → old.faults ≤ mid.faults
+    → Tells old.content (ReadsBehind (newest old.checkpoints) old.records old.reads mid.reads) → Starts old limits moment (started new now limits opened)
+starts moment old mid new limits f now opened opens has none found later reads =
+    let same_told : is_some new.content ≡ is_some old.content = has.told ∙ ap is_some opens.same.content in
+    let stands : (l : Ledger) → Tells old.content (IsKept false l) → Tells old.content (λ _. LaneStands (started new now limits opened) (steps (opening moment l))) =
+    λ l kept. told_too new.content old.content (LaneStands (started new now limits opened) (steps (opening moment l))) same_told
+    (begun_stands (started new now limits opened) (opening moment l) refl refl refl (has.kept.checkpoints ∙ opens.same.checkpoints ∙ sym found) (opened_told moment old mid new f now l opens has none kept)) in
+    record {
+      stands = stands;
+      some = some_list moment old.content (started new now limits opened) same_told refl refl stands;
+      loads = opened_by moment old mid new limits f now opened opens has none;
+      reads = subst (λ n. Tells old.content (ReadsBehind (newest old.checkpoints) old.records old.reads n)) (sym has.reads) reads;
+      nobody = none;
+      limits_are = refl;
+      opened = found;
+      sides = refl;
+      last = refl;
+      owed = refl;
+      grows = grows_twice old mid new (grows_same old mid opens.same later) (grows_left moment mid new f now has);
+    }
+
+-- ---- what comes back with a fault
 
 -- the faults that may come over every keeper, when it was read
 kind_read : (records before now : ℕ) (fault : LaneFault) → IsLoadFault records before now fault → IsStartFault records fault
@@ -437,16 +448,16 @@ grows_torn : (moment : ℕ) (old new : Keeping) (f now : Folding) → HasTorn mo
 grows_torn moment old new f now torn later =
     ⊎_elim
     (λ (same : KeepsSame torn.mid new). record {
-      records = omega (arith, torn.has.records, same.records);
-      deltas = same.deltas ∙ torn.has.deltas;
-      checkpoints = same.checkpoints ∙ torn.has.checkpoints;
+      records = omega (arith, logged moment old torn.mid f now torn.has, same.records);
+      deltas = same.deltas ∙ torn.has.kept.deltas;
+      checkpoints = same.checkpoints ∙ torn.has.kept.checkpoints;
       told = torn_told moment old new f now torn;
       later = later;
     })
     (λ (more : KeepsSame (with_record (raw_printed (Leave torn.id moment)) torn.mid) new). record {
-      records = omega (arith, torn.has.records, more.records);
-      deltas = more.deltas ∙ torn.has.deltas;
-      checkpoints = more.checkpoints ∙ torn.has.checkpoints;
+      records = omega (arith, logged moment old torn.mid f now torn.has, more.records);
+      deltas = more.deltas ∙ torn.has.kept.deltas;
+      checkpoints = more.checkpoints ∙ torn.has.kept.checkpoints;
       told = torn_told moment old new f now torn;
       later = later;
     })
@@ -460,10 +471,10 @@ back_left moment old new f now (NoCheckpoint asked there) level does later = abs
 back_left moment old new f now CheckpointsFull level does later = absurd does
 back_left moment old new f now TooManyClients level does later = absurd does
 back_left moment old new f now (DeltaFailed note) level does later = absurd does
-back_left moment old new f now NoMemory level does later = (tt, grows_left moment old new f now does)
+back_left moment old new f now NoMemory level does later = (tt, grows_left moment old new f now does.0)
 back_left moment old new f now (BadCheckpoint number fault) level does later = absurd does
 back_left moment old new f now (TooLarge bytes) level does later = absurd does
-back_left moment old new f now Worn level does later = (omega (arith, does.1.1, does.0.records, does.0.entered, level), grows_left moment old new f now does.0)
+back_left moment old new f now Worn level does later = (omega (arith, does.1.1, logged moment old new f now does.0, does.0.entered, level), grows_left moment old new f now does.0)
 
 left_bad : (moment : ℕ) (old mid new : Keeping) (f now : Folding) (fault : LaneFault) → LeavesAll moment mid new f now (Err fault) → LeavesBad old new fault
 left_bad moment old mid new f now (LogFailed note) does = tt
@@ -482,3 +493,68 @@ pub back_behind : (moment : ℕ) (old mid new : Keeping) (f now : Folding) (faul
 back_behind moment old mid new f now fault same later level does last =
     let left = back_left moment mid new f now fault level does last in
     record { kind = left.0; same = left_bad moment old mid new f now fault does; grows = grows_twice old mid new (grows_same old mid same later) left.1 }
+
+-- ---- the leave at which it ended
+
+next_leaves : (moment : ℕ) (now : Folding) (id : List ℕ) (rest : List (List ℕ)) → keys now.state.sequencer.rows ≡ id ∷ rest
+    → run now.state (leaves moment now.state) ≡ run now.state (map (λ id. Leave id moment) (id ∷ rest))
+next_leaves moment now id rest first = ap (λ ids. run now.state (map (λ id. Leave id moment) ids)) first
+
+-- the id of the first that has not left
+first_left : (ids : List (List ℕ)) → 0 < length ids → (id : List ℕ) × ((rest : List (List ℕ)) × (ids ≡ id ∷ rest))
+first_left [] some = absurd (omega (arith, some))
+first_left (id ∷ ids) some = (id, (ids, refl))
+
+-- before the append of its leave, or where it added nothing
+stops_before : (moment : ℕ) (old mid here new : Keeping) (f now : Folding) (fault : LaneFault) → Opens old mid f → HasLeft moment mid here f now → KeepsSame here new → 0 < len now.state.sequencer.rows → StopsAtLeave moment old new fault
+stops_before moment old mid here new f now fault opens has same some =
+    let ids = first_left (keys now.state.sequencer.rows) (omega (arith, some, length-keys now.state.sequencer.rows)) in
+    let raw : Raw = Leave ids.0 moment in
+    record {
+      folding = f;
+      is = opens.loads;
+      done = has.done;
+      next = (raw, verdict_in now.state raw);
+      rest = run (after now.state raw (verdict_in now.state raw)) (map (λ id. Leave id moment) ids.1.0);
+      splits = has.splits ∙ ap (λ more. has.done ++ more) (next_leaves moment now ids.0 ids.1.0 ids.1.1);
+      kept = inl (with_before (records has.done) old mid new opens.same (with_behind (records has.done) mid here new has.kept same));
+    }
+
+some_first : (now : Folding) (id : List ℕ) (rest : List (List ℕ)) → keys now.state.sequencer.rows ≡ id ∷ rest → 0 < len now.state.sequencer.rows
+some_first now id rest first = omega (arith, length-keys now.state.sequencer.rows, ap length first)
+
+-- where the append of its leave failed
+stops_torn : (moment : ℕ) (old mid new : Keeping) (f now : Folding) (note : FaultNote) → Opens old mid f → HasTorn moment mid new f now → StopsAtLeave moment old new (LogFailed note)
+stops_torn moment old mid new f now note opens torn =
+    let raw : Raw = Leave torn.id moment in
+    let has = torn.has in
+    ⊎_elim
+    (λ (same : KeepsSame torn.mid new). stops_before moment old mid torn.mid new f now (LogFailed note) opens has same (some_first now torn.id torn.rest torn.first))
+    (λ (more : KeepsSame (with_record (raw_printed raw) torn.mid) new). record {
+      folding = f;
+      is = opens.loads;
+      done = has.done;
+      next = (raw, verdict_in now.state raw);
+      rest = run (after now.state raw (verdict_in now.state raw)) (map (λ id. Leave id moment) torn.rest);
+      splits = has.splits ∙ ap (λ more. has.done ++ more) (next_leaves moment now torn.id torn.rest torn.first);
+      kept = inr (
+        tt,
+        subst (λ texts. KeepsSame (with_records texts old) new) (sym (records-push has.done (raw, verdict_in now.state raw)))
+            (with_more (records has.done) (raw_printed raw) old torn.mid new (with_before (records has.done) old mid torn.mid opens.same has.kept) more),
+      );
+    })
+    torn.left
+
+pub stops_at : (moment : ℕ) (old mid new : Keeping) (f now : Folding) (fault : LaneFault) → Opens old mid f → LeavesAll moment mid new f now (Err fault) → StopsAtLeave moment old new fault
+stops_at moment old mid new f now (LogFailed note) opens does = stops_torn moment old mid new f now note opens does
+stops_at moment old mid new f now (Full entries) opens does = absurd does
+stops_at moment old mid new f now (BadRecord place) opens does = absurd does
+stops_at moment old mid new f now (NoCheckpoint asked there) opens does = absurd does
+stops_at moment old mid new f now CheckpointsFull opens does = absurd does
+stops_at moment old mid new f now TooManyClients opens does = absurd does
+stops_at moment old mid new f now (DeltaFailed note) opens does = absurd does
+stops_at moment old mid new f now NoMemory opens does = stops_before moment old mid new new f now NoMemory opens does.0 (same_itself new) does.1
+stops_at moment old mid new f now (BadCheckpoint number fault) opens does = absurd does
+stops_at moment old mid new f now (TooLarge bytes) opens does = absurd does
+stops_at moment old mid new f now Worn opens does =
+    stops_before moment old mid new new f now Worn opens does.0 (same_itself new) (omega (arith, does.1.0, does.0.entered, does.0.count, does.0.few opens.levelled.few))

@@ -15,10 +15,12 @@ use Rattle.fluid_fold.specs.Folding.{Folding, most, taken_up}
 use Rattle.fluid_fold.specs.declared.fault.LaneFault.{LaneFault}
 use Rattle.fluid_fold.specs.declared.fault.LaneFault.TheVariants.{LogFailed, Full, BadRecord, NoCheckpoint, CheckpointsFull, TooManyClients, DeltaFailed, NoMemory, BadCheckpoint, TooLarge, Worn}
 use Rattle.fluid_deltas.specs.Ranges.{IsNoted}
+use Rattle.fluid_fold.specs.Kept.{records}
 use Rattle.fluid_lane.specs.Standing.{IsFor}
 use Rattle.fluid_lane.specs.Refusals.{IsCausedBy}
-use Rattle.fluid_lane.specs.Starting.{run, leaves, takes, LeavesFirst, FailsFirst, LeaveDoes, LeavesAll, HasLeft, HasTorn}
+use Rattle.fluid_lane.specs.Starting.{run, leaves, takes, with_records, LeavesFirst, FailsFirst, LeaveDoes, LeavesAll, HasLeft, HasTorn}
 use Rattle.fluid_lane.proofs.Ids.{length-keys}
+use Rattle.fluid_lane.proofs.Recorded.{length-records, records-push, with_none, with_more, with_behind}
 use Rattle.fluid_lane.proofs.Removing.{keys-left}
 use Rattle.fluid_lane.proofs.Stands.{enters_for}
 
@@ -31,9 +33,7 @@ has_left_nobody moment k f = record {
   few = λ le. le;
   count = omega arith;
   before_stays = refl;
-  records = omega arith;
-  deltas = refl;
-  checkpoints = refl;
+  kept = with_none k;
   later = omega arith;
   reads = refl;
   told = refl;
@@ -89,9 +89,7 @@ has_left_more moment old mid new before here now has later reads one =
       few = λ _. omega (arith, one.few, ap (λ f. f.entered) one.enters.folding, numbers.0);
       count = omega (arith, has.count, longer, one_less moment mid new here now one);
       before_stays = ap (λ f. f.before) one.enters.folding ∙ numbers.1 ∙ has.before_stays;
-      records = omega (arith, has.records, longer, one.enters.kept.records);
-      deltas = one.enters.kept.deltas ∙ has.deltas;
-      checkpoints = one.enters.kept.checkpoints ∙ has.checkpoints;
+      kept = subst (λ more. KeepsSame (with_records more old) new) (sym (records-push has.done (raw, one.verdict))) (with_more (records has.done) (raw_printed raw) old mid new has.kept one.enters.kept);
       later = omega (arith, has.later, later);
       reads = reads ∙ has.reads;
       told = ap is_some one.enters.kept.content ∙ told_map (add_record (raw_printed raw)) mid.content ∙ has.told;
@@ -103,6 +101,10 @@ has_left_more moment old mid new before here now has later reads one =
           (has.stands l is));
     }
 
+-- how many records there are then
+pub logged : (moment : ℕ) (old new : Keeping) (before now : Folding) (has : HasLeft moment old new before now) → new.records ≡ old.records + length has.done
+logged moment old new before now has = has.kept.records ∙ ap (λ n. old.records + n) (length-records has.done)
+
 -- a call that left everything as it was
 pub has_left_same : (moment : ℕ) (old mid new : Keeping) (before here now : Folding) → HasLeft moment old mid before here → KeepsSame mid new → mid.faults ≤ new.faults → new.reads ≡ mid.reads → now ≡ here → HasLeft moment old new before now
 has_left_same moment old mid new before here now has same later reads is = record {
@@ -113,9 +115,7 @@ has_left_same moment old mid new before here now has same later reads is = recor
   few = λ le. omega (arith, has.few le, ap (λ f. f.entered) is);
   count = ap (λ f. len f.state.sequencer.rows + length has.done) is ∙ has.count;
   before_stays = ap (λ f. f.before) is ∙ has.before_stays;
-  records = same.records ∙ has.records;
-  deltas = same.deltas ∙ has.deltas;
-  checkpoints = same.checkpoints ∙ has.checkpoints;
+  kept = with_behind (records has.done) old mid new has.kept same;
   later = omega (arith, has.later, later);
   reads = reads ∙ has.reads;
   told = ap is_some same.content ∙ has.told;
@@ -176,7 +176,8 @@ left_by moment old mid new before here now turns (NoCheckpoint asked stored) so_
 left_by moment old mid new before here now turns CheckpointsFull so_far lt later reads does = does
 left_by moment old mid new before here now turns TooManyClients so_far lt later reads does = does
 left_by moment old mid new before here now turns (DeltaFailed note) so_far lt later reads does = does
-left_by moment old mid new before here now turns NoMemory so_far lt later reads does = has_left_same moment old mid new before here now so_far.has does.1 later reads does.0
+left_by moment old mid new before here now turns NoMemory so_far lt later reads does =
+    (has_left_same moment old mid new before here now so_far.has does.1 later reads does.0, omega (arith, some_left moment old mid before here turns so_far lt, ap (λ f. len f.state.sequencer.rows) does.0))
 left_by moment old mid new before here now turns (BadCheckpoint number fault) so_far lt later reads does = does
 left_by moment old mid new before here now turns (TooLarge bytes) so_far lt later reads does = does
 left_by moment old mid new before here now turns Worn so_far lt later reads does =

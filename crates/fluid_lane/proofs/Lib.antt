@@ -8,5 +8,6 @@ pub mod Rests
 pub mod Others
 pub mod Restarting
 pub mod Removing
+pub mod Recorded
 pub mod Leaving
 pub mod Beginning

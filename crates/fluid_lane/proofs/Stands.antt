@@ -8,12 +8,13 @@ use Rattle.fluid_types.specs.Printed.{raw_printed}
 use Rattle.fluid_types.specs.Ledger.{Ledger, order, messages_of}
 use Rattle.fluid_types.proofs.Ledgers.{order-push}
 use Rattle.fluid_rules.specs.Rules.{verdict}
-use Rattle.fluid_log.specs.Keeping.{Content, IsText}
+use Rattle.fluid_log.specs.Keeping.{Content, Keeping, IsText}
 use Rattle.fluid_types.specs.Fits.{Fits}
 use Rattle.fluid_log.specs.Calls.{KeepsSame, add_record, keep_records, with_record, cut_to}
 use Rattle.fluid_deltas.specs.Pushed.{StandFor}
 use Rattle.fluid_deltas.proofs.Standing.{same_stand}
 use Rattle.fluid_deltas.proofs.Telling.{tells_along, tells_becomes}
+use Rattle.fluid_lane.specs.declared.limits.Limits.{Limits}
 use Rattle.fluid_lane.specs.declared.steps.Side.{Side}
 use Rattle.fluid_lane.specs.declared.steps.Side.TheVariants.{Failed}
 use Rattle.fluid_lane.specs.declared.steps.Step.{Step}
@@ -31,6 +32,14 @@ use Rattle.fluid_lane.proofs.Listed.{ledger-append, stored-append, last-entered,
 -- from the value to its fields
 pub same_standing : (s t : Standing) (l : List Step) → s ≡ t → LaneStands t l → LaneStands s l
 same_standing s t l same stands = subst (λ u. LaneStands u l) (sym same) stands
+
+-- the same keeping and the same memory, and the rest as it was
+abbrev standing_of : Keeping → Folding → Limits → ℕ → ℕ → Option Side → Bool → Standing
+standing_of keeping folding limits opened sides last owed = record { keeping = keeping; folding = folding; limits = limits; opened = opened; sides = sides; last = last; owed = owed }
+
+pub same_parts : (k j : Keeping) (f g : Folding) (limits : Limits) (opened sides : ℕ) (last : Option Side) (owed : Bool) → j ≡ k → g ≡ f
+    → standing_of j g limits opened sides last owed ≡ standing_of k f limits opened sides last owed
+same_parts k j f g limits opened sides last owed keeping folding = rw (keeping, folding)
 
 pub nothing_more : (s : Standing) (l : List Step) → LaneStands s l → LaneStands s (l ++ [])
 nothing_more s l stands = subst (LaneStands s) (sym (append-nil l)) stands

@@ -1,5 +1,5 @@
 -- What each call leaves in the keeper, whether it tells its content or not.
-use Rattle.std.specs.Prelude.{◌≡◌, ℕ, ◌<◌, ◌≤◌, true, false, ◌⊎◌, List, length, take, Result, Ok, Err, if◌then◌else◌}
+use Rattle.std.specs.Prelude.{◌≡◌, ℕ, ◌<◌, ◌≤◌, false, ◌⊎◌, List, length, take, Result, Ok, Err, if◌then◌else◌}
 use Rattle.fluid_types.specs.declared.messages.Message.{Message}
 use Rattle.fluid_log.specs.Keeping.{Keeping}
 use Rattle.fluid_log.specs.Calls.{KeepsSame, with_record, cut_to, with_checkpoint}
@@ -7,7 +7,7 @@ use Rattle.fluid_deltas.specs.Flushes.{lacking, with_deltas}
 use Rattle.fluid_fold.specs.declared.fault.LaneFault.{LaneFault}
 use Rattle.fluid_fold.specs.declared.fault.LaneFault.TheVariants.{LogFailed, Full, BadRecord, NoCheckpoint, CheckpointsFull, TooManyClients, DeltaFailed, NoMemory, BadCheckpoint, TooLarge, Worn}
 use Rattle.fluid_fold.specs.Folding.{pushed_of}
-use Rattle.fluid_lane.specs.Standing.{Standing}
+use Rattle.fluid_lane.specs.Standing.{Standing, IsCutFailed}
 use Rattle.fluid_lane.specs.Refusals.{text_of}
 
 -- the keeper behind the cut that is owed, where one is
@@ -21,12 +21,6 @@ missing s = lacking (pushed_of s.folding) s.keeping.deltas
 -- the keeper behind that cut and a flush
 abbrev pub flushed : Standing → Keeping
 flushed s = with_deltas (missing s) (settled s)
-
--- the cut that is owed failed: it still is, and nothing changed
-pub record IsCutFailed (old new : Standing) : Type 0 where
-  pub was_owed : old.owed ≡ true
-  pub is_owed : new.owed ≡ true
-  pub kept : KeepsSame old.keeping new.keeping
 
 -- ---- calls that enter
 

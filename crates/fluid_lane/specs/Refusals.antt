@@ -1,5 +1,5 @@
 -- Why a call of a lane is refused: the rules that refuse it, in their order, and the faults that may come where none does.
-use Rattle.std.specs.Prelude.{slice_get, ◌≡◌, ℕ, ◌<◌, nat_le, Bool, true, false, ◌&&◌, ⊤, ◌⊎◌, List, [], ◌∷◌, length, Option, Some, None, Result, Ok, Err, IfErr}
+use Rattle.std.specs.Prelude.{slice_get, ◌≡◌, ℕ, ◌<◌, nat_le, Bool, true, false, ◌&&◌, ⊤, ◌⊎◌, List, [], ◌∷◌, length, Option, Some, None, IsSome, Result, Ok, Err, IfErr}
 use Rattle.std.specs.FinMap.{len}
 use Rattle.fluid_types.specs.declared.entries.Raw.{Raw}
 use Rattle.fluid_rules.specs.Counted.{is_counted}
@@ -9,7 +9,7 @@ use Rattle.fluid_deltas.specs.Ranges.{IsNoted}
 use Rattle.fluid_fold.specs.Folding.{Folding}
 use Rattle.fluid_fold.specs.declared.fault.LaneFault.{LaneFault}
 use Rattle.fluid_fold.specs.declared.fault.LaneFault.TheVariants.{LogFailed, Full, BadRecord, NoCheckpoint, CheckpointsFull, TooManyClients, DeltaFailed, NoMemory, BadCheckpoint, TooLarge, Worn}
-use Rattle.fluid_lane.specs.Standing.{Standing, is_worn}
+use Rattle.fluid_lane.specs.Standing.{Standing, IsCutFailed, is_worn}
 
 -- ---- faults that may come where no rule refuses
 
@@ -113,19 +113,22 @@ first_refusal [] = None
 first_refusal ((true, fault) ∷ rules) = Some fault
 first_refusal ((false, fault) ∷ rules) = first_refusal rules
 
--- the answer is the refusal, behind a cut where one was owed; a cut that failed comes before it
-abbrev pub IsRefused : {A : Type 0} → Bool → LaneFault → Result A LaneFault → Type 0
-IsRefused owed refusal (Ok a) = ⊥
-IsRefused owed refusal (Err fault) = (fault ≡ refusal) ⊎ ((owed ≡ true) × IsLogFailed fault)
+-- the answer is the refusal, behind the cut where one was owed, or tells that this cut failed
+abbrev pub IsRefused : {A : Type 0} → (old new : Standing) → LaneFault → Result A LaneFault → Type 0
+IsRefused old new refusal (Ok a) = ⊥
+IsRefused old new refusal (Err fault) = (fault ≡ refusal) ⊎ (IsLogFailed fault × IsCutFailed old new)
 
-abbrev pub IsGatedBy : {A : Type 0} → Bool → (LaneFault → Type 0) → Option LaneFault → Result A LaneFault → Type 0
-IsGatedBy owed may None result = IfErr result may
-IsGatedBy owed may (Some refusal) result = IsRefused owed refusal result
+abbrev pub IsGatedBy : {A : Type 0} → (old new : Standing) → (LaneFault → Type 0) → Option LaneFault → Result A LaneFault → Type 0
+IsGatedBy old new may None result = IfErr result may
+IsGatedBy old new may (Some refusal) result = IsRefused old new refusal result
 
 -- the answer, by the lane as it was: worn is looked at first, then the rules in their order. Where none refuses, the faults that may come are these
-pub record IsGated {A : Type 0} (s : Standing) (rules : List (Bool × LaneFault)) (may : LaneFault → Type 0) (result : Result A LaneFault) : Type 0 where
-  pub worn : is_worn s ≡ true → result ≡ Err Worn
-  pub gate : is_worn s ≡ false → IsGatedBy s.owed may (first_refusal rules) result
+pub record IsGated {A : Type 0} (old new : Standing) (rules : List (Bool × LaneFault)) (may : LaneFault → Type 0) (result : Result A LaneFault) : Type 0 where
+  pub worn : is_worn old ≡ true → result ≡ Err Worn
+  pub gate : is_worn old ≡ false → IsGatedBy old new may (first_refusal rules) result
+  -- a call that a rule refuses asks the keeper for nothing but the cut that is owed
+  pub unasked : IsSome (first_refusal rules) → old.owed ≡ false → new ≡ old
+  pub unread : IsSome (first_refusal rules) → new.keeping.reads ≡ old.keeping.reads
 
 -- ---- rules that refuse a call
 

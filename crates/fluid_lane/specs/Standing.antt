@@ -1,5 +1,6 @@
 -- A lane, and the list of steps for which it stands.
-use Rattle.std.specs.Prelude.{◌≡◌, ℕ, ◌+◌, ◌<◌, ◌≤◌, nat_le, Bool, false, ⊤, List, length, Option, is_some, IsSome}
+use Rattle.std.specs.Prelude.{◌≡◌, ℕ, ◌+◌, ◌<◌, ◌≤◌, nat_le, Bool, true, false, ⊤, List, length, Option, is_some, IsSome}
+use Rattle.std.specs.Option.{option_or}
 use Rattle.std.specs.FinMap.{get}
 use Rattle.fluid_io.specs.Causes.{Tells}
 use Rattle.fluid_types.specs.Names.{entry_name}
@@ -10,6 +11,7 @@ use Rattle.fluid_types.specs.declared.verdicts.Verdict.{Verdict}
 use Rattle.fluid_clients.specs.Table.{Rows}
 use Rattle.fluid_rules.specs.Counted.{counted}
 use Rattle.fluid_log.specs.Keeping.{Content, Keeping}
+use Rattle.fluid_log.specs.Calls.{KeepsSame}
 use Rattle.fluid_log.specs.declared.keeper.TheConstants.{LONGEST_KEPT}
 use Rattle.fluid_deltas.specs.Pushed.{StandFor}
 use Rattle.fluid_core.specs.Entering.{verdict_in, state_of}
@@ -18,7 +20,7 @@ use Rattle.fluid_fold.specs.Kept.{IsKept}
 use Rattle.fluid_lane.specs.declared.limits.Limits.{Limits}
 use Rattle.fluid_lane.specs.declared.steps.Side.{Side}
 use Rattle.fluid_lane.specs.declared.steps.Step.{Step}
-use Rattle.fluid_lane.specs.Steps.{ledger, last_side, stored, AreNoted}
+use Rattle.fluid_lane.specs.Steps.{ledger, last_side, stored, asides, AreNoted}
 
 pub record Standing : Type 0 where
   pub keeping : Keeping
@@ -95,3 +97,14 @@ is_worn s = nat_le most (s.folding.entered + s.sides)
 pub record Enters (old new : Standing) (raw : Raw) (verdict : Verdict) : Type 0 where
   pub said : verdict ≡ verdict_in old.folding.state raw
   pub folding : new.folding ≡ taken_up old.folding raw
+
+-- the side steps among those that a call adds are counted, and the last of them is kept
+pub record IsCounted (old new : Standing) (added : List Step) : Type 0 where
+  pub sides : new.sides ≡ old.sides + asides added
+  pub last : new.last ≡ option_or (last_side added) old.last
+
+-- the cut that is owed failed: it still is, and nothing changed
+pub record IsCutFailed (old new : Standing) : Type 0 where
+  pub was_owed : old.owed ≡ true
+  pub is_owed : new.owed ≡ true
+  pub kept : KeepsSame old.keeping new.keeping

@@ -1,5 +1,6 @@
 -- How a lane begins: behind what is kept comes a leave of each client that is joined.
 use Rattle.std.specs.Prelude.{◌≡◌, ℕ, ◌+◌, ◌<◌, ◌≤◌, ⊤, ◌⊎◌, false, List, [], ◌∷◌, ◌++◌, length, map, Option, None, is_some, Result, Ok, Err}
+use Rattle.std.specs.Option.{option_map}
 use Rattle.std.specs.FinMap.{keys, len}
 use Rattle.fluid_io.specs.Causes.{Tells}
 use Rattle.fluid_io.specs.declared.faults.FaultNote.{FaultNote}
@@ -16,12 +17,12 @@ use Rattle.fluid_fold.specs.declared.fault.LaneFault.{LaneFault}
 use Rattle.fluid_fold.specs.declared.fault.LaneFault.TheVariants.{LogFailed, Full, BadRecord, NoCheckpoint, CheckpointsFull, TooManyClients, DeltaFailed, NoMemory, BadCheckpoint, TooLarge, Worn}
 use Rattle.fluid_fold.specs.Folding.{Folding, most, taken_up}
 use Rattle.fluid_fold.specs.Loading.{loaded, newest, ReadsBehind}
-use Rattle.fluid_fold.specs.Kept.{IsKept}
+use Rattle.fluid_fold.specs.Kept.{records, IsKept}
 use Rattle.fluid_fold.specs.Entry.{EntersOne, FailsOne}
 use Rattle.fluid_lane.specs.declared.limits.Limits.{Limits}
 use Rattle.fluid_lane.specs.Steps.{steps}
 use Rattle.fluid_lane.specs.Standing.{Standing, IsFor, LaneStands}
-use Rattle.fluid_lane.specs.Refusals.{IsNotBad}
+use Rattle.fluid_lane.specs.Refusals.{IsNotBad, IsLogFailed}
 
 -- raw entries with the verdicts that they get one after another
 abbrev pub run : State → List Raw → Ledger
@@ -40,6 +41,14 @@ takes f (raw ∷ raws) = takes (taken_up f raw) raws
 -- the ledger with a leave of each client that is joined in it
 abbrev pub opening : ℕ → Ledger → Ledger
 opening moment l = l ++ run (state_of l) (leaves moment (state_of l))
+
+-- these records more, at the end of the log
+abbrev pub add_records : List (List ℕ) → Content → Content
+add_records more c = record c { log = c.log ++ more }
+
+-- the same of a keeper, whether it tells its content or not
+abbrev pub with_records : List (List ℕ) → Keeping → Keeping
+with_records more k = record k { content = option_map (add_records more) k.content; records = k.records + length more }
 
 -- ---- leave by leave, for private clauses
 
@@ -85,9 +94,7 @@ pub record HasLeft (moment : ℕ) (old new : Keeping) (before now : Folding) : T
   pub few : before.entered ≤ most → now.entered ≤ most
   pub count : len now.state.sequencer.rows + length done ≡ len before.state.sequencer.rows
   pub before_stays : now.before ≡ before.before
-  pub records : new.records ≡ old.records + length done
-  pub deltas : new.deltas ≡ old.deltas
-  pub checkpoints : new.checkpoints ≡ old.checkpoints
+  pub kept : KeepsSame (with_records (records done) old) new
   pub later : old.faults ≤ new.faults
   pub reads : new.reads ≡ old.reads
   pub told : is_some new.content ≡ is_some old.content
@@ -115,25 +122,38 @@ LeavesAll moment old new before now (Err (NoCheckpoint asked stored)) = ⊥
 LeavesAll moment old new before now (Err CheckpointsFull) = ⊥
 LeavesAll moment old new before now (Err TooManyClients) = ⊥
 LeavesAll moment old new before now (Err (DeltaFailed note)) = ⊥
-LeavesAll moment old new before now (Err NoMemory) = HasLeft moment old new before now
+LeavesAll moment old new before now (Err NoMemory) = HasLeft moment old new before now × (0 < len now.state.sequencer.rows)
 LeavesAll moment old new before now (Err (BadCheckpoint number fault)) = ⊥
 LeavesAll moment old new before now (Err (TooLarge bytes)) = ⊥
 LeavesAll moment old new before now (Err Worn) = HasLeft moment old new before now × ((most < before.entered + len before.state.sequencer.rows) × (most ≤ now.entered))
 
 -- ---- the start
 
--- what is in memory was read from the newest checkpoint on, and the leaves were taken up behind it
-pub record IsOpened (moment : ℕ) (from : Option ℕ) (new : Folding) (content : Content) : Type 0 where
+-- what was read of a keeper: where it tells its content, all from the newest checkpoint on
+abbrev pub IsRead : Keeping → Folding → Type 0
+IsRead old folding = Tells old.content (λ content. loaded content (newest old.checkpoints) ≡ Ok folding)
+
+-- a leave of each client that is joined in what was read was taken up behind it, and the keeper has their records behind the old ones
+pub record IsOpened (moment : ℕ) (old : Keeping) (new : Standing) : Type 0 where
   pub folding : Folding
-  pub is : loaded content from ≡ Ok folding
-  pub behind : new ≡ takes folding (leaves moment folding.state)
+  pub is : IsRead old folding
+  pub behind : new.folding ≡ takes folding (leaves moment folding.state)
+  pub kept : KeepsSame (with_records (records (run folding.state (leaves moment folding.state))) old) new.keeping
+
+-- records are added at most, and no deltas or checkpoints
+pub record Grows (old new : Keeping) : Type 0 where
+  pub records : old.records ≤ new.records
+  pub deltas : new.deltas ≡ old.deltas
+  pub checkpoints : new.checkpoints ≡ old.checkpoints
+  pub told : is_some new.content ≡ is_some old.content
+  pub later : old.faults ≤ new.faults
 
 -- a lane was started: over a keeper that is kept for a ledger it stands for it with the leaves, and no side step
 pub record Starts (old : Keeping) (limits : Limits) (moment : ℕ) (new : Standing) : Type 0 where
   pub stands : (l : Ledger) → Tells old.content (IsKept false l) → Tells old.content (λ _. LaneStands new (steps (opening moment l)))
   -- over a keeper that is kept, and over one that doesn't tell its content, it stands for some list, without side steps
   pub some : Tells old.content (λ content. (l : Ledger) × IsKept false l content) → (l : Ledger) × LaneStands new (steps l)
-  pub loads : Tells old.content (IsOpened moment (newest old.checkpoints) new.folding)
+  pub loads : IsOpened moment old new
   -- exactly the records behind the newest checkpoint were read
   pub reads : Tells old.content (ReadsBehind (newest old.checkpoints) old.records old.reads new.keeping.reads)
   pub nobody : keys new.folding.state.sequencer.rows ≡ []
@@ -142,8 +162,7 @@ pub record Starts (old : Keeping) (limits : Limits) (moment : ℕ) (new : Standi
   pub sides : new.sides ≡ 0
   pub last : new.last ≡ None
   pub owed : new.owed ≡ false
-  pub told : is_some new.keeping.content ≡ is_some old.content
-  pub later : old.faults ≤ new.keeping.faults
+  pub grows : Grows old new.keeping
 
 -- the keeper that comes back with a fault is kept for the ledger with some of the leaves, that of a failed append among them
 pub record LeftSome (moment : ℕ) (l : Ledger) (content : Content) : Type 0 where
@@ -202,19 +221,22 @@ LeavesBad old new (BadCheckpoint number fault) = KeepsSame old new
 LeavesBad old new (TooLarge bytes) = ⊤
 LeavesBad old new Worn = ⊤
 
--- nothing is taken away from the keeper
-pub record Grows (old new : Keeping) : Type 0 where
-  pub records : old.records ≤ new.records
-  pub deltas : new.deltas ≡ old.deltas
-  pub checkpoints : new.checkpoints ≡ old.checkpoints
-  pub told : is_some new.content ≡ is_some old.content
-  pub later : old.faults ≤ new.faults
+-- the start ended at one of the leaves: the records of those before it stand behind the old ones, and where the log failed its own may too
+pub record StopsAtLeave (moment : ℕ) (old new : Keeping) (fault : LaneFault) : Type 0 where
+  pub folding : Folding
+  pub is : IsRead old folding
+  pub done : Ledger
+  pub next : Raw × Verdict
+  pub rest : Ledger
+  pub splits : run folding.state (leaves moment folding.state) ≡ done ++ next ∷ rest
+  pub kept : KeepsSame (with_records (records done) old) new ⊎ (IsLogFailed fault × KeepsSame (with_records (records (done ++ next ∷ [])) old) new)
 
--- nothing that a kept keeper gives is refused
+-- nothing that a kept keeper gives is refused. A keeper that isn't as it was has records of leaves, and there was one left to enter
 pub record StartsPartly (old new : Keeping) (moment : ℕ) (fault : LaneFault) : Type 0 where
   pub left : (l : Ledger) → Tells old.content (IsKept false l) → Tells new.content (LeftSome moment l)
   pub never : (l : Ledger) → Tells old.content (IsKept false l) → Tells old.content (λ _. IsNotBad fault)
   pub bad : Tells old.content (λ content. StartsBad (newest old.checkpoints) content fault)
   pub kind : IsStartFault new.records fault
   pub same : LeavesBad old new fault
+  pub stops : KeepsSame old new ⊎ StopsAtLeave moment old new fault
   pub grows : Grows old new

@@ -1,5 +1,5 @@
 //! The lane of one document.
-ghost use Rattle.std.specs.Prelude.{◌≡◌, ℕ, ◌+◌, ◌<◌, ◌≤◌, ◌++◌, ◌∷◌, [], nat_le, ◌&&◌, ◌==◌, true, false, length, ◌↔◌, Ok, Err, Some, None, List, IsTrue, IfOk, IfErr, OnOk, OnErr, MatchResult};
+ghost use Rattle.std.specs.Prelude.{◌≡◌, ℕ, ◌+◌, ◌-◌, ◌<◌, ◌≤◌, ◌++◌, ◌∷◌, [], nat_le, ◌&&◌, ◌==◌, true, false, length, ◌↔◌, Ok, Err, Some, None, List, IsTrue, IfOk, IfErr, OnOk, OnErr, MatchResult};
 ghost use Rattle.std.specs.FinMap.{keys};
 ghost use Rattle.fluid_io.specs.Causes.{Tells};
 ghost use Rattle.fluid_types.specs.Fits.{Fits};
@@ -13,16 +13,16 @@ ghost use Rattle.fluid_ticket.specs.State.{minimum};
 ghost use Rattle.fluid_log.specs.Calls.{KeepsSame, with_checkpoint};
 ghost use Rattle.fluid_types.specs.Printed.{raw_printed};
 ghost use Rattle.fluid_deltas.specs.Pushed.{slice};
-ghost use Rattle.fluid_deltas.specs.Ranges.{IsFaultOf, IsBadIn, IsAnswer, IsSlice, AreNumbersOf, range_of};
+ghost use Rattle.fluid_deltas.specs.Ranges.{IsFaultOf, IsBadIn, IsAnswer, IsHeldAnswer, IsSlice, AreHeld, AreNumbersOf, held_between, range_of};
 ghost use Rattle.fluid_deltas.specs.Flushes.{AreAll};
 ghost use Rattle.fluid_lane.specs.declared.steps.Step.{Step as AStep};
 ghost use Rattle.fluid_fold.specs.Folding.{most, pushed_of};
 ghost use Rattle.fluid_lane.specs.Steps.{ledger, steps_of, range_steps, entered_by, joined_by, stored_by, restarted_by, nothing_by};
 ghost use Rattle.fluid_fold.specs.Loading.{loaded, IsLoaded, ReadsBehind};
-ghost use Rattle.fluid_lane.specs.Standing.{LaneStands, IsSafe, Fixed, IsOwn, IsLeaveOrSubmission, is_worn, Enters};
+ghost use Rattle.fluid_lane.specs.Standing.{LaneStands, IsSafe, Fixed, IsCounted, IsCutFailed, IsOwn, IsLeaveOrSubmission, is_worn, Enters};
 ghost use Rattle.fluid_lane.specs.Refusals.{is_full, is_full_for, has_too_many, has_checkpoints, has_no_checkpoint, text_of, HasCheckpoint, IsStoreFault, IsFlushFault, IsReadFault, IsNotBad, IsOutside, IsLogFailed, IsCausedBy, IsGated, OwesBy, SettledBy};
 ghost use Rattle.fluid_lane.specs.Restarts.{Restarts, Reloads};
-ghost use Rattle.fluid_lane.specs.Kept.{settled, missing, IsCutFailed, AddKept, EnterKept, FlushKept, StoreKept, RestartKept};
+ghost use Rattle.fluid_lane.specs.Kept.{settled, missing, AddKept, EnterKept, FlushKept, StoreKept, RestartKept};
 
 use crate::limits::Limits;
 use crate::steps::Side;
@@ -164,8 +164,9 @@ impl<K: Keeper> Lane<K> {
         ensures cause { IfErr result (IsCausedBy self.old.keeping.faults self.new.keeping.faults) }
         ensures kept { EnterKept (raw_printed raw.now) self.old self.new result }
         ensures untouched { is_worn self.old ≡ true → self.new ≡ self.old }
-        ensures gate { IsGated self.old (is_full_for self.old raw.now ∷ []) IsOutside result }
+        ensures gate { IsGated self.old self.new (is_full_for self.old raw.now ∷ []) IsOutside result }
         ensures does { IfOk result (Enters self.old self.new raw.now) }
+        ensures aside { IsCounted self.old self.new (steps_of (entered_by raw.now) result) }
         ensures list { (l : List AStep) → LaneStands self.old l → LaneStands self.new (l ++ steps_of (entered_by raw.now) result) }
     {
         if self.is_worn() {
@@ -198,9 +199,10 @@ impl<K: Keeper> Lane<K> {
         ensures cause { IfErr result (IsCausedBy self.old.keeping.faults self.new.keeping.faults) }
         ensures kept { EnterKept (raw_printed (Raw.Join (entry_name self.old.folding.entered) scopes detail moment)) self.old self.new result }
         ensures untouched { is_worn self.old ≡ true → self.new ≡ self.old }
-        ensures gate { IsGated self.old (is_full self.old ∷ has_too_many self.old ∷ []) IsOutside result }
+        ensures gate { IsGated self.old self.new (is_full self.old ∷ has_too_many self.old ∷ []) IsOutside result }
         ensures raw { IfOk result (λ r. r.0 ≡ Raw.Join (entry_name self.old.folding.entered) scopes detail moment) }
         ensures does { IfOk result (λ r. Enters self.old self.new r.0 (Verdict.Sequenced r.1)) }
+        ensures aside { IsCounted self.old self.new (steps_of joined_by result) }
         ensures list { (l : List AStep) → LaneStands self.old l → LaneStands self.new (l ++ steps_of joined_by result) }
     {
         if self.is_worn() {
@@ -245,8 +247,9 @@ impl<K: Keeper> Lane<K> {
         ensures cause { IfErr result (IsCausedBy self.old.keeping.faults self.new.keeping.faults) }
         ensures kept { EnterKept (raw_printed (Raw.Report summary found moment)) self.old self.new result }
         ensures untouched { is_worn self.old ≡ true → self.new ≡ self.old }
-        ensures gate { IsGated self.old [] IsOutside result }
+        ensures gate { IsGated self.old self.new [] IsOutside result }
         ensures does { IfOk result (Enters self.old self.new (Raw.Report summary found moment)) }
+        ensures aside { IsCounted self.old self.new (steps_of (entered_by (Raw.Report summary found moment)) result) }
         ensures list { (l : List AStep) → LaneStands self.old l → LaneStands self.new (l ++ steps_of (entered_by (Raw.Report summary found moment)) result) }
     {
         if self.is_worn() {
@@ -279,9 +282,12 @@ impl<K: Keeper> Lane<K> {
         ensures cause { is_worn self.old ≡ false → IfErr result (IsFaultOf self.old.keeping.faults self.new.keeping.faults) }
         ensures bad { is_worn self.old ≡ false → IfErr result (IsBadIn from to self.old.folding.before) }
         ensures answer { is_worn self.old ≡ false → Tells self.old.keeping.content (λ content. IsAnswer (λ v. v.items) result (range_of (pushed_of self.old.folding) content from to)) }
+        ensures memory { is_worn self.old ≡ false → AreHeld (pushed_of self.old.folding) from to → IsHeldAnswer (λ v. v.items) (held_between (pushed_of self.old.folding) (from - 1) (to - 1)) result }
+        ensures unasked { AreHeld (pushed_of self.old.folding) from to → self.new ≡ self.old }
         ensures numbers { IfOk result (λ messages. AreNumbersOf from to messages.items) }
         ensures slice { is_worn self.old ≡ false → (l : List AStep) → LaneStands self.old l →
             Tells self.old.keeping.content (λ _. IsSlice (λ v. v.items) (slice (order (ledger l)) from to) result) }
+        ensures aside { IsCounted self.old self.new (range_steps result) }
         ensures list { (l : List AStep) → LaneStands self.old l → LaneStands self.new (l ++ range_steps result) }
     {
         if self.is_worn() {
@@ -308,9 +314,10 @@ impl<K: Keeper> Lane<K> {
         ensures cause { IfErr result (IsCausedBy self.old.keeping.faults self.new.keeping.faults) }
         ensures kept { StoreKept self.old self.new result }
         ensures untouched { is_worn self.old ≡ true → self.new ≡ self.old }
-        ensures gate { IsGated self.old (has_checkpoints self.old ∷ []) (IsStoreFault self.old) result }
+        ensures gate { IsGated self.old self.new (has_checkpoints self.old ∷ []) (IsStoreFault self.old) result }
         ensures number { IfOk result (λ number. (number ≡ self.old.keeping.checkpoints) × (length (text_of self.old.folding) ≤ self.old.limits.bytes)) }
         ensures stored { IfOk result (λ number. Tells self.new.keeping.content (HasCheckpoint number (text_of self.old.folding))) }
+        ensures aside { IsCounted self.old self.new (steps_of stored_by result) }
         ensures list { (l : List AStep) → LaneStands self.old l → LaneStands self.new (l ++ steps_of stored_by result) }
     {
         if self.is_worn() {
@@ -344,11 +351,12 @@ impl<K: Keeper> Lane<K> {
         ensures cause { IfErr result (IsCausedBy self.old.keeping.faults self.new.keeping.faults) }
         ensures kept { RestartKept self.old self.new result }
         ensures untouched { is_worn self.old ≡ true → self.new ≡ self.old }
-        ensures gate { IsGated self.old (has_no_checkpoint self.old number ∷ []) IsReadFault result }
+        ensures gate { IsGated self.old self.new (has_no_checkpoint self.old number ∷ []) IsReadFault result }
         ensures entered { self.new.folding.entered ≡ self.old.folding.entered }
         ensures clients { keys self.new.folding.state.sequencer.rows ≡ keys self.old.folding.state.sequencer.rows }
         ensures loads { Tells self.new.keeping.content (Restarts number self.old self.new result) }
         ensures never { (l : List AStep) → LaneStands self.old l → Tells self.old.keeping.content (λ _. IfErr result IsNotBad) }
+        ensures aside { IsCounted self.old self.new (steps_of (restarted_by number) result) }
         ensures list { (l : List AStep) → LaneStands self.old l → LaneStands self.new (l ++ steps_of (restarted_by number) result) }
     {
         if self.is_worn() {
@@ -419,11 +427,13 @@ impl<K: Keeper> Lane<K> {
         ensures done { OnOk result (self.new.owed ≡ false) }
         ensures sides { OnOk result (self.new.sides ≡ self.old.sides) }
         ensures stored { self.new.keeping.checkpoints ≡ self.old.keeping.checkpoints }
+        ensures unasked { self.old.owed ≡ false → self.new ≡ self.old }
         ensures needed { OnErr result (self.old.owed ≡ true) }
         ensures fails { IfErr result IsLogFailed }
         ensures owed { OnErr result (self.new.owed ≡ true) }
         ensures cause { IfErr result (IsCausedBy self.old.keeping.faults self.new.keeping.faults) }
         ensures kept { MatchResult result (λ _. KeepsSame (settled self.old) self.new.keeping) (λ _. IsCutFailed self.old self.new) }
+        ensures aside { IsCounted self.old self.new (steps_of nothing_by result) }
         ensures list { (l : List AStep) → LaneStands self.old l → LaneStands self.new (l ++ steps_of nothing_by result) }
     {
         if !self.owed {
@@ -457,6 +467,7 @@ impl<K: Keeper> Lane<K> {
         ensures cause { IfErr result (IsCausedBy self.old.keeping.faults self.new.keeping.faults) }
         ensures kept { AddKept (raw_printed raw.now) self.old.keeping self.new.keeping result }
         ensures does { IfOk result (Enters self.old self.new raw.now) }
+        ensures aside { IsCounted self.old self.new (steps_of (entered_by raw.now) result) }
         ensures list { (l : List AStep) → LaneStands self.old l → LaneStands self.new (l ++ steps_of (entered_by raw.now) result) }
     {
         match enter(alloc, &mut self.keeper, &mut self.folded, raw) {
@@ -484,6 +495,7 @@ impl<K: Keeper> Lane<K> {
         ensures fails { IfErr result IsFlushFault }
         ensures cause { IfErr result (IsCausedBy self.old.keeping.faults self.new.keeping.faults) }
         ensures puts { FlushKept (missing self.old) self.old.keeping self.new.keeping result }
+        ensures aside { IsCounted self.old self.new (steps_of nothing_by result) }
         ensures list { (l : List AStep) → LaneStands self.old l → LaneStands self.new (l ++ steps_of nothing_by result) }
         ensures whole { OnOk result ((l : List AStep) → LaneStands self.old l → Tells self.new.keeping.content (AreAll (order (ledger l)))) }
     {
@@ -511,6 +523,7 @@ impl<K: Keeper> Lane<K> {
         ensures kept { MatchResult result (λ _. KeepsSame (with_checkpoint text.now self.old.keeping) self.new.keeping) (λ _. KeepsSame self.old.keeping self.new.keeping) }
         ensures number { IfOk result (λ number. number ≡ self.old.keeping.checkpoints) }
         ensures stored { IfOk result (λ number. Tells self.new.keeping.content (HasCheckpoint number text.now)) }
+        ensures aside { IsCounted self.old self.new (steps_of stored_by result) }
         ensures list { (l : List AStep) → text.now ≡ text_of self.old.folding → Tells self.old.keeping.content (AreAll (order (ledger l))) →
             LaneStands self.old l → LaneStands self.new (l ++ steps_of stored_by result) }
     {
@@ -547,6 +560,7 @@ impl<K: Keeper> Lane<K> {
         ensures reached { IfOk result (λ f. f.folding.before ≤ self.old.keeping.deltas) }
         ensures loaded { Tells self.old.keeping.content (λ content. Reloads number self.old.folding content result) }
         ensures reads { IfOk result (λ _. Tells self.old.keeping.content (ReadsBehind (Some number) self.old.keeping.records self.old.keeping.reads self.new.keeping.reads)) }
+        ensures aside { IsCounted self.old self.new (steps_of nothing_by result) }
         ensures list { (l : List AStep) → LaneStands self.old l → LaneStands self.new (l ++ steps_of nothing_by result) }
     {
         match load(alloc, &mut self.keeper, Some(number)) {

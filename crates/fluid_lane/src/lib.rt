@@ -10,8 +10,7 @@ mod lane;
 mod limits;
 mod start;
 mod steps;
-
-pub use fluid_core::{Core, CoreReady};
+pub use fluid_core::{Core, CoreEntry, CoreReady};
 pub use fluid_fold::LaneFault;
 pub use lane::Lane;
 pub use limits::Limits;

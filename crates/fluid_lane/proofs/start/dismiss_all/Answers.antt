@@ -1,7 +1,10 @@
 use Rattle.std.proofs.Common.{ap, arith}
 use Rattle.std.specs.FinMap.{len}
-use Rattle.fluid_lane.proofs.Leaving.{dismissed_more, all_left, left_by, caused_by}
+use Rattle.fluid_lane.proofs.Leaving.{dismissed_nobody, dismissed_more, all_left, left_by, caused_by}
 use Rattle.fluid_lane.proofs.start.dismiss_all.Goals as goal
+
+pub loop-init : goal.loop-init
+loop-init g c = dismissed_nobody c.args.moment (g.K.Keeper.seen c.args.keeper.now) c.args.folded.now.folding
 
 pub loop-preserved : goal.loop-preserved
 loop-preserved g c = let e = c.in-Ok.ensures in dismissed_more c.args.moment _ _ _ _ _ _ c.loop.counter c.loop.invariant e.later e.reads e.does

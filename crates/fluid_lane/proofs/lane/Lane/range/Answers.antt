@@ -1,7 +1,9 @@
-use Rattle.std.proofs.Common.{refl}
+use Rattle.std.proofs.Common.{refl, sym, subst, ◌∙◌}
 use Rattle.fluid_types.specs.Ledger.{order}
+use Rattle.fluid_deltas.specs.Ranges.{AreHeld}
+use Rattle.fluid_fold.specs.Folding.{pushed_of}
 use Rattle.fluid_lane.specs.Steps.{ledger}
-use Rattle.fluid_lane.proofs.Stands.{same_standing, fails, quiet}
+use Rattle.fluid_lane.proofs.Stands.{same_standing, same_parts, fails, quiet}
 use Rattle.fluid_lane.proofs.Rests.{sliced}
 use Rattle.fluid_lane.proofs.Safe.{safe_same}
 use Rattle.fluid_lane.proofs.lane.Lane.range.Goals as goal
@@ -39,3 +41,23 @@ returns-in-Err-BadDelta-clause-list g c = λ l h. let e = c.in-Err-BadDelta.ensu
 
 pub returns-in-Err-NoMemory-clause-list : goal.returns-in-Err-NoMemory-clause-list
 returns-in-Err-NoMemory-clause-list g c = λ l h. let e = c.in-Err-NoMemory.ensures in quiet _ _ l e.keeps e.later e.same refl refl refl refl (same_standing _ _ l c.self.view_is h)
+
+pub returns-in-Ok-clause-unasked : goal.returns-in-Ok-clause-unasked
+returns-in-Ok-clause-unasked g c = λ held.
+    let e = c.in-Ok.ensures in
+    same_parts _ _ _ _ _ _ _ _ _ (e.untouched (subst (λ s. AreHeld (pushed_of s.folding) c.args.from c.args.to) (sym c.self.view_is) held)) e.same ∙ c.self.view_is
+
+pub returns-in-Err-DeltaFailed-clause-unasked : goal.returns-in-Err-DeltaFailed-clause-unasked
+returns-in-Err-DeltaFailed-clause-unasked g c = λ held.
+    let e = rw c.in-Err-DeltaFailed.field-0-is at c.in-Err-DeltaFailed.ensures in
+    absurd (e.memory (subst (λ s. AreHeld (pushed_of s.folding) c.args.from c.args.to) (sym c.self.view_is) held))
+
+pub returns-in-Err-BadDelta-clause-unasked : goal.returns-in-Err-BadDelta-clause-unasked
+returns-in-Err-BadDelta-clause-unasked g c = λ held.
+    let e = rw c.in-Err-BadDelta.field-0-is at c.in-Err-BadDelta.ensures in
+    absurd (e.memory (subst (λ s. AreHeld (pushed_of s.folding) c.args.from c.args.to) (sym c.self.view_is) held))
+
+pub returns-in-Err-NoMemory-clause-unasked : goal.returns-in-Err-NoMemory-clause-unasked
+returns-in-Err-NoMemory-clause-unasked g c = λ held.
+    let e = c.in-Err-NoMemory.ensures in
+    same_parts _ _ _ _ _ _ _ _ _ (e.untouched (subst (λ s. AreHeld (pushed_of s.folding) c.args.from c.args.to) (sym c.self.view_is) held)) e.same ∙ c.self.view_is

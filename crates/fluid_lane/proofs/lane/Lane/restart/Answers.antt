@@ -41,3 +41,9 @@ returns-in-Err-reload-clause-never g c = λ l h.
     told_too _ c.args.self.now.keeping.content _ (ap (λ s. is_some s.keeping.content) c.self.view_is ∙ c.in-Ok.ensures.fixed.told)
     (restart_never _ l c.args.number c.in-Err-reload.fault (g.K.Keeper.sized c.self.inside.keeper) (ap (λ s. s.owed) c.self.view_is ∙ c.in-Ok.ensures.done) (omega (arith, c.if-number-stored.false, c.checkpoints-stored.ensures)) (same_standing _ _ l c.self.view_is first)
     (subst (λ s. Tells s.keeping.content (λ content. RefusesRestart c.args.number s.folding content c.in-Err-reload.fault)) (sym c.self.view_is) c.in-Err-reload.ensures.loaded))
+
+pub returns-in-Ok-reload-clause-aside : goal.returns-in-Ok-reload-clause-aside
+returns-in-Ok-reload-clause-aside g c = record {
+  sides = omega (arith, ap (λ s. s.sides) c.self-2.view_is, c.in-Ok-reload.ensures.sides, c.in-Ok.ensures.sides);
+  last = refl;
+}

@@ -1,10 +1,11 @@
-use Rattle.std.proofs.Common.{◌≡◌, sym, ap, subst, ◌∙◌, arith, Ok}
+use Rattle.std.proofs.Common.{◌≡◌, sym, ap, subst, ◌∙◌, arith, inl, inr, Ok}
 use Rattle.fluid_io.specs.Causes.{Tells}
 use Rattle.fluid_deltas.proofs.Telling.{tells_each}
 use Rattle.fluid_fold.specs.Loading.{newest, loaded, ReadsBehind, IsBadAs}
 use Rattle.fluid_lane.specs.Starting.{Starts}
 use Rattle.fluid_lane.proofs.Ids.{named_nobody}
-use Rattle.fluid_lane.proofs.Beginning.{opens_by, starts, left_some, left_nobody, never_behind, never_reads, bad_behind, bad_reads, back_read, back_behind}
+use Rattle.fluid_lane.proofs.Leaving.{logged}
+use Rattle.fluid_lane.proofs.Beginning.{opens_by, starts, left_some, left_nobody, never_behind, never_reads, bad_behind, bad_reads, back_read, back_behind, stops_at}
 use Rattle.fluid_lane.proofs.lane.Lane.start.Goals as goal
 
 pub begun-requires : goal.begun-requires
@@ -12,11 +13,12 @@ begun-requires g c =
     let e = c.in-Ok.ensures in
     let d = c.in-Ok-dismiss_all.ensures in
     let has = d.does.0 in
+    let records = logged c.args.moment (g.K.Keeper.seen c.load.new.keeper) (g.K.Keeper.seen c.dismiss_all.new.keeper) c.in-Ok.folded.folding c.dismiss_all.new.folded.folding has in
     record {
       few = omega (arith, has.few d.levelled.few);
-      logged = omega (arith, has.entered, has.records, e.whole, e.same.records);
-      level = λ _. omega (arith, has.entered, has.records, e.whole, e.same.records);
-      reached = omega (arith, has.before_stays, has.deltas, e.reached, e.same.deltas);
+      logged = omega (arith, has.entered, records, e.whole, e.same.records);
+      level = λ _. omega (arith, has.entered, records, e.whole, e.same.records);
+      reached = omega (arith, has.before_stays, has.kept.deltas, e.reached, e.same.deltas);
       small = c.requires.small;
       named = named_nobody _ _ d.does.1;
     }
@@ -48,6 +50,7 @@ returns-in-Err-dismiss_all-clause-err g c =
       bad = bad_behind c.args.moment old _ _ _ _ c.in-Err-dismiss_all.fault opens d.does;
       kind = back.kind;
       same = back.same;
+      stops = inr (stops_at c.args.moment old _ _ _ _ c.in-Err-dismiss_all.fault opens d.does);
       grows = back.grows;
     }
 
@@ -64,5 +67,6 @@ returns-in-Err-clause-err g c =
       bad = bad_reads old.content (newest old.checkpoints) c.in-Err.fault loads;
       kind = back.kind;
       same = back.same;
+      stops = inl e.same;
       grows = back.grows;
     }
