@@ -10,6 +10,9 @@ mod lane;
 mod limits;
 mod start;
 mod steps;
+#[cfg(test)]
+mod tests;
+
 pub use fluid_core::{Core, CoreEntry, CoreReady};
 pub use fluid_fold::LaneFault;
 pub use lane::Lane;
