@@ -7,7 +7,7 @@ use fluid_checkpoint::CheckpointFault;
 use fluid_codec::read_raw;
 use fluid_fits::read_entries_fit;
 use fluid_log::{Keeper, LONGEST_KEPT, MemoryKeeper};
-use fluid_types::{Raw, Verdict};
+use fluid_types::{Message, Raw, Verdict};
 use std::alloc::Global;
 use std::test::Fail;
 
@@ -289,5 +289,40 @@ fn behind_an_append_that_failed_nothing_is_entered(rt: HostRuntime) -> Result<()
         let told = entered(alloc, &mut keeper, &mut folded, OP)?;
         assert_eq!(rt; told.as_str(), "sequenced 2");
     }
+    Ok(())
+}
+
+// The numbers of messages.
+fn numbered(alloc: Global, messages: &[Message]) -> Result<String, Fail> {
+    let mut told = String::new(alloc);
+    for message in messages {
+        let number = message.number;
+        told.push_str(format!(in alloc; "{number};")?.as_str())?;
+    }
+    Ok(told)
+}
+
+#[test]
+fn what_was_read_is_given_and_put(rt: HostRuntime) -> Result<(), Fail> {
+    let alloc = rt.alloc();
+    let mut keeper = keeper_of(alloc, &[], &[])?;
+    add_records(alloc, &mut keeper, &[JOIN, OP])?;
+    let mut folded = match load(alloc, &mut keeper, None) {
+        Ok(folded) => folded,
+        Err(_) => return Err(Fail::new("not read")),
+    };
+    assert!(rt; folded.seq() == 2);
+    let job = folded.job(alloc)?;
+    assert!(rt; job.is_none());
+    let told = match folded.range(alloc, 1, 3, &mut keeper) {
+        Ok(messages) => numbered(alloc, messages.as_slice())?,
+        Err(_) => return Err(Fail::new("no range")),
+    };
+    assert_eq!(rt; told.as_str(), "1;2;");
+    assert_eq!(rt; keeper.deltas(), 0);
+    if folded.flush(alloc, &mut keeper).is_err() {
+        return Err(Fail::new("not put"));
+    }
+    assert_eq!(rt; keeper.deltas(), 2);
     Ok(())
 }
