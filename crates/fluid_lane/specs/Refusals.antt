@@ -126,7 +126,7 @@ IsGatedBy old new may (Some refusal) result = IsRefused old new refusal result
 pub record IsGated {A : Type 0} (old new : Standing) (rules : List (Bool × LaneFault)) (may : LaneFault → Type 0) (result : Result A LaneFault) : Type 0 where
   pub worn : is_worn old ≡ true → result ≡ Err Worn
   pub gate : is_worn old ≡ false → IsGatedBy old new may (first_refusal rules) result
-  -- a call that a rule refuses asks the keeper for nothing but the cut that is owed
+  -- where no cut is owed, a call that a rule refuses doesn't ask the keeper
   pub unasked : IsSome (first_refusal rules) → old.owed ≡ false → new ≡ old
   pub unread : IsSome (first_refusal rules) → new.keeping.reads ≡ old.keeping.reads
 
