@@ -44,7 +44,12 @@ fn fault_told(alloc: Global, fault: &BlobFault) -> Result<Text, NoMemory> {
 fn shown(alloc: Global, counter: &SharedCounter) -> Result<String, NoMemory> {
     let blob = counter.to_blob(alloc)?;
     let blob = text_of(alloc, blob.as_slice())?;
-    let told = format!(in alloc; "{} {} {}", counter.pending(), counter.value(), blob.as_str())?;
+    let told = format!(in alloc;
+        "{} {} {}",
+        counter.pending(),
+        counter.value(),
+        blob.as_str()
+    )?;
     Ok(told)
 }
 

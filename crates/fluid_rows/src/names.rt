@@ -10,7 +10,12 @@ pub(crate) fn told(alloc: Global, text: &str) -> Result<Text, NoMemory> {
     let client = client(alloc, text)?;
     let document = document(alloc, text)?;
     let address = address(alloc, text)?;
-    let told = format!(in alloc; "{} {} {}", client.as_str(), document.as_str(), address.as_str())?;
+    let told = format!(in alloc;
+        "{} {} {}",
+        client.as_str(),
+        document.as_str(),
+        address.as_str()
+    )?;
     Ok(Text::new(told))
 }
 

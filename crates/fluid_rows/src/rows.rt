@@ -1,8 +1,8 @@
 // Which word asks for what.
 use crate::words::{bytes_of, split};
 use crate::{
-    checkpoints, clients, clocks, counters, events, keepers, maps, names, records, replies, shelves,
-    streams, tables, trees, values,
+    checkpoints, clients, clocks, counters, events, keepers, maps, names, records, replies,
+    shelves, streams, tables, trees, values,
 };
 use fluid_json::{NoMemory, Text};
 use std::alloc::Global;

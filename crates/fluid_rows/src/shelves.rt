@@ -6,12 +6,12 @@ use std::alloc::Global;
 
 // What is told of one course of calls.
 pub(crate) fn told(alloc: Global, course: &str) -> Result<Text, NoMemory> {
-    let name = document_of(alloc)?;
-    match course {
-        "back" => back(alloc, &name),
-        "failed-outside" => failed_outside(alloc, name),
-        _ => failing(alloc, name),
-    }
+    let told = match course {
+        "back" => back(alloc),
+        "failed-outside" => failed_outside(alloc),
+        _ => failing(alloc),
+    };
+    told.map_err(|_fault| NoMemory)
 }
 
 fn document_of(alloc: Global) -> Result<DocName, NoMemory> {
@@ -38,15 +38,14 @@ fn place_told(alloc: Global, shelves: &MemoryShelves, name: &DocName) -> Result<
 }
 
 // A fresh keeper goes out, gets a record and comes back.
-fn back(alloc: Global, name: &DocName) -> Result<Text, NoMemory> {
+fn back(alloc: Global) -> Result<Text, KeeperFault> {
     let mut shelves = MemoryShelves::new(alloc, Vec::new(alloc));
-    let Ok(mut keeper) = shelves.keeper(alloc, name) else {
-        return Text::copied(alloc, "no keeper");
-    };
-    let out = place_told(alloc, &shelves, name)?;
+    let name = document_of(alloc)?;
+    let mut keeper = shelves.keeper(alloc, &name)?;
+    let out = place_told(alloc, &shelves, &name)?;
     let added = letter(keeper.append(alloc, b"a"));
-    shelves.put_back(name, keeper);
-    let back = place_told(alloc, &shelves, name)?;
+    shelves.put_back(&name, keeper);
+    let back = place_told(alloc, &shelves, &name)?;
     let told = format!(in alloc;
         "{}, {added}, {}, {} failed",
         out.as_str(),
@@ -56,39 +55,44 @@ fn back(alloc: Global, name: &DocName) -> Result<Text, NoMemory> {
     Ok(Text::new(told))
 }
 
+fn keeper_of(alloc: Global, failing: &[u64]) -> Result<MemoryKeeper, NoMemory> {
+    let failing = Vec::from_slice(alloc, failing)?;
+    Ok(MemoryKeeper::new(alloc, failing, Vec::new(alloc)))
+}
+
 // A keeper that fails twice while it is out.
-fn failed_outside(alloc: Global, name: DocName) -> Result<Text, NoMemory> {
-    let failing = Vec::from_slice(alloc, &[1, 2])?;
-    let keeper = MemoryKeeper::new(alloc, failing, Vec::new(alloc));
+fn failed_outside(alloc: Global) -> Result<Text, KeeperFault> {
     let mut shelves = MemoryShelves::new(alloc, Vec::new(alloc));
-    let copy = name.copy(alloc)?;
-    shelves.add(copy, keeper)?;
-    let Ok(mut keeper) = shelves.keeper(alloc, &name) else {
-        return Text::copied(alloc, "no keeper");
-    };
+    let name = document_of(alloc)?;
+    shelves.add(name, keeper_of(alloc, &[1, 2])?)?;
+    let name = document_of(alloc)?;
+    let mut keeper = shelves.keeper(alloc, &name)?;
     let first = letter(keeper.append(alloc, b"a"));
     let second = letter(keeper.append(alloc, b"a"));
     shelves.put_back(&name, keeper);
-    Ok(Text::new(format!(in alloc; "{first}{second}, {} failed", shelves.faults())?))
+    let told = format!(in alloc; "{first}{second}, {} failed", shelves.faults())?;
+    Ok(Text::new(told))
 }
 
 // Shelves whose first call fails, and which then give the keeper that they had.
-fn failing(alloc: Global, name: DocName) -> Result<Text, NoMemory> {
+fn failing(alloc: Global) -> Result<Text, KeeperFault> {
     let failing = Vec::from_slice(alloc, &[1])?;
     let mut shelves = MemoryShelves::new(alloc, failing);
-    let mut keeper = MemoryKeeper::new(alloc, Vec::new(alloc), Vec::new(alloc));
-    let added = letter(keeper.append(alloc, b"a"));
-    let copy = name.copy(alloc)?;
-    shelves.add(copy, keeper)?;
-    let first = letter(shelves.keeper(alloc, &name).map(|_keeper| ()));
-    let still = place_told(alloc, &shelves, &name)?;
-    let second = match shelves.keeper(alloc, &name) {
-        Ok(keeper) => keeper.len(),
-        Err(_) => 0,
+    let name = document_of(alloc)?;
+    let mut keeper = keeper_of(alloc, &[])?;
+    keeper.append(alloc, b"a")?;
+    shelves.add(name, keeper)?;
+    let name = document_of(alloc)?;
+    let first = match shelves.keeper(alloc, &name) {
+        Ok(_) => return Ok(Text::copied(alloc, "the first call has not failed")?),
+        Err(fault) => letter(Err(fault)),
     };
+    let still = place_told(alloc, &shelves, &name)?;
+    let keeper = shelves.keeper(alloc, &name)?;
     let told = format!(in alloc;
-        "{added}, {first}, {}, then {second}, {} failed",
+        "{first}, {}, then {}, {} failed",
         still.as_str(),
+        keeper.len(),
         shelves.faults()
     )?;
     Ok(Text::new(told))

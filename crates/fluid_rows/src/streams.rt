@@ -1,6 +1,8 @@
 // Where bytes come from and where they go.
 use crate::words::{number_of, split, text_of};
-use fluid_io::{Failed, Line, Lines, MemorySink, MemorySource, Sink, Source, StdSink, StdSource, write_all};
+use fluid_io::{
+    Failed, Line, Lines, MemorySink, MemorySource, Sink, Source, StdSink, StdSource, write_all,
+};
 use fluid_json::{NoMemory, Text};
 use std::alloc::Global;
 use std::io;
@@ -43,7 +45,12 @@ pub(crate) fn lines(alloc: Global, bytes: &[u8]) -> Result<Text, NoMemory> {
     }
 }
 
-fn lines_in_pieces(alloc: Global, bytes: &[u8], most: usize, call: u64) -> Result<String, NoMemory> {
+fn lines_in_pieces(
+    alloc: Global,
+    bytes: &[u8],
+    most: usize,
+    call: u64,
+) -> Result<String, NoMemory> {
     let bytes = Vec::from_slice(alloc, bytes)?;
     let failing = Vec::from_slice(alloc, &[call])?;
     let mut source = MemorySource::in_pieces(bytes, most.max(1), failing);

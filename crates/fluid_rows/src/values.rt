@@ -85,7 +85,10 @@ fn items(alloc: Global) -> Result<Items, NoMemory> {
 
 // What is taken out of it: the list, a member that isn't there, and the text.
 fn parts(alloc: Global, value: Json) -> Result<Text, NoMemory> {
-    let text = value.copy(alloc)?.into_member("b").and_then(Json::into_text);
+    let text = value
+        .copy(alloc)?
+        .into_member("b")
+        .and_then(Json::into_text);
     let (list, missing) = value.into_members("a", "c");
     let is_missing = missing.is_none();
     let items = length(list.and_then(Json::into_list));
