@@ -5,8 +5,6 @@
 mod fault;
 pub mod laws;
 mod state;
-#[cfg(test)]
-mod tests;
 
 pub use fault::CheckpointFault;
 pub use state::{State, print, read};

@@ -17,8 +17,6 @@ mod reading;
 mod records;
 mod replies;
 mod rows;
-#[cfg(test)]
-mod tests;
 mod verdicts;
 
 pub use collections::{Messages, Submissions};

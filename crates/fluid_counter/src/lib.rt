@@ -13,6 +13,3 @@ pub mod examples;
 pub mod laws;
 
 pub use counter::{CounterOp, SharedCounter};
-
-#[cfg(test)]
-mod tests;

@@ -13,8 +13,6 @@ mod lines;
 mod plan;
 mod sink;
 mod source;
-#[cfg(test)]
-mod tests;
 
 pub use clock::{Clock, FixedClock, LAST_MOMENT, StdClock};
 pub use faults::{Failed, FaultNote};

@@ -24,6 +24,3 @@ pub use owned::{Bytes, Text};
 pub use printing::{Printer, print};
 pub use reading::{read, read_stored};
 pub use value::Json;
-
-#[cfg(test)]
-mod tests;

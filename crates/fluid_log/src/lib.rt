@@ -12,8 +12,6 @@ mod memory_shelves;
 mod place;
 mod shelves;
 mod table;
-#[cfg(test)]
-mod tests;
 
 pub use fault::KeeperFault;
 pub use keeper::{Keeper, LONGEST_KEPT};

@@ -16,6 +16,3 @@ mod shared;
 
 pub use operation::MapOp;
 pub use shared::SharedMap;
-
-#[cfg(test)]
-mod tests;

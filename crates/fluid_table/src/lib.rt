@@ -12,6 +12,3 @@ mod table;
 
 pub use keyed::{Entry, find, is_in_order, put, take_out};
 pub use table::Entries;
-
-#[cfg(test)]
-mod tests;

@@ -25,6 +25,3 @@ pub use node::{Entries, Node, Path};
 pub use object::{Object, ObjectEntries, ObjectEntry};
 pub use reading::read_object;
 pub use writing::{blob_bytes, object_bytes, sort_key, tree_bytes};
-
-#[cfg(test)]
-mod tests;

@@ -22,6 +22,3 @@ pub use names::{Address, ClientId, DocName, NameFault};
 pub use quorum::{Accepted, Member, Proposal, QuorumBlob};
 pub use verdicts::Verdict;
 pub use words::{RawKind, Word, of_word};
-
-#[cfg(test)]
-mod tests;
