@@ -23,6 +23,16 @@ const LEAVE: &str = r#"{"clientId":"c1","moment":8,"raw":"leave"}"#;
 
 const MISSPELT: &str = r#"{"clientId":"c1","moment":8,"raw":"laeve"}"#;
 
+// Why a checkpoint is refused.
+#[derive(Clone, Copy, Debug, PartialEq)]
+enum Why {
+    Text,
+    Entered,
+    Version,
+    AnotherVersion(u64),
+    Other,
+}
+
 #[derive(Clone, Copy, Debug, PartialEq)]
 enum Told {
     // How many entries there are and how many of them count, the last number and its minimum, and how many are joined.
@@ -31,22 +41,19 @@ enum Told {
     Failed(u64, u64),
     BadRecord(u64),
     // The number of the checkpoint, and why.
-    BadCheckpoint(u64, &'static str),
+    BadCheckpoint(u64, Why),
     Sequenced(u64),
     NotSequenced,
     AnotherFault,
 }
 
-fn reason(fault: &CheckpointFault) -> &'static str {
+fn reason(fault: &CheckpointFault) -> Why {
     match fault {
-        CheckpointFault::BadText => "text",
-        CheckpointFault::BadField(name) => match name.as_str() {
-            "entered" => "entered",
-            "version" => "version",
-            _ => "another field",
-        },
-        CheckpointFault::Version(9) => "9",
-        _ => "another reason",
+        CheckpointFault::BadText => Why::Text,
+        CheckpointFault::BadField(name) if name.as_str() == "entered" => Why::Entered,
+        CheckpointFault::BadField(name) if name.as_str() == "version" => Why::Version,
+        CheckpointFault::Version(number) => Why::AnotherVersion(*number),
+        _ => Why::Other,
     }
 }
 
@@ -150,13 +157,13 @@ fn what_is_damaged_is_told(rt: HostRuntime) {
     assert_read(&rt, alloc, 0, &["x", JOIN, "{"], "", Told::BadRecord(0));
     assert_read(&rt, alloc, 0, &[JOIN, MISSPELT, "{"], "", record);
     assert_read(&rt, alloc, 0, &[JOIN, "{"], TWO, record);
-    let entered = Told::BadCheckpoint(0, "entered");
+    let entered = Told::BadCheckpoint(0, Why::Entered);
     assert_read(&rt, alloc, 0, &[JOIN, OP], THREE, entered);
-    let version = Told::BadCheckpoint(0, "version");
+    let version = Told::BadCheckpoint(0, Why::Version);
     assert_read(&rt, alloc, 0, &["{"], "{}", version);
-    let nine = Told::BadCheckpoint(0, "9");
+    let nine = Told::BadCheckpoint(0, Why::AnotherVersion(9));
     assert_read(&rt, alloc, 0, &["{"], r#"{"version":9}"#, nine);
-    let text = Told::BadCheckpoint(0, "text");
+    let text = Told::BadCheckpoint(0, Why::Text);
     assert_read(&rt, alloc, 0, &["{"], "x", text);
 }
 

@@ -24,62 +24,81 @@ const HELLO: &[u8] = b"blob 6\x00hello\n";
 // What `git hash-object` prints for a file of `hello` and a line feed.
 const HELLO_ID: &str = "ce013625030ba8dba906f756967f9e9ca394464a";
 
-// What went wrong, in a word; where it is said of an id, with it.
-fn word(fault: &StoreFault) -> (&'static str, Option<Id>) {
+// What a call answers; where it is said of an id, with it.
+#[derive(Clone, Copy, Debug, PartialEq)]
+enum Told {
+    // The id that is answered, or that of what is read.
+    Done(Id),
+    Whole,
+    NotWhole,
+    // The count of faults rose from 0 to 1.
+    Failed,
+    Clash(Id),
+    Missing(Id),
+    // At this place.
+    Bad(Id, u64),
+    BadName,
+    TooDeep,
+    NoPath,
+    AnotherFault,
+}
+
+fn fault_of(fault: &StoreFault) -> Told {
     match fault {
-        StoreFault::StoreFailed(note) if note.before == 0 && note.after == 1 => ("failed", None),
-        StoreFault::StoreFailed(_) => ("failed otherwise", None),
-        StoreFault::Clash { id, .. } => ("clash", Some(*id)),
-        StoreFault::Missing(id) => ("missing", Some(*id)),
-        StoreFault::BadObject(id, 0) => ("bad", Some(*id)),
-        StoreFault::BadObject(id, 8) => ("bad at 8", Some(*id)),
-        StoreFault::BadObject(id, _) => ("bad elsewhere", Some(*id)),
-        StoreFault::Tree(TreeFault::BadName(_)) => ("bad name", None),
-        StoreFault::Tree(TreeFault::TooDeep) => ("too deep", None),
-        StoreFault::Tree(_) => ("bad tree", None),
-        StoreFault::NoPath(_) => ("no path", None),
-        StoreFault::NoMemory => ("no memory", None),
+        StoreFault::StoreFailed(note) if note.before == 0 && note.after == 1 => Told::Failed,
+        StoreFault::Clash { id, .. } => Told::Clash(*id),
+        StoreFault::Missing(id) => Told::Missing(*id),
+        StoreFault::BadObject(id, place) => Told::Bad(*id, *place),
+        StoreFault::Tree(TreeFault::BadName(_)) => Told::BadName,
+        StoreFault::Tree(TreeFault::TooDeep) => Told::TooDeep,
+        StoreFault::NoPath(_) => Told::NoPath,
+        _ => Told::AnotherFault,
     }
 }
 
-// `ok` with the id, or what went wrong.
-fn stored(alloc: Global, objects: &mut MemoryObjects, bytes: &[u8]) -> (&'static str, Option<Id>) {
+fn stored(alloc: Global, objects: &mut MemoryObjects, bytes: &[u8]) -> Told {
     let answer = store_object(alloc, objects, bytes);
     let told = match &answer {
-        Ok(id) => ("ok", Some(*id)),
-        Err(fault) => word(fault),
+        Ok(id) => Told::Done(*id),
+        Err(fault) => fault_of(fault),
     };
     drop(answer);
     told
 }
 
-fn uploaded(alloc: Global, objects: &mut MemoryObjects, node: &Node) -> (&'static str, Option<Id>) {
+fn uploaded(alloc: Global, objects: &mut MemoryObjects, node: &Node) -> Told {
     let answer = upload(alloc, objects, node, None);
     let told = match &answer {
-        Ok(id) => ("ok", Some(*id)),
-        Err(fault) => word(fault),
+        Ok(id) => Told::Done(*id),
+        Err(fault) => fault_of(fault),
     };
     drop(answer);
     told
 }
 
-// `ok` with the id of what was read, or what went wrong.
-fn fetched(alloc: Global, objects: &mut MemoryObjects, id: &Id) -> (&'static str, Option<Id>) {
+fn read_as(alloc: Global, node: &Node) -> Told {
+    match id_of(alloc, node) {
+        Ok(id) => Told::Done(id),
+        Err(_) => Told::AnotherFault,
+    }
+}
+
+fn fetched(alloc: Global, objects: &mut MemoryObjects, id: &Id) -> Told {
     let answer = fetch(alloc, objects, id);
     let told = match &answer {
-        Ok(node) => ("ok", id_of(alloc, node).ok()),
-        Err(fault) => word(fault),
+        Ok(node) => read_as(alloc, node),
+        Err(fault) => fault_of(fault),
     };
     drop(answer);
     told
 }
 
-fn completed(alloc: Global, objects: &mut MemoryObjects, id: &Id) -> &'static str {
+fn completed(alloc: Global, objects: &mut MemoryObjects, id: &Id) -> Told {
     let answer = complete(alloc, objects, id);
     let told = match &answer {
-        Ok(true) => "true",
-        Ok(false) => "false",
-        Err(fault) => word(fault).0,
+        Ok(true) => Told::Whole,
+        Ok(false) => Told::NotWhole,
+        Err(fault) => fault_of(fault),
     };
     drop(answer);
     told
@@ -87,7 +106,10 @@ fn completed(alloc: Global, objects: &mut MemoryObjects, id: &Id) -> &'static st
 
 // The id of an object that is put.
 fn put(rt: &impl Abort, alloc: Global, objects: &mut MemoryObjects, bytes: &[u8]) -> Id {
-    stored(alloc, objects, bytes).1.expect(rt, "an id")
+    match stored(alloc, objects, bytes) {
+        Told::Done(id) => id,
+        told => panic!(rt; "{told:?}"),
+    }
 }
 
 // Other bytes under an id than those of its object.
@@ -162,10 +184,10 @@ fn assert_told(
     alloc: Global,
     objects: &mut MemoryObjects,
     id: &Id,
-    whole: &str,
-    read: (&'static str, Option<Id>),
+    whole: Told,
+    read: Told,
 ) {
-    assert!(rt; completed(alloc, objects, id) == whole, "{whole}");
+    assert!(rt; completed(alloc, objects, id) == whole, "{whole:?}");
     assert!(rt; fetched(alloc, objects, id) == read, "{read:?}");
 }
 
@@ -179,11 +201,11 @@ fn a_tree_is_put_and_read_back(rt: HostRuntime) {
         alloc,
         &mut objects,
         &sample,
-        "false",
-        ("missing", Some(sample)),
+        Told::NotWhole,
+        Told::Missing(sample),
     );
     let node = node(&rt, alloc, SAMPLE);
-    assert!(rt; uploaded(alloc, &mut objects, &node) == ("ok", Some(sample)));
+    assert!(rt; uploaded(alloc, &mut objects, &node) == Told::Done(sample));
     drop(node);
     // One blob, which two entries name, and two trees.
     assert!(rt; objects.count() == 3);
@@ -192,12 +214,12 @@ fn a_tree_is_put_and_read_back(rt: HostRuntime) {
         alloc,
         &mut objects,
         &sample,
-        "true",
-        ("ok", Some(sample)),
+        Told::Whole,
+        Told::Done(sample),
     );
     let hello = id(&rt, HELLO_ID);
     for _ in 0..2 {
-        assert!(rt; stored(alloc, &mut objects, HELLO) == ("ok", Some(hello)));
+        assert!(rt; stored(alloc, &mut objects, HELLO) == Told::Done(hello));
     }
     assert!(rt; objects.count() == 4);
     drop(objects);
@@ -209,13 +231,13 @@ fn life(rt: &impl Abort, alloc: Global, failing: u64) -> (u8, usize) {
     let mut objects = store(rt, alloc, failing);
     let sample = id(rt, SAMPLE_ID);
     let node = node(rt, alloc, SAMPLE);
-    let fails = if stored(alloc, &mut objects, HELLO).0 == "failed" {
+    let fails = if stored(alloc, &mut objects, HELLO) == Told::Failed {
         1
-    } else if uploaded(alloc, &mut objects, &node).0 == "failed" {
+    } else if uploaded(alloc, &mut objects, &node) == Told::Failed {
         2
-    } else if completed(alloc, &mut objects, &sample) == "failed" {
+    } else if completed(alloc, &mut objects, &sample) == Told::Failed {
         3
-    } else if fetched(alloc, &mut objects, &sample).0 == "failed" {
+    } else if fetched(alloc, &mut objects, &sample) == Told::Failed {
         4
     } else {
         0
@@ -272,7 +294,7 @@ fn assert_clash(rt: &impl Abort, alloc: Global, node: &Node, planted: &str, coun
     let at = id(rt, planted);
     plant(rt, alloc, &mut objects, &at, b"other");
     assert!(rt;
-        uploaded(alloc, &mut objects, node) == ("clash", Some(at)),
+        uploaded(alloc, &mut objects, node) == Told::Clash(at),
         "{planted}"
     );
     assert!(rt; objects.count() == count, "{planted}");
@@ -309,13 +331,13 @@ fn other_bytes_under_an_id_clash(rt: HostRuntime) {
 }
 
 // A tree that is refused leaves the store alone.
-fn assert_refused(rt: &impl Abort, alloc: Global, node: Node, wanted: &str) {
+fn assert_refused(rt: &impl Abort, alloc: Global, node: Node, wanted: Told) {
     let mut objects = store(rt, alloc, 0);
     assert!(rt;
         uploaded(alloc, &mut objects, &node).0 == wanted,
         "{wanted}"
     );
-    assert!(rt; objects.gets() == 0 && objects.count() == 0, "{wanted}");
+    assert!(rt; objects.gets() == 0 && objects.count() == 0, "{wanted:?}");
     drop(objects);
     drop(node);
 }
@@ -324,9 +346,9 @@ fn assert_refused(rt: &impl Abort, alloc: Global, node: Node, wanted: &str) {
 fn a_refused_tree_leaves_the_store_alone(rt: HostRuntime) {
     let alloc = rt.alloc();
     let handle = node(&rt, alloc, r#"{"type":3,"handle":"k/l"}"#);
-    assert_refused(&rt, alloc, handle, "no path");
-    assert_refused(&rt, alloc, nested(&rt, alloc, 32, "t"), "too deep");
-    assert_refused(&rt, alloc, nested(&rt, alloc, 1, "a/b"), "bad name");
+    assert_refused(&rt, alloc, handle, Told::NoPath);
+    assert_refused(&rt, alloc, nested(&rt, alloc, 32, "t"), Told::TooDeep);
+    assert_refused(&rt, alloc, nested(&rt, alloc, 1, "a/b"), Told::BadName);
 }
 
 #[test]
@@ -334,15 +356,16 @@ fn thirty_two_trees_are_read_back(rt: HostRuntime) {
     let alloc = rt.alloc();
     let mut objects = store(&rt, alloc, 0);
     let node = nested(&rt, alloc, 31, "t");
-    let inner = uploaded(alloc, &mut objects, &node).1.expect(&rt, "an id");
+    let inner = id_of(alloc, &node).ok().expect(&rt, "an id");
+    assert!(rt; uploaded(alloc, &mut objects, &node) == Told::Done(inner));
     drop(node);
     assert_told(
         &rt,
         alloc,
         &mut objects,
         &inner,
-        "true",
-        ("ok", Some(inner)),
+        Told::Whole,
+        Told::Done(inner),
     );
     // One tree more round them.
     let outer = put_two(&rt, alloc, &mut objects, (inner, inner), true);
@@ -351,8 +374,8 @@ fn thirty_two_trees_are_read_back(rt: HostRuntime) {
         alloc,
         &mut objects,
         &outer,
-        "false",
-        ("too deep", None),
+        Told::NotWhole,
+        Told::TooDeep,
     );
     drop(objects);
     // 32 trees of which each but the last names the next one twice: each is looked at once.
@@ -362,7 +385,7 @@ fn thirty_two_trees_are_read_back(rt: HostRuntime) {
         id = put_two(&rt, alloc, &mut shared, (id, id), true);
     }
     let before = shared.gets();
-    assert!(rt; shared.count() == 32 && completed(alloc, &mut shared, &id) == "true");
+    assert!(rt; shared.count() == 32 && completed(alloc, &mut shared, &id) == Told::Whole);
     assert!(rt; shared.gets().saturating_sub(before) == 32);
     drop(shared);
 }
@@ -380,8 +403,8 @@ fn what_is_held_otherwise_is_told(rt: HostRuntime) {
         alloc,
         &mut objects,
         &both,
-        "false",
-        ("missing", Some(tree)),
+        Told::NotWhole,
+        Told::Missing(tree),
     );
     assert!(rt; put(&rt, alloc, &mut objects, b"tree 0\x00") == tree);
     assert_told(
@@ -389,20 +412,27 @@ fn what_is_held_otherwise_is_told(rt: HostRuntime) {
         alloc,
         &mut objects,
         &both,
-        "false",
-        ("missing", Some(blob)),
+        Told::NotWhole,
+        Told::Missing(blob),
     );
     // An object of another kind than its entry says; `complete` doesn't look at modes.
     assert!(rt; put(&rt, alloc, &mut objects, b"blob 0\x00") == blob);
-    assert_told(&rt, alloc, &mut objects, &both, "true", ("bad", Some(blob)));
+    assert_told(
+        &rt,
+        alloc,
+        &mut objects,
+        &both,
+        Told::Whole,
+        Told::Bad(blob, 0),
+    );
     let blobs = put_two(&rt, alloc, &mut objects, (tree, tree), false);
     assert_told(
         &rt,
         alloc,
         &mut objects,
         &blobs,
-        "true",
-        ("bad", Some(tree)),
+        Told::Whole,
+        Told::Bad(tree, 0),
     );
     // Bytes outside the grammar.
     plant(&rt, alloc, &mut objects, &blob, b"blob 2\x00x");
@@ -411,8 +441,8 @@ fn what_is_held_otherwise_is_told(rt: HostRuntime) {
         alloc,
         &mut objects,
         &blob,
-        "false",
-        ("bad at 8", Some(blob)),
+        Told::NotWhole,
+        Told::Bad(blob, 8),
     );
     drop(objects);
 }

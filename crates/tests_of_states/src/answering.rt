@@ -40,14 +40,12 @@ const REFUSAL_OF_27: &str =
 const REFUSAL_OF_40: &str =
     r#"{"code":400,"message":"summary tree is not stored","summaryProposal":{"summarySequenceNumber":40}}"#;
 
-#[derive(Clone, Copy)]
 enum Told {
     Dropped,
     Ack(&'static str),
     Refused(SummaryRule),
 }
 
-#[derive(Clone, Copy)]
 enum Step {
     // No message was taken.
     Fresh,
@@ -122,14 +120,14 @@ fn assert_answer(
     scribe: &mut Scribe,
     summary: u64,
     found: bool,
-    told: Told,
+    told: &Told,
 ) {
     let wanted = match told {
         Told::Dropped => Answer::Dropped,
         Told::Ack(handle) => Answer::Ack {
-            handle: id(rt, handle),
+            handle: id(rt, *handle),
         },
-        Told::Refused(rule) => Answer::Refused(rule),
+        Told::Refused(rule) => Answer::Refused(*rule),
     };
     let answer = scribe.answer(alloc, summary, found).expect(rt, "memory");
     assert!(rt; answer == wanted, "{answer:?} to {summary}");
@@ -190,33 +188,35 @@ fn assert_acks(rt: &impl Abort, scribe: &Scribe, count: usize, handle: &str, num
     );
 }
 
-fn make(rt: &impl Abort, alloc: Global, scribe: &mut Scribe, step: Step) {
+fn make(rt: &impl Abort, alloc: Global, scribe: &mut Scribe, step: &Step) {
     match step {
         Step::Fresh => *scribe = Scribe::new(alloc),
-        Step::Begin(contents) => begin(rt, alloc, scribe, contents),
+        Step::Begin(contents) => begin(rt, alloc, scribe, *contents),
         Step::Take(number, kind, reference, contents) => {
-            take(rt, alloc, scribe, number, kind, reference, contents);
+            take(rt, alloc, scribe, *number, *kind, *reference, *contents);
         }
-        Step::Ask(summary, found, told) => assert_answer(rt, alloc, scribe, summary, found, told),
+        Step::Ask(summary, found, told) => {
+            assert_answer(rt, alloc, scribe, *summary, *found, told);
+        }
         Step::NoJob => assert!(rt; job_of(rt, alloc, scribe).is_none()),
         Step::Job(summary, reference, app, needs) => {
-            let job = Some((summary, reference, Id::read(app), needs));
+            let job = Some((*summary, *reference, Id::read(*app), *needs));
             assert!(rt; job_of(rt, alloc, scribe) == job, "the job of {summary}");
         }
         Step::Blob(name, text) => {
             assert!(rt;
-                state_has_blob(rt, alloc, scribe, name, text),
+                state_has_blob(rt, alloc, scribe, *name, *text),
                 "{name}: {text}"
             );
         }
-        Step::Acks(count, handle, number) => assert_acks(rt, scribe, count, handle, number),
-        Step::Number(number) => assert!(rt; scribe.number() == number, "{number} messages"),
+        Step::Acks(count, handle, number) => assert_acks(rt, scribe, *count, *handle, *number),
+        Step::Number(number) => assert!(rt; scribe.number() == *number, "{number} messages"),
     }
 }
 
 fn assert_steps(rt: &impl Abort, alloc: Global, scribe: &mut Scribe, steps: &[Step]) {
     for step in steps {
-        make(rt, alloc, scribe, *step);
+        make(rt, alloc, scribe, step);
     }
 }
 

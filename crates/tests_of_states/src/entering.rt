@@ -41,7 +41,7 @@ fn committed(rt: &impl Abort, alloc: Global, core: &mut Core, raw: &Raw) -> Show
     shown
 }
 
-fn assert_entered(rt: &impl Abort, alloc: Global, core: &mut Core, entry: Entry, wanted: Shown) {
+fn assert_entered(rt: &impl Abort, alloc: Global, core: &mut Core, entry: &Entry, wanted: Shown) {
     let text = record(rt, alloc, entry);
     let raw = read_raw(alloc, text.as_str()).expect(rt, "a record");
     assert!(rt;
@@ -104,7 +104,7 @@ fn a_pending_summarize_is_answered_once(rt: HostRuntime) {
     let mut core = Core::new(alloc);
     assert!(rt; core.seq() == 0 && core.min() == 0 && acknowledged(&rt, &core).is_none());
     for (entry, wanted, waits) in STORY {
-        assert_entered(&rt, alloc, &mut core, *entry, *wanted);
+        assert_entered(&rt, alloc, &mut core, entry, *wanted);
         assert!(rt;
             pending(&rt, alloc, &mut core) == *waits,
             "behind {wanted:?}"

@@ -9,7 +9,6 @@ use std::alloc::Global;
 use std::process::Abort;
 use std::str;
 
-#[derive(Clone, Copy)]
 enum Step {
     // So many messages that say nothing, the last with the minimum one below its number.
     Fresh(u64),
@@ -71,9 +70,9 @@ fn joined(quorum: &Quorum, id: &str) -> Option<u64> {
 }
 
 // Takes a message.
-fn enter(rt: &impl Abort, alloc: Global, quorum: &mut Quorum, step: Step) {
+fn enter(rt: &impl Abort, alloc: Global, quorum: &mut Quorum, step: &Step) {
     match step {
-        Step::Fresh(count) => begin(rt, alloc, quorum, count),
+        Step::Fresh(count) => begin(rt, alloc, quorum, *count),
         Step::Propose(number, minimum, contents) => {
             take(
                 rt,
@@ -86,29 +85,29 @@ fn enter(rt: &impl Abort, alloc: Global, quorum: &mut Quorum, step: Step) {
             );
         }
         Step::Op(number, minimum) => {
-            take(rt, alloc, quorum, (number, minimum), "op", "null", "");
+            take(rt, alloc, quorum, (*number, *minimum), "op", "null", "");
         }
-        Step::Join(number, data) => take(rt, alloc, quorum, (number, 0), "join", "null", data),
-        Step::Leave(number, data) => take(rt, alloc, quorum, (number, 0), "leave", "null", data),
+        Step::Join(number, data) => take(rt, alloc, quorum, (*number, 0), "join", "null", *data),
+        Step::Leave(number, data) => take(rt, alloc, quorum, (*number, 0), "leave", "null", *data),
         _ => {}
     }
 }
 
 // Looks at what is kept.
-fn look(rt: &impl Abort, quorum: &Quorum, step: Step) {
+fn look(rt: &impl Abort, quorum: &Quorum, step: &Step) {
     match step {
-        Step::Pending(count) => assert!(rt; quorum.pending().len() == count, "{count} pending"),
-        Step::Value(key, wanted) => assert!(rt; accepted(quorum, key) == wanted, "{key}"),
-        Step::Member(id, wanted) => assert!(rt; joined(quorum, id) == wanted, "{id}"),
+        Step::Pending(count) => assert!(rt; quorum.pending().len() == *count, "{count} pending"),
+        Step::Value(key, wanted) => assert!(rt; accepted(quorum, *key) == *wanted, "{key}"),
+        Step::Member(id, wanted) => assert!(rt; joined(quorum, *id) == *wanted, "{id}"),
         Step::Members(count) => {
             assert!(rt;
-                quorum.members().as_slice().len() == count,
+                quorum.members().as_slice().len() == *count,
                 "{count} members"
             );
         }
         Step::Last(number, minimum) => {
             assert!(rt;
-                quorum.number() == number && quorum.minimum() == minimum,
+                quorum.number() == *number && quorum.minimum() == *minimum,
                 "{number}"
             );
         }
@@ -118,8 +117,8 @@ fn look(rt: &impl Abort, quorum: &Quorum, step: Step) {
 
 fn assert_steps(rt: &impl Abort, alloc: Global, quorum: &mut Quorum, steps: &[Step]) {
     for step in steps {
-        enter(rt, alloc, quorum, *step);
-        look(rt, quorum, *step);
+        enter(rt, alloc, quorum, step);
+        look(rt, quorum, step);
     }
 }
 

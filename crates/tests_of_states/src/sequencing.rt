@@ -26,7 +26,7 @@ fn what_shows(verdict: &Verdict) -> Shown {
     }
 }
 
-fn raw_of(rt: &impl Abort, alloc: Global, entry: Entry) -> Raw {
+fn raw_of(rt: &impl Abort, alloc: Global, entry: &Entry) -> Raw {
     let text = record(rt, alloc, entry);
     read_raw(alloc, text.as_str()).expect(rt, "a record")
 }
@@ -44,7 +44,7 @@ fn entered(
     sequencer.commit(ready)
 }
 
-fn verdict_of(rt: &impl Abort, alloc: Global, sequencer: &mut Sequencer, entry: Entry) -> Shown {
+fn verdict_of(rt: &impl Abort, alloc: Global, sequencer: &mut Sequencer, entry: &Entry) -> Shown {
     let raw = raw_of(rt, alloc, entry);
     let verdict = entered(rt, alloc, sequencer, &raw, &Answer::Dropped);
     let shown = what_shows(&verdict);
@@ -60,7 +60,7 @@ fn assert_verdicts(
     entries: &[(Entry, Shown)],
 ) {
     for (entry, wanted) in entries {
-        let shown = verdict_of(rt, alloc, sequencer, *entry);
+        let shown = verdict_of(rt, alloc, sequencer, entry);
         assert!(rt; shown == *wanted, "{shown:?} for {wanted:?}");
     }
 }
@@ -123,7 +123,7 @@ fn assert_told(
     rt: &impl Abort,
     alloc: Global,
     sequencer: &mut Sequencer,
-    entry: Entry,
+    entry: &Entry,
     answer: Answer,
     wanted: &str,
 ) {
@@ -188,7 +188,7 @@ fn messages_have_their_texts(rt: HostRuntime) {
             Some(rule) => Answer::Refused(*rule),
             None => Answer::Ack { handle },
         };
-        assert_told(&rt, alloc, &mut sequencer, *entry, answer, wanted);
+        assert_told(&rt, alloc, &mut sequencer, entry, answer, wanted);
     }
     drop(sequencer);
 }

@@ -5,7 +5,6 @@ use std::process::Abort;
 // A summary without a head, of the empty tree as Git names it.
 pub const PROPOSAL: &str = r#"{"handle":"4b825dc642cb6eb9a060e54bf8d69288fbee4904","head":""}"#;
 
-#[derive(Clone, Copy)]
 pub enum Entry {
     // May read and write.
     Join(&'static str),
@@ -20,16 +19,18 @@ pub enum Entry {
 }
 
 // The record of an entry. Each kind has a moment of its own.
-pub fn record(rt: &impl Abort, alloc: Global, entry: Entry) -> String {
+pub fn record(rt: &impl Abort, alloc: Global, entry: &Entry) -> String {
     match entry {
-        Entry::Join(id) => join(rt, alloc, id, r#""doc:read","doc:write""#),
-        Entry::Summarizer(id) => join(rt, alloc, id, r#""doc:write","summary:write""#),
-        Entry::Leave(id) => leave(rt, alloc, id),
-        Entry::Op(id, number, reference) => submit(rt, alloc, id, "op", number, reference, "null"),
+        Entry::Join(id) => join(rt, alloc, *id, r#""doc:read","doc:write""#),
+        Entry::Summarizer(id) => join(rt, alloc, *id, r#""doc:write","summary:write""#),
+        Entry::Leave(id) => leave(rt, alloc, *id),
+        Entry::Op(id, number, reference) => submit(
+            rt, alloc, *id, "op", *number, *reference, "null",
+        ),
         Entry::Summarize(id, number, reference) => {
-            submit(rt, alloc, id, "summarize", number, reference, PROPOSAL)
+            submit(rt, alloc, *id, "summarize", *number, *reference, PROPOSAL)
         }
-        Entry::Report(summary, found) => report(rt, alloc, summary, found),
+        Entry::Report(summary, found) => report(rt, alloc, *summary, *found),
     }
 }
 
