@@ -7,6 +7,3 @@
 mod entering;
 
 pub use entering::{Core, CoreEntry, CoreReady};
-
-#[cfg(test)]
-mod tests;

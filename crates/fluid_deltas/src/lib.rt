@@ -7,8 +7,6 @@ mod deltas;
 mod fault;
 mod kept;
 mod put;
-#[cfg(test)]
-mod tests;
 
 pub use deltas::Deltas;
 pub use fault::DeltaFault;

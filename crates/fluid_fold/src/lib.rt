@@ -12,8 +12,6 @@ mod fault;
 mod folded;
 mod laws;
 mod loading;
-#[cfg(test)]
-mod tests;
 
 pub use entry::enter;
 pub use fault::LaneFault;

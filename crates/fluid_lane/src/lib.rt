@@ -10,8 +10,6 @@ mod lane;
 mod limits;
 mod start;
 mod steps;
-#[cfg(test)]
-mod tests;
 
 pub use fluid_core::{Core, CoreEntry, CoreReady};
 pub use fluid_fold::LaneFault;

@@ -20,6 +20,3 @@ pub use accepting::KeyValue;
 pub use fluid_types::{Accepted, BlobFault, Member, Proposal, QuorumBlob};
 pub use members::Members;
 pub use quorum::Quorum;
-
-#[cfg(test)]
-mod tests;

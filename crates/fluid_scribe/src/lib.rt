@@ -23,6 +23,3 @@ pub use fluid_tree::SummaryRef;
 pub use job::Job;
 pub use ready::{ScribeNote, ScribeReady};
 pub use scribe::Scribe;
-
-#[cfg(test)]
-mod tests;

@@ -24,6 +24,3 @@ pub use listing::StoredObject;
 pub use memory::MemoryObjects;
 pub use objects::Objects;
 pub use uploading::upload;
-
-#[cfg(test)]
-mod tests;

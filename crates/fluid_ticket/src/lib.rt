@@ -21,6 +21,3 @@ mod sequencer;
 pub use outcome::Outcome;
 pub use ready::{Change, Ready};
 pub use sequencer::Sequencer;
-
-#[cfg(test)]
-mod tests;
