@@ -1,8 +1,8 @@
 // Lists of submissions and messages.
 ghost use Rattle.std.specs.Prelude.{◌≡◌, ◌∷◌, [], ◌++◌, IfOk, OnErr};
 
+use crate::{Message, Submission};
 use fluid_json::NoMemory;
-use fluid_types::{Message, Submission};
 use std::marker::Model;
 
 /// Submissions in their order. Contracts see the list.
@@ -25,13 +25,14 @@ impl Model for Submissions {
 }
 
 impl Submissions {
+    /// Takes no memory.
     pub fn new(vec: Vec<Submission>) -> Submissions
         ensures { result ≡ vec.items }
     {
         Submissions { vec }
     }
 
-    /// Puts one at the end.
+    /// Puts one at the end. After `NoMemory` the list is as it was.
     pub fn push(&mut self, submission: Submission) -> Result<(), NoMemory>
         ensures pushed { IfOk result (λ _. self.new ≡ self.old ++ submission ∷ []) }
         ensures same { OnErr result (self.new ≡ self.old) }
@@ -40,6 +41,7 @@ impl Submissions {
         Ok(())
     }
 
+    /// Takes no memory.
     pub fn into_vec(self) -> Vec<Submission>
         ensures { result.items ≡ self }
     {
@@ -74,12 +76,14 @@ impl Model for Messages {
 }
 
 impl Messages {
+    /// Takes no memory.
     pub fn new(vec: Vec<Message>) -> Messages
         ensures { result ≡ vec.items }
     {
         Messages { vec }
     }
 
+    /// Takes no memory.
     pub fn into_vec(self) -> Vec<Message>
         ensures { result.items ≡ self }
     {
