@@ -24,8 +24,8 @@ use Rattle.fluid_rules.specs.Scribe.{answer}
 use Rattle.fluid_clients.specs.declared.table.Row.{Row}
 use Rattle.fluid_clients.specs.Table.{Rows, byte_order, least}
 use Rattle.fluid_clients.proofs.Laws.{byte_order_total, least-reached}
-use Rattle.fluid_fits.specs.Laws.{IsMessageOf}
-use Rattle.fluid_fits.proofs.Messages.{is_message_of, messages_of_are_read_back}
+use Rattle.fluid_readback.specs.Laws.{IsMessageOf}
+use Rattle.fluid_readback.proofs.Messages.{is_message_of, messages_of_are_read_back}
 use Rattle.fluid_deltas.specs.Pushed.{IsKeepable, AreNumbered}
 use Rattle.fluid_ticket.specs.State as ticket
 use Rattle.fluid_ticket.specs.State.{IsSound, change_of, changed, change_row}

@@ -9,7 +9,7 @@ use super::*;
 use fluid_checkpoint::CheckpointFault;
 use fluid_codec::{Event, read_event, read_raw};
 use fluid_deltas::DeltaFault;
-use fluid_fits::{leaves_and_reports_fit, read_entries_fit};
+use fluid_readback::{leaves_and_reports_fit, read_entries_fit};
 use fluid_io::{FaultNote, LAST_MOMENT};
 use fluid_json::{Bytes, Json};
 use fluid_log::{Keeper, LONGEST_KEPT, MemoryKeeper};
