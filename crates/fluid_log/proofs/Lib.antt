@@ -1,6 +1,7 @@
 mod Covering
 mod Finding
 pub mod Lending
+pub mod Recording
 mod Rows
 pub mod Sameness
 mod Values

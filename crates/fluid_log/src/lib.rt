@@ -16,7 +16,7 @@ mod table;
 mod tests;
 
 pub use fault::KeeperFault;
-pub use keeper::{Keeper, LONGEST_KEPT};
+pub use keeper::{Keeper, LONGEST_KEPT, is_sized};
 pub use memory::MemoryKeeper;
 pub use memory_shelves::MemoryShelves;
 pub use place::Place;

@@ -34,10 +34,6 @@ pub last_below : (f : Message → ℕ) (bound : ℕ) (o : Option ℕ) (ms : List
 last_below f bound o [] le h = le
 last_below f bound o (m ∷ ms) le h = last_below f bound (Some (f m)) ms h.0 h.1
 
-pub last_number : (n : ℕ) (ms : List Message) → AreNumberedFrom (suc n) ms → unwrap_or (last_or (Some n) (map (λ m. m.number) ms)) 0 ≡ n + length ms
-last_number n [] order = omega arith
-last_number n (m ∷ ms) order = rw order.0 (last_number (suc n) ms order.1 ∙ omega arith)
-
 -- ---- members
 
 -- a member under its id

@@ -9,6 +9,7 @@ use Rattle.fluid_types.specs.declared.quorum.Member.{Member}
 use Rattle.fluid_types.specs.declared.quorum.Proposal.{Proposal}
 use Rattle.fluid_types.specs.declared.quorum.Accepted.{Accepted}
 use Rattle.fluid_types.specs.Quorum.{Table, standing, members, proposals, pending, is_accepted, values, at_last, quorum_of}
+use Rattle.fluid_types.proofs.Numbers.{last_number}
 use Rattle.fluid_quorum.specs.declared.accepting.KeyValue.{KeyValue}
 use Rattle.fluid_quorum.specs.Order.{AreFirst}
 use Rattle.fluid_quorum.specs.Kept.{members_of, values_of}
@@ -19,7 +20,7 @@ use Rattle.fluid_quorum.specs.Laws as quorum
 use Rattle.fluid_readback.specs.Quorums.{IsReadAsItself, QuorumsAreReadBack}
 use Rattle.fluid_readback.proofs.Each.{Each, each-all, each-latest, of_entries, is_true}
 use Rattle.fluid_readback.proofs.Said.{in_range}
-use Rattle.fluid_readback.proofs.Parts.{IsAmong, among, last_below, last_number, IsMemberAt, members_kept, proposals_kept, IsProposalKept, pending_kept, IsValueAt, accepted_kept, AreFrom, pending_rising}
+use Rattle.fluid_readback.proofs.Parts.{IsAmong, among, last_below, IsMemberAt, members_kept, proposals_kept, IsProposalKept, pending_kept, IsValueAt, accepted_kept, AreFrom, pending_rising}
 
 -- ---- the parts as lists
 
@@ -59,10 +60,6 @@ each_in_range : (ms : List Message) → Each IsReadAsItself ms → Each (λ m. m
 each_in_range [] h = (tt, tt)
 each_in_range (m ∷ ms) h = let rest = each_in_range ms h.1 in let its = in_range m h.0 in ((its.number, rest.0), (its.minimum, rest.1))
 
-first_number : (ms : List Message) → AreFirst ms → at_last (λ m. m.number) ms ≡ length ms
-first_number [] order = refl
-first_number (m ∷ ms) order = rw order.0 (last_number 1 ms order.1 ∙ omega arith)
-
 at_least_one : (n : ℕ) → 1 ≤ n → greatest_minimum n ≡ largest
 at_least_one zero h = absurd (omega (arith, h))
 at_least_one (suc n) h = let none : (suc n == 0) ≡ false = ne_eqb (suc n) 0 (λ e. omega (arith, e)) in rw none refl
@@ -71,7 +68,7 @@ at_least_one (suc n) h = let none : (suc n == 0) ≡ false = ne_eqb (suc n) 0 (�
 least_fits : (ms : List Message) → AreFirst ms → Each IsReadAsItself ms → at_last (λ m. m.minimum) ms ≤ greatest_minimum (at_last (λ m. m.number) ms)
 least_fits [] order back = omega arith
 least_fits (m ∷ ms) order back =
-    let number = first_number (m ∷ ms) order in
+    let number = last_number (m ∷ ms) order in
     let least = last_below (λ m. m.minimum) largest None (m ∷ ms) (omega arith) (each_in_range (m ∷ ms) back).1 in
     subst (λ k. at_last (λ m. m.minimum) (m ∷ ms) ≤ k) (sym (ap greatest_minimum number ∙ at_least_one (length (m ∷ ms)) (omega arith))) least
 
@@ -91,7 +88,7 @@ module _ (ms : List Message) (order : AreFirst ms) (back : Each IsReadAsItself m
   its_values = value_list (entries (values ms))
 
   each_among : Each (IsAmong last) ms
-  each_among = among last 1 ms (omega arith) (omega (arith, first_number ms order)) order back
+  each_among = among last 1 ms (omega arith) (omega (arith, last_number ms order)) order back
 
   each_member : Each (IsMemberAt last) (entries (members ms))
   unfolding members

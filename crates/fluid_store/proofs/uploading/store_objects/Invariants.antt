@@ -1,6 +1,6 @@
 use Rattle.std.proofs.Common.{take}
 use Rattle.fluid_store.specs.Keeping.{Counts, Adds}
-use Rattle.fluid_store.proofs.uploading.keep_all.Given as goal
+use Rattle.fluid_store.proofs.uploading.store_objects.Given as goal
 
 -- the objects so far were added
 abbrev pub invariant-loop-object : goal.invariant-loop-object

@@ -1,7 +1,9 @@
-use Rattle.std.proofs.Common.{arith, subst, ◌∷◌, []}
+use Rattle.std.proofs.Common.{arith, subst, ◌∷◌, [], Ok, rules}
 use Rattle.fluid_store.specs.Keeping.{Adds, StopsBy}
+use Rattle.fluid_store.specs.declared.fault.StoreFault.{StoreFault}
+use Rattle.fluid_store.proofs.Putting.{puts}
 use Rattle.fluid_store.proofs.Stops.{handed_on, one_stops, one_added}
-use Rattle.fluid_store.proofs.uploading.keep_all.Goals as goal
+use Rattle.fluid_store.proofs.uploading.store_objects.Goals as goal
 
 pub returns-in_err-keep-clause-does : goal.returns-in_err-keep-clause-does
 returns-in_err-keep-clause-does g c =
@@ -26,3 +28,14 @@ loop-object-preserved g c =
           one_added c.args.list.now c.loop-object.object-index o (omega arith) c.object-item.is old mid new c.loop-object.invariant.counts c.loop-object.invariant.adds
           (subst (λ b. Adds (record { id = o.id; bytes = b } ∷ []) mid.content new.content) c.as_slice.ensures c.in_ok-keep.ensures.does.stores);
     }
+
+pub returns-in_err-keep-clause-puts : goal.returns-in_err-keep-clause-puts
+returns-in_err-keep-clause-puts g c =
+    puts c.args.list.now (g.O.Objects.seen c.args.objects.now) (g.O.Objects.seen c.keep.new.objects) c.from_residual.result (returns-in_err-keep-clause-does g c)
+
+pub returns-clause-puts : goal.returns-clause-puts
+returns-clause-puts g c =
+    let old = g.O.Objects.seen c.args.objects.now in
+    let new = g.O.Objects.seen c.loop-object.objects in
+    let adds : Adds c.args.list.now old.content new.content = search rules in
+    puts c.args.list.now old new (Ok {E = StoreFault} tt) adds
