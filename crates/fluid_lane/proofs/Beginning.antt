@@ -27,7 +27,7 @@ use Rattle.fluid_types.specs.Printed.{raw_printed}
 use Rattle.fluid_rules.specs.Rules.{verdict}
 use Rattle.fluid_core.proofs.Entered.{verdict-state_of}
 use Rattle.fluid_fold.proofs.Reloading.{loaded-first, loaded-any}
-use Rattle.fluid_lane.specs.declared.limits.Limits.{Limits}
+use Rattle.fluid_rules.specs.declared.limits.Limits.{Limits}
 use Rattle.fluid_lane.specs.Steps.{ledger, last_side, stored, AreNoted, steps}
 use Rattle.fluid_lane.specs.Standing.{Standing, IsFor, IsTold, LaneStands}
 use Rattle.fluid_lane.specs.Refusals.{IsNotBad, IsCausedBy}

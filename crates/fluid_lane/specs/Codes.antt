@@ -8,8 +8,8 @@ use Rattle.fluid_clients.specs.Table.{Rows, row_code}
 use Rattle.fluid_log.specs.Keeping.{Keeping}
 use Rattle.fluid_log.specs.Codes.{keeping_code}
 use Rattle.fluid_fold.specs.Folding.{Folding}
-use Rattle.fluid_lane.specs.declared.limits.Limits.{Limits}
-use Rattle.fluid_lane.specs.contracts.limits.Limits as limits
+use Rattle.fluid_rules.specs.declared.limits.Limits.{Limits}
+use Rattle.fluid_rules.specs.contracts.limits.Limits as limits
 use Rattle.fluid_lane.specs.declared.steps.Side.{Side}
 use Rattle.fluid_lane.specs.contracts.steps.Side as sides
 use Rattle.fluid_lane.specs.Standing.{Standing}

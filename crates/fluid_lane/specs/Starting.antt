@@ -18,7 +18,7 @@ use Rattle.fluid_fold.specs.Folding.{Folding, most, taken_up}
 use Rattle.fluid_fold.specs.Loading.{loaded, newest, ReadsBehind}
 use Rattle.fluid_fold.specs.Kept.{records, IsKept}
 use Rattle.fluid_fold.specs.Entry.{EntersOne, FailsOne}
-use Rattle.fluid_lane.specs.declared.limits.Limits.{Limits}
+use Rattle.fluid_rules.specs.declared.limits.Limits.{Limits}
 use Rattle.fluid_lane.specs.Steps.{steps}
 use Rattle.fluid_lane.specs.Standing.{Standing, IsFor, LaneStands}
 use Rattle.fluid_lane.specs.Refusals.{IsNotBad, IsLogFailed}
