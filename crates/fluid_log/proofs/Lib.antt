@@ -1,7 +1,5 @@
 mod Covering
-mod Finding
 pub mod Lending
 pub mod Recording
-mod Rows
 pub mod Sameness
 mod Values

@@ -1,6 +1,5 @@
 pub mod Calls
 pub mod Codes
-pub mod Entries
 pub mod Keeping
 pub mod Memory
 pub mod Places

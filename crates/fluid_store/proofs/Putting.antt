@@ -64,7 +64,7 @@ put_by : (old new : Option Held) (os : List StoredObject) → Adds os old new �
 put_by None new os adds = tt
 put_by (Some held) new os adds =
     let is = all_put held os adds.kept adds.added in
-    (ap (λ p. p.clash) is, holds_all new (with_all held os) _ adds.content (sym (ap (λ p. p.held) is)))
+    (ap (λ p. p.clash) is, holds_all new (with_all held os) (putting held os) adds.content (sym (ap (λ p. p.held) is)))
 
 clash_by : (old new : Option Held) (os : List StoredObject) (id kept bytes : List ℕ) → Clashes os old new id kept bytes →
     Tells old (λ held. ((putting held os).clash ≡ Some (record { id = id; kept = kept; bytes = bytes })) × Tells new (λ h. h ≡ (putting held os).held))
@@ -77,13 +77,17 @@ clash_by (Some held) new os id kept bytes clash =
     ap (putting held) clash.splits
     ∙ front_put held clash.front (o ∷ clash.behind) clash.adds.kept clash.adds.added
     ∙ ap (in_front clash.front) (stops_at before o clash.behind kept was clash.differ) in
-    (ap (λ p. p.clash) is, holds_all new before _ clash.adds.content (sym (ap (λ p. p.held) is)))
+    (ap (λ p. p.clash) is, holds_all new before (putting held os) clash.adds.content (sym (ap (λ p. p.held) is)))
 
 anything : (told : Option Held) → Tells told (λ held. Unit {0})
 anything None = tt
 anything (Some held) = tt
 
 -- so what was added, by the answer, is what is put
+pub puts_all : {A : Type 0} (os : List StoredObject) (old new : Storing) (done : A) → Adds os old.content new.content →
+    Tells old.content (λ held. IsPutting (putting held os) new.content (Ok done))
+puts_all os old new done adds = put_by old.content new.content os adds
+
 pub puts : {A : Type 0} (os : List StoredObject) (old new : Storing) (r : Result A StoreFault) → Stores os old new r →
     Tells old.content (λ held. IsPutting (putting held os) new.content r)
 puts os old new (Ok done) adds = put_by old.content new.content os adds

@@ -1,4 +1,4 @@
-use crate::Entries;
+use crate::SortedMap;
 use fluid_json::Text;
 use std::alloc::Global;
 use std::process::Abort;
@@ -8,7 +8,7 @@ use std::test::Fail;
 fn insert(
     rt: &impl Abort,
     alloc: Global,
-    entries: &mut Entries<u64>,
+    entries: &mut SortedMap<Text, u64>,
     key: &str,
     value: u64,
 ) -> Result<(), Fail> {
@@ -21,7 +21,7 @@ fn insert(
 }
 
 // The entries have these keys and numbers, in this order.
-fn assert_pairs(rt: &impl Abort, entries: &Entries<u64>, wanted: &[(&str, u64)]) {
+fn assert_pairs(rt: &impl Abort, entries: &SortedMap<Text, u64>, wanted: &[(&str, u64)]) {
     let pairs = entries.as_slice();
     assert_eq!(rt; pairs.len(), wanted.len());
     for ((key, value), (wanted_key, wanted_value)) in pairs.iter().zip(wanted) {
@@ -32,7 +32,7 @@ fn assert_pairs(rt: &impl Abort, entries: &Entries<u64>, wanted: &[(&str, u64)])
 #[test]
 fn keys_stand_in_byte_order_and_each_once(rt: HostRuntime) -> Result<(), Fail> {
     let alloc = rt.alloc();
-    let mut entries = Entries::new(alloc);
+    let mut entries = SortedMap::new(alloc);
     for (key, value) in [("b", 1), ("é", 2), ("", 3), ("B", 5), ("b", 7)] {
         insert(&rt, alloc, &mut entries, key, value)?;
     }
@@ -49,7 +49,7 @@ fn a_value_is_replaced_and_taken_out_where_its_key_is(rt: HostRuntime) -> Result
     let alloc = rt.alloc();
     let mut pairs = Vec::new(alloc);
     pairs.push((Text::copied(alloc, "a")?, 1))?;
-    let mut entries = Entries::of_sorted(pairs);
+    let mut entries = SortedMap::of_sorted(pairs);
     assert_eq!(rt; entries.replace("b", 4), None);
     assert_eq!(rt; entries.replace("a", 2), Some(1));
     assert_pairs(&rt, &entries, &[("a", 2)]);

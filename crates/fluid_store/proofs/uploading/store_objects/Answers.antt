@@ -1,7 +1,6 @@
-use Rattle.std.proofs.Common.{arith, subst, ◌∷◌, [], Ok, rules}
+use Rattle.std.proofs.Common.{arith, subst, ◌∷◌, [], take_all}
 use Rattle.fluid_store.specs.Keeping.{Adds, StopsBy}
-use Rattle.fluid_store.specs.declared.fault.StoreFault.{StoreFault}
-use Rattle.fluid_store.proofs.Putting.{puts}
+use Rattle.fluid_store.proofs.Putting.{puts, puts_all}
 use Rattle.fluid_store.proofs.Stops.{handed_on, one_stops, one_added}
 use Rattle.fluid_store.proofs.uploading.store_objects.Goals as goal
 
@@ -37,5 +36,6 @@ pub returns-clause-puts : goal.returns-clause-puts
 returns-clause-puts g c =
     let old = g.O.Objects.seen c.args.objects.now in
     let new = g.O.Objects.seen c.loop-object.objects in
-    let adds : Adds c.args.list.now old.content new.content = search rules in
-    puts c.args.list.now old new (Ok {E = StoreFault} tt) adds
+    let adds : Adds c.args.list.now old.content new.content =
+    subst (λ l. Adds l old.content new.content) (take_all _ _ c.loop-object-test.false) c.loop-object.invariant.adds in
+    puts_all c.args.list.now old new (tt {0}) adds
