@@ -1,17 +1,11 @@
 -- The table of joined clients: a finite map from their ids to their rows.
 use Rattle.std.specs.Prelude.{ℕ, Option, Some, None, List, map, min}
 use Rattle.std.specs.List.{reduce}
-use Rattle.std.specs.Ordering.{nat_cmp}
-use Rattle.std.specs.Cmp.Lexicographic.{slice_cmp}
-use Rattle.std.specs.declared.cmp.Ordering.{Ordering}
 use Rattle.std.specs.FinMap.{FinMap, from_sorted, values, code}
 use Rattle.std.specs.Coded.{Coded, code_by, coded×, coded_ℕ, coded_list, coded_bool}
 use Rattle.std.specs.Prelude.{Bool, refl}
+pub use Rattle.fluid_table.specs.Table.{byte_order}
 use Rattle.fluid_clients.specs.declared.table.Row.{Row}
-
--- ids stand in the order of their bytes
-abbrev pub byte_order : List ℕ → List ℕ → Ordering
-byte_order = slice_cmp nat_cmp
 
 -- the row of each joined client under its id
 abbrev pub Rows : Type 0

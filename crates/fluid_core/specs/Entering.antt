@@ -1,5 +1,5 @@
 -- Sequencer and scribe together: what they keep of the entries so far, the verdict of the next one, and what it makes of it.
-use Rattle.std.specs.Prelude.{◌≡◌, ℕ, ◌-◌, ◌^◌, ◌<◌, List, [], ◌∷◌, ◌++◌, length, Option, Some, None, refl}
+use Rattle.std.specs.Prelude.{◌≡◌, ℕ, ◌-◌, ◌^◌, ◌<◌, ◌≤◌, List, [], ◌∷◌, ◌++◌, length, Option, Some, None, refl}
 use Rattle.std.specs.Coded.{Coded, code_by, coded×, coded_option}
 use Rattle.fluid_types.specs.declared.entries.Raw.{Raw}
 use Rattle.fluid_types.specs.declared.entries.Raw.TheVariants.{Join, Leave, Submit, Report}
@@ -120,6 +120,10 @@ pub record IsPreparedIn (c : Entering) (ready : Prepared) : Type 0 where
 pub record IsLevel (s : State) : Type 0 where
   pub level : s.sequencer.sequence ≡ length s.messages
   pub first : AreFirst s.messages
+
+-- the number of one of the messages up to this one, the last
+abbrev pub IsUpTo : (last number : ℕ) → Type 0
+IsUpTo last number = (1 ≤ number) × (number ≤ last)
 
 -- ---- for private clauses: what the scribe notes of the message of a verdict, the messages of what it prepared, and whether it
 -- can take them

@@ -1,5 +1,5 @@
 //! Sequencer and scribe together.
-ghost use Rattle.std.specs.Prelude.{◌≡◌, ◌+◌, ◌-◌, ◌^◌, ◌<◌, ◌≤◌, ◌++◌, ◌∷◌, [], IfOk};
+ghost use Rattle.std.specs.Prelude.{◌≡◌, ◌+◌, ◌-◌, ◌^◌, ◌<◌, ◌≤◌, ◌++◌, ◌∷◌, [], IfOk, IfSome};
 ghost use Rattle.fluid_types.specs.Ledger.{Ledger, seq as last_sequence};
 ghost use Rattle.fluid_types.specs.declared.entries.Raw.{Raw as ARaw};
 ghost use Rattle.fluid_rules.specs.Rules.{minimum as minimum_by_rules, verdict as verdict_by_rules};
@@ -7,7 +7,7 @@ ghost use Rattle.fluid_quorum.specs.Order.{AreFirst};
 ghost use Rattle.fluid_rules.specs.Scribe.{acks};
 ghost use Rattle.fluid_scribe.specs.Jobs.{job};
 ghost use Rattle.fluid_ticket.specs.State.{minimum, HasMinimumUpTo};
-ghost use Rattle.fluid_core.specs.Entering.{start, answer_for, note_of, with_note, after, prepared, IsPreparedIn, StandsFor, noted, CanTake};
+ghost use Rattle.fluid_core.specs.Entering.{start, answer_for, note_of, with_note, after, prepared, IsPreparedIn, StandsFor, noted, CanTake, IsUpTo};
 
 use fluid_clients::Clients;
 use fluid_json::NoMemory;
@@ -139,6 +139,7 @@ impl Core {
     /// The last sequence number, 0 before the first message. Takes no memory.
     pub fn seq(&self) -> u64
         ensures is { result ≡ self.now.state.sequencer.sequence }
+        ensures few { result ≤ 2 ^ 53 - 1 }
         ensures stands { (ledger : Ledger) → StandsFor self.now.state ledger → result ≡ last_sequence ledger }
     {
         self.sequencer.seq()
@@ -170,6 +171,7 @@ impl Core {
     pub fn job(&mut self, alloc: Global) -> Result<Option<Job>, NoMemory>
         ensures same { self.new ≡ self.old }
         ensures job { IfOk result (λ given. given ≡ job self.old.state.messages) }
+        ensures sequenced { IfOk result (λ given. IfSome given (λ job. IsUpTo self.old.state.sequencer.sequence job.summary)) }
     {
         self.scribe.job(alloc)
     }

@@ -24,9 +24,10 @@ use Rattle.fluid_rules.specs.Scribe.{answer}
 use Rattle.fluid_clients.specs.declared.table.Row.{Row}
 use Rattle.fluid_clients.specs.Table.{Rows, byte_order, least}
 use Rattle.fluid_clients.proofs.Laws.{byte_order_total, least-reached}
-use Rattle.fluid_fits.specs.Laws.{IsMessageOf}
-use Rattle.fluid_fits.proofs.Messages.{is_message_of, messages_of_are_read_back}
-use Rattle.fluid_deltas.specs.Pushed.{IsKeepable, AreNumbered}
+use Rattle.fluid_readback.specs.Laws.{IsMessageOf}
+use Rattle.fluid_readback.proofs.Messages.{is_message_of, messages_of_are_read_back}
+use Rattle.fluid_types.specs.Order.{AreNumberedFrom}
+use Rattle.fluid_deltas.specs.Pushed.{IsKeepable}
 use Rattle.fluid_ticket.specs.State as ticket
 use Rattle.fluid_ticket.specs.State.{IsSound, change_of, changed, change_row}
 use Rattle.fluid_ticket.specs.declared.ready.Change.TheVariants.{Nothing, Holds}
@@ -50,10 +51,10 @@ unfolding verdict_in
 verdict-number s raw m is = number_in s.sequencer (answer_for s.messages raw) raw m (is_message_in s.sequencer (answer_for s.messages raw) raw m is)
 
 -- the message of a verdict is the next one
-pub messages-numbered : (s : State) (raw : Raw) → AreNumbered (s.sequencer.sequence + 1) (messages_of (verdict_in s raw))
+pub messages-numbered : (s : State) (raw : Raw) → AreNumberedFrom (s.sequencer.sequence + 1) (messages_of (verdict_in s raw))
 messages-numbered s raw = next (verdict_in s raw) refl
   where
-    next : (v : Verdict) → verdict_in s raw ≡ v → AreNumbered (s.sequencer.sequence + 1) (messages_of v)
+    next : (v : Verdict) → verdict_in s raw ≡ v → AreNumberedFrom (s.sequencer.sequence + 1) (messages_of v)
     next (Sequenced m) is = (verdict-number s raw m is, tt)
     next (Nacked nack) is = tt
     next Dropped is = tt

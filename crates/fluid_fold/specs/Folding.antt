@@ -11,7 +11,8 @@ use Rattle.fluid_types.specs.Ledger.{Ledger, order, messages_of}
 use Rattle.fluid_rules.specs.Counted.{is_counted, counted}
 use Rattle.fluid_clients.specs.Table.{Rows, row_code}
 use Rattle.fluid_log.specs.Keeping.{Content}
-use Rattle.fluid_deltas.specs.Pushed.{Pushed, IsKeepable, AreNumbered, StandFor}
+use Rattle.fluid_types.specs.Order.{AreNumberedFrom}
+use Rattle.fluid_deltas.specs.Pushed.{Pushed, IsKeepable, StandFor}
 use Rattle.fluid_ticket.specs.State.{IsSound}
 use Rattle.fluid_core.specs.Entering.{State, start, verdict_in, after, state_of}
 use Rattle.fluid_core.specs.Entering as entering
@@ -82,7 +83,7 @@ pub record IsLevelled (f : Folding) : Type 0 where
   pub counts : f.counted ≤ f.entered
   pub few : f.entered ≤ most
   -- these messages are numbered one by one, and can be kept
-  pub numbered : AreNumbered (f.before + 1) f.held
+  pub numbered : AreNumberedFrom (f.before + 1) f.held
   pub keepable : All IsKeepable f.held
   -- and no reference is ahead of the order
   pub sound : IsSound f.state.sequencer
@@ -122,7 +123,7 @@ pub record IsReadyIn (f : Folded) (raw : Raw) (p : Prepared) : Type 0 where
   pub entry : p.entry ≡ entering.prepared f.folding.state raw
   pub message : p.message ≡ message_of (verdict_in f.folding.state raw)
   pub keepable : All IsKeepable (messages_of (verdict_in f.folding.state raw))
-  pub next : AreNumbered (f.folding.before + length f.folding.held + 1) (messages_of (verdict_in f.folding.state raw))
+  pub next : AreNumberedFrom (f.folding.before + length f.folding.held + 1) (messages_of (verdict_in f.folding.state raw))
   pub counts : p.counts ≡ counts raw
   pub few : f.folding.entered < most
   pub room : 0 < f.messages

@@ -15,8 +15,8 @@ ghost use Rattle.fluid_map.specs.declared.operation.MapOp.{MapOp};
 use crate::content;
 use crate::operation::MapOp;
 use crate::pending::Pending;
-use fluid_json::{Bytes, Json, NoMemory};
-use fluid_table::Entries;
+use fluid_json::{Bytes, Json, NoMemory, Text};
+use fluid_table::SortedMap;
 use fluid_types::BlobFault;
 use std::alloc::Global;
 use std::marker::Model;
@@ -25,7 +25,7 @@ use std::marker::Model;
 /// changes that are on their way.
 #[derive(Drop)]
 pub struct SharedMap {
-    acknowledged: Entries<Json>,
+    acknowledged: SortedMap<Text, Json>,
     pending: Pending,
 }
 
@@ -50,7 +50,7 @@ impl SharedMap {
         ensures stands { StandsFor empty [] result }
     {
         SharedMap {
-            acknowledged: Entries::new(alloc),
+            acknowledged: SortedMap::new(alloc),
             pending: Pending::new(alloc),
         }
     }
@@ -150,7 +150,7 @@ impl SharedMap {
 }
 
 // Makes a change of a map, which has room for one more key.
-fn take_in(entries: &mut Entries<Json>, op: MapOp)
+fn take_in(entries: &mut SortedMap<Text, Json>, op: MapOp)
     requires { 0 < entries.old.spare }
     ensures values { entries.new.values ≡ after entries.old.values op }
     ensures spare { entries.old.spare ≤ entries.new.spare + 1 }

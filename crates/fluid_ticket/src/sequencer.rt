@@ -58,6 +58,7 @@ impl Sequencer {
     /// The last sequence number, 0 before the first message.
     pub fn seq(&self) -> u64
         ensures is { result ≡ self.now.state.sequence }
+        ensures few { result ≤ 2 ^ 53 - 1 }
         ensures stands { (ledger : Ledger) → StandsFor self.now.state ledger → result ≡ last_sequence ledger }
     {
         self.sequence

@@ -10,7 +10,7 @@ use Rattle.fluid_io.specs.declared.lines.TheConstants.{LONGEST_TEXT}
 use Rattle.fluid_types.specs.Ledger.{Ledger}
 use Rattle.fluid_rules.specs.Rules.{ledger}
 use Rattle.fluidd.specs.declared.document.Document.{Document}
-use Rattle.fluidd.specs.declared.limits.Limits.{Limits}
+use Rattle.fluid_rules.specs.declared.limits.Limits.{Limits}
 use Rattle.fluidd.specs.Input.{records}
 use Rattle.fluidd.specs.Progress.{Stands, IsWithin, TakesLine, Progress}
 use Rattle.fluidd.proofs.WholeLines.{read-none, read-more}

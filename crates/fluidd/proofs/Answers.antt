@@ -15,7 +15,7 @@ use Rattle.fluid_io.specs.declared.line.LineFault.{LineFault}
 use Rattle.fluid_io.specs.declared.line.LineFault.TheVariants as line
 use Rattle.fluid_rules.specs.Rules.{ledger}
 use Rattle.fluidd.specs.declared.document.Document.{Document}
-use Rattle.fluidd.specs.declared.limits.Limits.{Limits}
+use Rattle.fluid_rules.specs.declared.limits.Limits.{Limits}
 use Rattle.fluidd.specs.declared.refusal.Refusal.{Refusal}
 use Rattle.fluidd.specs.declared.refusal.Refusal.TheVariants.{TooLong, NotUtf8, TooManyLines}
 use Rattle.fluidd.specs.Input.{records, entry_of, refusal, first_of, answer_refusal, text_refusal}

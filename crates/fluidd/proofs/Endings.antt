@@ -8,7 +8,7 @@ use Rattle.fluid_io.specs.Reader.{Reader}
 use Rattle.fluid_io.specs.Lines.{ahead, lines_ahead, IsCutOff}
 use Rattle.fluid_rules.specs.Rules.{ledger}
 use Rattle.fluidd.specs.declared.document.Document.{Document}
-use Rattle.fluidd.specs.declared.limits.Limits.{Limits}
+use Rattle.fluid_rules.specs.declared.limits.Limits.{Limits}
 use Rattle.fluidd.specs.declared.refusal.Refusal.{Refusal}
 use Rattle.fluidd.specs.declared.status.Status.{Status}
 use Rattle.fluidd.specs.declared.status.Status.TheVariants as status

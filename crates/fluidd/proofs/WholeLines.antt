@@ -11,7 +11,7 @@ use Rattle.fluid_io.specs.Streams.{Reading, Gives}
 use Rattle.fluid_io.specs.Reader.{Reader}
 use Rattle.fluid_io.specs.Lines.{ahead, EndsInLineFeed, IsCutOff, IsPlain, PassesLine}
 use Rattle.fluid_io.specs.declared.lines.TheConstants.{LONGEST_TEXT}
-use Rattle.fluidd.specs.declared.limits.Limits.{Limits}
+use Rattle.fluid_rules.specs.declared.limits.Limits.{Limits}
 use Rattle.fluidd.specs.Input.{Accepts}
 use Rattle.fluidd.specs.Output.{AreWhole, IsBegun, IsInterrupted, lines_for}
 use Rattle.fluidd.specs.Progress.{IsReadTo}

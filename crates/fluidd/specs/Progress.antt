@@ -18,7 +18,7 @@ use Rattle.fluid_core.specs.Entering.{StandsFor}
 use Rattle.fluidd.specs.declared.document.Document.{Document}
 use Rattle.fluidd.specs.declared.document.Untaken.{Untaken}
 use Rattle.fluidd.specs.declared.document.Untaken.TheVariants as untaken
-use Rattle.fluidd.specs.declared.limits.Limits.{Limits}
+use Rattle.fluid_rules.specs.declared.limits.Limits.{Limits}
 use Rattle.fluidd.specs.declared.refusal.Refusal.{Refusal}
 use Rattle.fluidd.specs.declared.refusal.Refusal.TheVariants.{DocumentFull, TooManyClients}
 use Rattle.fluidd.specs.declared.status.Status.{Status}

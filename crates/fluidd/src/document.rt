@@ -13,13 +13,13 @@ ghost use Rattle.fluidd.specs.Refusals.{bad_line};
 ghost use Rattle.fluid_types.specs.declared.entries.Raw.{Raw};
 ghost use Rattle.fluid_core.specs.Entering.{IsPreparedIn, prepared, StandsFor};
 
-use crate::limits::Limits;
 use crate::refusal::{Refusal, push_bad_line};
 use crate::sink::write_out;
 use fluid_codec::{push_verdict, read_raw};
 use fluid_core::{Core, CoreEntry};
 use fluid_io::{Failed, Sink};
 use fluid_json::NoMemory;
+use fluid_rules::{Limits, is_counted};
 use fluid_types::{CodecFault, Raw, Verdict};
 use std::alloc::Global;
 
@@ -188,16 +188,6 @@ fn take_in(core: &mut Core, entry: CoreEntry)
     ensures one_more { core.new.state.sequencer.sequence ≤ core.old.state.sequencer.sequence + 1 }
 {
     core.enter(entry);
-}
-
-// Whether an entry counts towards the limit of a document.
-fn is_counted(raw: &Raw) -> bool
-    ensures { result ≡ is_counted raw.now }
-{
-    match raw {
-        Raw::Join { .. } | Raw::Submit { .. } => true,
-        Raw::Leave { .. } | Raw::Report { .. } => false,
-    }
 }
 
 // Puts the line of a verdict, with its end, behind what waits.

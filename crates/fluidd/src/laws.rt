@@ -1,7 +1,7 @@
 //! What holds of the definitions, said by a function that does nothing.
 ghost use Rattle.std.specs.Prelude.{◌≡◌, ◌⊎◌, ℕ, List, []};
 ghost use Rattle.std.specs.Str.Lines.{lines};
-ghost use Rattle.fluidd.specs.declared.limits.Limits.{Limits};
+ghost use Rattle.fluid_rules.specs.declared.limits.Limits.{Limits};
 ghost use Rattle.fluidd.specs.Input.{Accepts};
 ghost use Rattle.fluidd.specs.Output.{HasRefused};
 

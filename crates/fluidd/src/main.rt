@@ -1,12 +1,11 @@
 //! The ordering service of collaborative documents, as a program.
 //! `run` has the top call, `sequence` the command of that name, `document` what it keeps between two lines of its
-//! input, `refusal` why a line is refused, `status` how a run ends, `limits` how much a document may take, `sink` how
-//! output is handed on, and `laws` what holds of the definitions.
+//! input, `refusal` why a line is refused, `status` how a run ends, `sink` how output is handed on, and `laws` what holds
+//! of the definitions.
 #![tactic(auto)]
 
 mod document;
 pub mod laws;
-pub mod limits;
 pub mod refusal;
 pub mod run;
 mod sequence;

@@ -4,12 +4,12 @@ ghost use Rattle.fluidd.specs.Input.{full};
 ghost use Rattle.fluid_io.specs.Causes.{Rose, Tells};
 ghost use Rattle.fluidd.specs.Output.{NoFault, ReadFailed, IsWhole, IsRefused, IsInterrupted, IsBegun, IsCut, IsStatus, Wrote, Sequences, Completes, Refuses, TellsRefused, ShowsUsage, is_sequence, usage_line};
 
-use crate::limits::Limits;
 use crate::sequence::sequence;
 use crate::sink::write_out;
 use crate::status::Status;
 use fluid_io::{Failed, Sink, Source};
 use fluid_json::Text;
+use fluid_rules::Limits;
 use std::alloc::Global;
 
 /// What is written where the words are no command.
@@ -67,10 +67,14 @@ pub fn sequence_within<R, S: Source, K: Sink>(
     entries: u64,
     clients: u32,
 ) -> u8
-    ensures { Sequences (record { entries = entries; clients = clients }) (S.seen input.old) (K.seen output.old)
+    ensures { Sequences (record full { entries = entries; clients = clients }) (S.seen input.old) (K.seen output.old)
         (S.seen input.new) (K.seen output.new) result }
 {
-    let limits = Limits { entries, clients };
+    let limits = Limits {
+        entries,
+        clients,
+        ..Limits::FULL
+    };
     sequence(alloc, limits, input, output).code()
 }
 

@@ -7,11 +7,11 @@ ghost use Rattle.fluidd.specs.Output.{Finished};
 ghost use Rattle.fluidd.specs.Progress.{Stands, IsWithin, Reached, Steps, Ends, Progress, ReadsQuietly, Settled};
 
 use crate::document::{Document, Untaken};
-use crate::limits::Limits;
 use crate::refusal::Refusal;
 use crate::status::Status;
 use fluid_io::{Failed, LONGEST_TEXT, Line, LineFault, Lines, Sink, Source};
 use fluid_json::NoMemory;
+use fluid_rules::Limits;
 use std::alloc::Global;
 
 /// So many bytes of whole lines go to the sink in one piece.

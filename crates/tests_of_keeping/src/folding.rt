@@ -3,7 +3,7 @@ ghost use Rattle.fluid_types.specs.Fits.{Fits};
 
 use fluid_checkpoint::CheckpointFault;
 use fluid_codec::read_raw;
-use fluid_fits::read_entries_fit;
+use fluid_readback::read_entries_fit;
 use fluid_fold::{Folded, LaneFault, MOST, enter, load};
 use fluid_log::{Keeper, LONGEST_KEPT, MemoryKeeper};
 use fluid_types::{Raw, Verdict};
