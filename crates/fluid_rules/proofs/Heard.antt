@@ -9,8 +9,7 @@ use Rattle.fluid_types.specs.Ledger.{Ledger, messages_of, order}
 use Rattle.fluid_types.proofs.Ledgers.{order-push}
 use Rattle.fluid_rules.specs.Past as past
 use Rattle.fluid_rules.specs.Past.{Entry, Past, speaking, latest}
-use Rattle.fluid_rules.specs.Rules.{past_of, heard, last_minimum}
-use Rattle.fluid_rules.specs.Laws.{last_minimum_behind}
+use Rattle.fluid_rules.specs.Rules.{past_of, heard, last_minimum, last_minimum_behind}
 use Rattle.fluid_rules.proofs.Pushed.{past_of-push}
 
 heard_at : (said : Option ℕ) (entry : Entry) (before : Past) (c : List ℕ) → speaking c entry.0 ≡ said → past.heard (entry ∷ before) c ≡ unwrap_or said (past.heard before c)

@@ -19,6 +19,7 @@ use Rattle.fluid_rules.proofs.Least.{least_of}
 use Rattle.fluid_rules.proofs.Minimum.{joined-has, is_joined-client, minimum-is_least, least-unique}
 use Rattle.fluid_rules.proofs.Pushed.{client-push}
 use Rattle.fluid_rules.proofs.Heard.{last_minimum-push}
+use Rattle.fluid_rules.proofs.Settled.{least-same}
 use Rattle.fluid_rules.proofs.Verdicts.{Passes, sequenced-was, absorbed-was, message-reference}
 
 -- ---- the order
@@ -77,10 +78,15 @@ module _ (l : Ledger) (c : List ℕ) (submission : Submission) (moment : ℕ) (v
   abbrev after : Ledger
   after = l ++ (Submit c submission moment, v) ∷ []
 
+  in_order_taking : client_taking submission.client_number taken (said_of l c) ≡ record (said_of l c) { last = submission.client_number; reference = taken }
+  in_order_taking = rw next.in_order refl
+
   own_behind : client after c ≡ Some (said_behind l c submission moment taken)
   own_behind =
+      let same : client_submitting (seq l) submission v (said_of l c) ≡ record (said_of l c) { last = submission.client_number; reference = taken } =
+      takes (said_of l c) ∙ in_order_taking in
       client-push l (Submit c submission moment, v) c
-      ∙ rw (own_id c, client-joined l c next.joined) (ap (λ said. Some (client_heard moment said)) (takes (said_of l c) ∙ rw next.in_order refl))
+      ∙ rw (own_id c, client-joined l c next.joined) (ap (λ said. Some (client_heard moment said)) same)
 
   joined_behind : is_joined after c ≡ true
   joined_behind = is_joined-client after c ∙ ap is_some own_behind
@@ -115,14 +121,6 @@ absorbed-taken l c submission moment is =
 
 -- ---- the minimum behind an absorbed noop
 
-and_both : (a b : Bool) → a ≡ true → b ≡ true → (a && b) ≡ true
-and_both true b h g = g
-and_both false b h g = absurd (cc)
-
-and_left : (a b : Bool) → (a && b) ≡ true → a ≡ true
-and_left true b h = refl
-and_left false b h = absurd (cc)
-
 and_right : (a b : Bool) → (a && b) ≡ true → b ≡ true
 and_right true b h = h
 and_right false b h = absurd (cc)
@@ -135,18 +133,16 @@ turned c d false h = other (bytes_eq d c) refl
     other true is = absurd (let no : true ≡ false = sym (own_id c) ∙ rw (same_id d c is) at h in cc)
     other false is = refl
 
-module _ (l : Ledger) (c : List ℕ) (submission : Submission) (moment : ℕ) (next : IsNext l c submission) where
-  abbrev taken : ℕ
-  taken = read_as (seq l) submission.reference
-
-  abbrev behind : Ledger
-  behind = l ++ (Submit c submission moment, Absorbed) ∷ []
+module _ (l : Ledger) (c : List ℕ) (submission : Submission) (own : Client) (own_is : own.reference ≡ read_as (seq l) submission.reference) where
+  abbrev brought : ℕ
+  brought = read_as (seq l) submission.reference
 
   abbrev others : List (List ℕ)
   others = filter (λ d. not (bytes_eq d c)) (joined l)
 
-  own : client behind c ≡ Some (said_behind l c submission moment taken)
-  own = own_behind l c submission moment Absorbed taken (λ said. refl) next
+  -- what would be said of a client, were this one said of c
+  abbrev said_then : List ℕ → Option Client
+  said_then d = if bytes_eq c d then Some own else client l d
 
   -- another client is joined exactly where it is among the others
   among : (d : List ℕ) → bytes_eq c d ≡ false → has_id d others ≡ is_joined l d
@@ -156,47 +152,64 @@ module _ (l : Ledger) (c : List ℕ) (submission : Submission) (moment : ℕ) (n
       and_true true = refl
       and_true false = refl
 
-  below_at : (same : Bool) (d : List ℕ) (said : Client) → bytes_eq c d ≡ same → client behind d ≡ Some said →
-      fold min taken (map (reference l) others) ≤ said.reference
+  below_at : (same : Bool) (d : List ℕ) (said : Client) → bytes_eq c d ≡ same → (if same then Some own else client l d) ≡ Some said →
+      fold min brought (map (reference l) others) ≤ said.reference
   below_at true d said h is =
-      let least = least_of (reference l) others taken in
-      let there : said_behind l c submission moment taken ≡ said = some_same _ _ (sym own ∙ ap (client behind) (same_id c d h) ∙ is) in
-      let at : taken ≡ said.reference = ap (λ (said : Client). said.reference) there in
+      let least = least_of (reference l) others brought in
+      let at : brought ≡ said.reference = sym own_is ∙ ap (λ (said : Client). said.reference) (some_same own said is) in
       omega (arith, least.at_first)
   below_at false d said h is =
-      let least = least_of (reference l) others taken in
-      let before : client l d ≡ Some said = sym (other_behind l c submission moment Absorbed taken (λ said. refl) next d h) ∙ is in
-      let joined : is_joined l d ≡ true = is_joined-client l d ∙ ap is_some before in
-      let at : reference l d ≡ said.reference = ap (λ (said : Client). said.reference) (some_same _ _ (sym (client-joined l d joined) ∙ before)) in
-      let bound : fold min taken (map (reference l) others) ≤ reference l d = least.at_each d (among d h ∙ joined) in
+      let least = least_of (reference l) others brought in
+      let joined : is_joined l d ≡ true = is_joined-client l d ∙ ap is_some is in
+      let at : reference l d ≡ said.reference = ap (λ (said : Client). said.reference) (some_same _ _ (sym (client-joined l d joined) ∙ is)) in
+      let bound : fold min brought (map (reference l) others) ≤ reference l d = least.at_each d (among d h ∙ joined) in
       omega arith
 
   abbrev Reached : Type 0
-  Reached = (d : List ℕ) × ((said : Client) × ((client behind d ≡ Some said) × (fold min taken (map (reference l) others) ≡ said.reference)))
+  Reached = (d : List ℕ) × ((said : Client) × ((said_then d ≡ Some said) × (fold min brought (map (reference l) others) ≡ said.reference)))
 
-  reached_at : (same : Bool) (d : List ℕ) → bytes_eq c d ≡ same → has_id d others ≡ true → fold min taken (map (reference l) others) ≡ reference l d → Reached
+  reached_at : (same : Bool) (d : List ℕ) → bytes_eq c d ≡ same → has_id d others ≡ true → fold min brought (map (reference l) others) ≡ reference l d → Reached
   reached_at true d h has is =
       let there : (has_id d (joined l) && not (bytes_eq d c)) ≡ true = sym (filter-has (λ d. not (bytes_eq d c)) d (joined l)) ∙ has in
       let other : not (bytes_eq d c) ≡ true = and_right (has_id d (joined l)) (not (bytes_eq d c)) there in
       absurd (let no : false ≡ true = rw (turned c d true h) at other in cc)
   reached_at false d h has is =
       let joined : is_joined l d ≡ true = sym (among d h) ∙ has in
-      (d, (said_of l d, (other_behind l c submission moment Absorbed taken (λ said. refl) next d h ∙ client-joined l d joined, is)))
+      (d, (said_of l d, (rw h (client-joined l d joined), is)))
 
-  lifted_least : IsLeast (client behind) (seq behind) (fold min taken (map (reference l) others))
-  lifted_least = record {
+  least_then : IsLeast said_then (seq l) (fold min brought (map (reference l) others))
+  least_then = record {
     below = λ d said is. below_at (bytes_eq c d) d said refl is;
-    reached = inl (elim (least_of (reference l) others taken).reached [
-      | inl first ↦ (c, (said_behind l c submission moment taken, (own, first)))
+    reached = inl (elim (least_of (reference l) others brought).reached [
+      | inl first ↦ (c, (own, (rw (own_id c) refl, first ∙ sym own_is)))
       | inr found ↦ reached_at (bytes_eq c found.0) found.0 refl found.1.0 found.1.1
     ]);
   }
 
+-- it is the least reference, were the client's that of the submission
+pub lifted-least : (l : Ledger) (c : List ℕ) (submission : Submission) (own : Client) → own.reference ≡ read_as (seq l) submission.reference →
+    IsLeast (λ d. if bytes_eq c d then Some own else client l d) (seq l) (lifted l c submission)
+unfolding lifted
+lifted-least l c submission own is = least_then l c submission own is
+
+behind_at : (same : Bool) (l : Ledger) (c d : List ℕ) (submission : Submission) (moment : ℕ) → bytes_eq c d ≡ same → IsNext l c submission →
+    (if same then Some (said_behind l c submission moment (read_as (seq l) submission.reference)) else client l d)
+    ≡ client (l ++ (Submit c submission moment, Absorbed) ∷ []) d
+behind_at true l c d submission moment h next =
+    sym (own_behind l c submission moment Absorbed (read_as (seq l) submission.reference) (λ said. refl) next)
+    ∙ ap (client (l ++ (Submit c submission moment, Absorbed) ∷ [])) (same_id c d h)
+behind_at false l c d submission moment h next =
+    sym (other_behind l c submission moment Absorbed (read_as (seq l) submission.reference) (λ said. refl) next d h)
+
 -- behind an absorbed noop the minimum is what it lifts it to
 pub absorbed-lifts : (l : Ledger) (c : List ℕ) (submission : Submission) (moment : ℕ) → verdict l (Submit c submission moment) ≡ Absorbed →
     minimum (l ++ (Submit c submission moment, Absorbed) ∷ []) ≡ lifted l c submission
-unfolding verdict lifted
+unfolding verdict
 absorbed-lifts l c submission moment is =
     let after : Ledger = l ++ (Submit c submission moment, Absorbed) ∷ [] in
+    let next : IsNext l c submission = is_next l c submission (absorbed-was l c submission moment (sym is)) in
+    let own : Client = said_behind l c submission moment (read_as (seq l) submission.reference) in
+    let least : IsLeast (λ d. if bytes_eq c d then Some own else client l d) (seq l) (lifted l c submission) = lifted-least l c submission own refl in
     least-unique (client after) (seq after) _ _ (minimum-is_least after)
-    (lifted_least l c submission moment (is_next l c submission (absorbed-was l c submission moment (sym is))))
+    (least-same (λ d. if bytes_eq c d then Some own else client l d) (client after) (seq l) (seq after) (lifted l c submission)
+    (λ d. behind_at (bytes_eq c d) l c d submission moment refl next) (sym (absorbed-keeps l (Submit c submission moment)).same_seq) least)

@@ -5,12 +5,11 @@ use Rattle.fluid_types.specs.declared.entries.Raw.TheVariants.{Submit}
 use Rattle.fluid_types.specs.declared.entries.Submission.{Submission}
 use Rattle.fluid_types.specs.declared.messages.Message.{Message}
 use Rattle.fluid_types.specs.declared.nacks.Nack.{Nack}
-use Rattle.fluid_types.specs.declared.verdicts.Verdict.TheVariants.{Sequenced, Nacked, Dropped, Absorbed}
-use Rattle.fluid_types.specs.declared.verdicts.Verdict.{Verdict}
+use Rattle.fluid_types.specs.declared.verdicts.Verdict.TheVariants.{Sequenced, Nacked, Absorbed}
 use Rattle.fluid_types.specs.Ledger.{Ledger, messages_of, order, raws, seq}
 use Rattle.fluid_rules.specs.Past.{Entry, Client, IsLeast, client_behind, has_id, AreInOrder, read_as, speaking}
 use Rattle.fluid_rules.specs.Counted.{is_counted, counted}
-use Rattle.fluid_rules.specs.Rules.{is_joined, last_number, reference, heard, client, refusals, joined, minimum, last_minimum, lifted, message, verdict, IsLegal, IsLegalBehind, ledger_behind, entries_behind, ledger}
+use Rattle.fluid_rules.specs.Rules.{is_joined, last_number, reference, heard, client, refusals, joined, minimum, last_minimum, last_minimum_behind, lifted, message, verdict, IsLegal, IsLegalBehind, ledger_behind, entries_behind, ledger}
 
 -- the minimum is the least reference of a joined client, and the last sequence number where nobody is joined
 abbrev pub MinimumIsLeast : Type 0
@@ -115,13 +114,7 @@ ClientGrows = (l : Ledger) (entry : Entry) (c : List ℕ) → client (l ++ entry
 abbrev pub HeardGrows : Type 0
 HeardGrows = (l : Ledger) (entry : Entry) (c : List ℕ) → heard (l ++ entry ∷ []) c ≡ unwrap_or (speaking c entry.0) (heard l c)
 
--- in the minimum of the last message: that of the entry's message, where it has one
-abbrev pub last_minimum_behind : ℕ → Verdict → ℕ
-last_minimum_behind before (Sequenced m) = m.minimum
-last_minimum_behind before (Nacked nack) = before
-last_minimum_behind before Dropped = before
-last_minimum_behind before Absorbed = before
-
+-- in the minimum of the last message
 abbrev pub LastMinimumGrows : Type 0
 LastMinimumGrows = (l : Ledger) (entry : Entry) → last_minimum (l ++ entry ∷ []) ≡ last_minimum_behind (last_minimum l) entry.1
 

@@ -81,6 +81,13 @@ minimum ledger = past.minimum (past_of ledger)
 unfoldable pub last_minimum : Ledger → ℕ
 last_minimum ledger = unwrap_or (option_map (λ m. m.minimum) (last_or None (order ledger))) 0
 
+-- behind an entry it is that of the entry's message, where it has one
+abbrev pub last_minimum_behind : ℕ → Verdict → ℕ
+last_minimum_behind before (Sequenced m) = m.minimum
+last_minimum_behind before (Nacked nack) = before
+last_minimum_behind before Dropped = before
+last_minimum_behind before Absorbed = before
+
 -- what the least reference would be, were the client's that of this submission, with -1 read as the last sequence number
 unfoldable pub lifted : Ledger → List ℕ → Submission → ℕ
 lifted ledger c submission =
