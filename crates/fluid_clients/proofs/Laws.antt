@@ -2,7 +2,7 @@
 use Rattle.std.proofs.lemmas.Bool.{false≢true, cases_lt}
 use Rattle.std.proofs.lemmas.Option.{none-some, same_Some}
 use Rattle.std.specs.declared.cmp.Ordering.{Ordering}
-use Rattle.std.proofs.Common.{suc, ◌<◌, ◌≤◌, Bool, true, false, cond, ◌⊎◌, inl, inr, Option, None, length, get_or, ◌≡◌, ℕ, not, T, List, [], ◌∷◌, Some, map, min, fold, refl, sym, ap, ◌∙◌, arith}
+use Rattle.std.proofs.Common.{suc, ◌<◌, ◌≤◌, Bool, true, false, cond, ◌⊎◌, inl, inr, Option, None, is_some, length, get_or, ◌≡◌, ℕ, not, T, List, [], ◌∷◌, Some, map, min, fold, refl, sym, ap, ◌∙◌, arith}
 use Rattle.std.specs.List.{reduce}
 use Rattle.std.specs.Ordering.{is_eq, eq_by_cmp}
 use Rattle.std.specs.declared.cmp.Ordering.TheVariants.{Less, Equal, Greater}
@@ -116,6 +116,14 @@ pub least_with-there : (rows : Rows) (id : List ℕ) (reference : ℕ) (row : Ro
     least_with rows id reference ≡ lesser (Some reference) (least (finite.remove rows id))
 least_with-there rows id reference row there =
     ap least (change-there rows id (λ row. record row { reference = reference }) row there) ∙ least-insert id (record row { reference = reference }) rows
+
+pub least_with-joined : (rows : Rows) (id : List ℕ) (reference : ℕ) (rest : Option ℕ) → is_some (finite.get rows id) ≡ true → rest ≡ least (finite.remove rows id) →
+    least_with rows id reference ≡ lesser (Some reference) rest
+least_with-joined rows id reference rest joined is =
+    elim (finite.get rows id) as (λ o. finite.get rows id ≡ o → least_with rows id reference ≡ lesser (Some reference) rest) [
+      | None ↦ λ none. absurd (false≢true (sym (ap is_some none) ∙ joined))
+      | Some row ↦ λ there. least_with-there rows id reference row there ∙ ap (lesser (Some reference)) (sym is)
+    ] refl
 
 -- ---- the least reference is the least
 

@@ -5,8 +5,9 @@ use Rattle.fluid_json.specs.declared.memory.NoMemory.{NoMemory}
 use Rattle.std.specs.Option.{unwrap_or, option_map}
 use Rattle.std.specs.Ordering.{eq_by_cmp}
 use Rattle.std.specs.Cmp.{eq_by_cmp_equiv}
-use Rattle.std.specs.FinMap.{get, get-from_entries, get-insert, get-remove, same_map}
+use Rattle.std.specs.FinMap.{get, insert, get-from_entries, get-insert, get-remove, same_map}
 use Rattle.std.specs.FinMap.Entries.{find}
+use Rattle.std.proofs.lemmas.Bool.{false≢true}
 use Rattle.std.proofs.lemmas.Option.{none-some, same_Some}
 use Rattle.std.proofs.lemmas.Map.Text.{is_eq-slice_cmp}
 use Rattle.fluid_types.specs.declared.entries.Raw.{Raw}
@@ -27,14 +28,14 @@ use Rattle.fluid_rules.specs.Rules.{past_of, is_joined, last_number, is_nacked, 
 use Rattle.fluid_rules.specs.Scribe as scribe
 use Rattle.fluid_rules.specs.Scribe.{reported}
 use Rattle.fluid_rules.specs.declared.answers.Answer.{Answer}
-use Rattle.fluid_rules.proofs.Ids.{same_id}
+use Rattle.fluid_rules.proofs.Ids.{same_id, own_id}
 use Rattle.fluid_rules.proofs.Minimum.{joined-has, is_joined-client, minimum-is_least, least-unique}
 use Rattle.fluid_rules.proofs.Pushed.{client-push}
 use Rattle.fluid_rules.proofs.Heard.{last_minimum-push}
 use Rattle.fluid_rules.proofs.Taken.{lifted-least}
 use Rattle.fluid_clients.specs.declared.table.Row.{Row}
 use Rattle.fluid_clients.specs.Table.{Rows, byte_order, change_row, least, least_with}
-use Rattle.fluid_clients.proofs.Laws.{byte_order_total, byte_order-IsAntisymmetric, least-reached, least-none}
+use Rattle.fluid_clients.proofs.Laws.{byte_order_total, byte_order-IsAntisymmetric, least-reached, least-none, insert-again, change-there}
 use Rattle.fluid_ticket.specs.declared.ready.Change.TheVariants.{Nothing, Holds, Hears}
 use Rattle.fluid_ticket.specs.declared.outcome.Outcome.TheVariants.{Duplicate, Refused, Admitted}
 use Rattle.fluid_ticket.specs.State as state
@@ -144,6 +145,23 @@ pub get_changed : (rows : Rows) (id q : List ℕ) (f : Row → Row) (o : Option 
     get (change_row id f rows) q ≡ cond (bytes_eq id q) (option_map f o) (get rows q)
 get_changed rows id q f None is = rw is (nothing_at rows id q (bytes_eq id q) refl is)
 get_changed rows id q f (Some row) is = rw is (get-insert byte_order_total rows id (f row) q ∙ ap (λ b. cond b (Some (f row)) (get rows q)) (tied_back q id))
+
+-- two changes of one row are one change
+pub changed_twice : (rows mid new : Rows) (id : List ℕ) (f g : Row → Row) → is_some (get rows id) ≡ true → ((row : Row) → get rows id ≡ Some row → mid ≡ insert rows id (f row)) →
+    new ≡ change_row id g mid → new ≡ change_row id (λ row. g (f row)) rows
+changed_twice rows mid new id f g joined first second =
+    elim (get rows id) as (λ o. get rows id ≡ o → new ≡ change_row id (λ row. g (f row)) rows) [
+      | None ↦ λ none. absurd (false≢true (sym (ap is_some none) ∙ joined))
+      | Some row ↦ λ there.
+          let made : mid ≡ insert rows id (f row) = first row there in
+          let found : get mid id ≡ Some (f row) =
+          ap (λ m. get m id) made ∙ get-insert byte_order_total rows id (f row) id ∙ ap (λ b. cond b (Some (f row)) (get rows id)) (ties id id ∙ own_id id) in
+          second
+          ∙ change-there mid id g (f row) found
+          ∙ ap (λ m. insert m id (g (f row))) made
+          ∙ insert-again rows id (f row) (g (f row))
+          ∙ sym (change-there rows id (λ row. g (f row)) row there)
+    ] refl
 
 -- a choice between what is said is the choice between the rows
 chosen : (b : Bool) (said other : Option Client) (o : Option Row) → o ≡ option_map rowed other → cond b (option_map rowed said) o ≡ option_map rowed (cond b said other)

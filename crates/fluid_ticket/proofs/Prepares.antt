@@ -153,6 +153,11 @@ module _ (s : State) (summary : ℕ) (found : Bool) (moment : ℕ) where
       prepared s (heard s (Report summary found moment) answer) (Report summary found moment) ≡ answered s kind.SummaryNack (refusal_contents summary rule) moment
   refused_at answer rule low is = ap (λ a. prepared s a (Report summary found moment)) (heard_at answer low ∙ is) ∙ report_refused rule
 
+-- what was prepared is what it is equal to
+pub answered_by : (result : Result Prepared NoMemory) (p q : Prepared) → IfOk result (λ ready. ready ≡ p) → p ≡ q → IfOk result (λ ready. ready ≡ q)
+answered_by (Ok ready) p q is same = is ∙ same
+answered_by (Err fault) p q is same = tt
+
 -- what was prepared can be committed where there is room
 pub ready_in : (result : Result Prepared NoMemory) (q : Sequencing) (answer : Answer) (raw : Raw) → IfOk result (λ ready. ready ≡ prepared q.state answer raw) →
     q.state.sequence < 2 ^ 53 - 1 → 0 < q.spare → IfOk result (IsPreparedIn q)

@@ -143,7 +143,8 @@ impl Sequencer {
                 self.last_minimum = message.minimum;
             }
             Verdict::Absorbed => self.minimum = self.clients.min().unwrap_or(self.sequence),
-            Verdict::Nacked(_) | Verdict::Dropped => {}
+            // A nack and a dropped entry leave number and minimum.
+            _ => {}
         }
         verdict
     }

@@ -30,6 +30,7 @@ enum Shown {
     // The rule, and the minimum at that moment.
     Nack(NackRule, i64),
     Dropped,
+    Absorbed,
 }
 
 fn submission(number: u64, reference: i64, kind: Offered) -> Submission {
@@ -79,7 +80,7 @@ fn enter(
     entry: &Entry,
 ) -> Result<Verdict, Fail> {
     let raw = raw(alloc, entry)?;
-    assert!(rt; sequencer.seq() < 1000);
+    assert!(rt; sequencer.seq() < 1000 && raw.is_in_range());
     let ready = sequencer.prepare(alloc, &raw, &Answer::Dropped)?;
     let prepared = what_shows(ready.verdict());
     let verdict = sequencer.commit(ready);
@@ -92,6 +93,7 @@ fn what_shows(verdict: &Verdict) -> Shown {
         Verdict::Sequenced(message) => Shown::At(message.number, message.minimum),
         Verdict::Nacked(nack) => Shown::Nack(nack.rule, nack.minimum),
         Verdict::Dropped => Shown::Dropped,
+        Verdict::Absorbed => Shown::Absorbed,
     }
 }
 
