@@ -6,18 +6,25 @@ use Rattle.fluid_types.specs.declared.entries.Raw.TheVariants.{Join, Leave, Subm
 use Rattle.fluid_types.specs.Ledger.{Ledger, order, seq}
 use Rattle.fluid_rules.specs.Scribe as scribe
 use Rattle.fluid_rules.specs.declared.answers.Answer.{Answer}
-use Rattle.fluid_rules.specs.Rules.{last_number, reference, is_nacked, scopes, joined}
+use Rattle.fluid_rules.specs.Rules.{last_number, reference, is_nacked, scopes, heard, joined, last_minimum}
 use Rattle.fluid_clients.specs.declared.table.Row.{Row}
 use Rattle.fluid_ticket.specs.State.{State}
 
 -- what a ledger says of a joined client
 abbrev pub row_of : Ledger → List ℕ → Row
-row_of ledger id = record { last = last_number ledger id; reference = reference ledger id; nacked = is_nacked ledger id; scopes = scopes ledger id }
+row_of ledger id = record {
+  last = last_number ledger id;
+  reference = reference ledger id;
+  nacked = is_nacked ledger id;
+  scopes = scopes ledger id;
+  heard = heard ledger id;
+}
 
--- the last sequence number, and one row for each joined client
+-- the last sequence number, the minimum of the last message, and one row for each joined client
 unfoldable pub state_of : Ledger → State
 state_of ledger = record {
   sequence = seq ledger;
+  last_minimum = last_minimum ledger;
   rows = from_entries (map (λ id. (id, row_of ledger id)) (joined ledger));
 }
 
