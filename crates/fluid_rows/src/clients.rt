@@ -71,6 +71,7 @@ fn join(
             write: true,
             summary: false,
         },
+        heard: 0,
     };
     clients.join(id, row)?;
     Text::copied(alloc, "in")

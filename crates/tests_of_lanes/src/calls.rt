@@ -136,6 +136,7 @@ fn numbers(rt: &impl Abort, alloc: Global, verdict: &Verdict) -> String {
             format!(in alloc; "{rule:?}")
         }
         Verdict::Dropped => format!(in alloc; "dropped"),
+        Verdict::Absorbed => format!(in alloc; "absorbed"),
     };
     told.expect(rt, "memory")
 }
