@@ -61,7 +61,7 @@ fn raw(alloc: Global, entry: &Entry) -> Result<Raw, Fail> {
 fn what_shows(verdict: &Verdict) -> Option<(Kind, u64, u64)> {
     match verdict {
         Verdict::Sequenced(message) => Some((message.kind, message.number, message.minimum)),
-        Verdict::Nacked(_) | Verdict::Dropped => None,
+        Verdict::Nacked(_) | Verdict::Dropped | Verdict::Absorbed => None,
     }
 }
 
@@ -74,7 +74,7 @@ fn assert_entered(
 ) -> Result<(), Fail> {
     for (entry, wanted) in entries {
         let raw = raw(alloc, entry)?;
-        assert!(rt; core.seq() < 1000);
+        assert!(rt; core.seq() < 1000 && raw.is_in_range());
         let left = core.prepare_entry(alloc, &raw)?;
         assert_eq!(rt; what_shows(left.verdict()), *wanted);
         let ready = core.prepare(alloc, &raw)?;
