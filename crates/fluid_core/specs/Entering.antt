@@ -5,7 +5,7 @@ use Rattle.fluid_types.specs.declared.entries.Raw.{Raw}
 use Rattle.fluid_types.specs.declared.entries.Raw.TheVariants.{Join, Leave, Submit, Report}
 use Rattle.fluid_types.specs.declared.messages.Message.{Message}
 use Rattle.fluid_types.specs.declared.verdicts.Verdict.{Verdict}
-use Rattle.fluid_types.specs.declared.verdicts.Verdict.TheVariants.{Sequenced, Nacked, Dropped}
+use Rattle.fluid_types.specs.declared.verdicts.Verdict.TheVariants.{Sequenced, Nacked, Dropped, Absorbed}
 use Rattle.fluid_types.specs.contracts.messages.Message as messages
 use Rattle.fluid_types.specs.contracts.verdicts.Verdict as verdicts
 use Rattle.fluid_types.specs.Ledger.{Ledger, order, messages_of}
@@ -80,6 +80,7 @@ abbrev pub note_for : List Message → Verdict → Option scribing.Prepared
 note_for messages (Sequenced m) = Some (scribing.prepared messages m)
 note_for messages (Nacked nack) = None
 note_for messages Dropped = None
+note_for messages Absorbed = None
 
 -- the message of a verdict with what is kept beside it, where there are both
 abbrev pub with_note : Verdict → Option ScribeNote → Option scribing.Prepared
@@ -87,6 +88,7 @@ with_note (Sequenced m) (Some note) = Some (scribing.with_note m note)
 with_note (Sequenced m) None = None
 with_note (Nacked nack) beside = None
 with_note Dropped beside = None
+with_note Absorbed beside = None
 
 -- what an entry is prepared as
 unfoldable pub prepared : State → Raw → Prepared
@@ -131,6 +133,7 @@ abbrev pub note_of : List Message → Verdict → Option ScribeNote
 note_of messages (Sequenced m) = Some (scribing.note_of messages m)
 note_of messages (Nacked nack) = None
 note_of messages Dropped = None
+note_of messages Absorbed = None
 
 abbrev pub noted : Option scribing.Prepared → List Message
 noted None = []

@@ -5,7 +5,7 @@ use Rattle.fluid_types.specs.Fits.{Fits}
 use Rattle.fluid_types.specs.declared.entries.Raw.{Raw}
 use Rattle.fluid_types.specs.declared.messages.Message.{Message}
 use Rattle.fluid_types.specs.declared.verdicts.Verdict.{Verdict}
-use Rattle.fluid_types.specs.declared.verdicts.Verdict.TheVariants.{Sequenced, Nacked, Dropped}
+use Rattle.fluid_types.specs.declared.verdicts.Verdict.TheVariants.{Sequenced, Nacked, Dropped, Absorbed}
 use Rattle.fluid_types.specs.Ledger.{messages_of}
 use Rattle.fluid_rules.specs.Counted.{is_counted}
 use Rattle.fluid_log.specs.Keeping.{Content}
@@ -31,11 +31,13 @@ one_message : (v : Verdict) → length (messages_of v) ≤ 1
 one_message (Sequenced m) = omega arith
 one_message (Nacked nack) = omega arith
 one_message Dropped = omega arith
+one_message Absorbed = omega arith
 
 pub listed : (v : Verdict) → option_to_list (message_of v) ≡ messages_of v
 listed (Sequenced m) = refl
 listed (Nacked nack) = refl
 listed Dropped = refl
+listed Absorbed = refl
 
 pub sequence_few : (f : Folding) → IsLevelled f → f.entered < most → f.state.sequencer.sequence < 2 ^ 53 - 1
 sequence_few f level few = omega (arith, level.sequenced, few)

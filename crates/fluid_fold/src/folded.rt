@@ -235,7 +235,7 @@ fn message_of(alloc: Global, verdict: &Verdict) -> Result<Option<Message>, NoMem
             let copy = message.copy(alloc)?;
             Ok(Some(copy))
         }
-        Verdict::Nacked(_) | Verdict::Dropped => Ok(None),
+        Verdict::Nacked(_) | Verdict::Dropped | Verdict::Absorbed => Ok(None),
     }
 }
 

@@ -1,10 +1,9 @@
 -- A lane's standing as a tuple of its parts, for the proofs that tell values apart.
 use Rattle.std.specs.Prelude.{ℕ, Bool, List, Option, refl}
 use Rattle.std.specs.Coded.{Coded, code_by, coded×, coded_ℕ, coded_bool, coded_list, coded_option}
-use Rattle.std.specs.FinMap.{code}
 use Rattle.fluid_types.specs.declared.messages.Message.{Message}
 use Rattle.fluid_types.specs.contracts.messages.Message as messages
-use Rattle.fluid_clients.specs.Table.{Rows, row_code}
+use Rattle.fluid_ticket.specs.State.{State, state_code}
 use Rattle.fluid_log.specs.Keeping.{Keeping}
 use Rattle.fluid_log.specs.Codes.{keeping_code}
 use Rattle.fluid_fold.specs.Folding.{Folding}
@@ -16,10 +15,10 @@ use Rattle.fluid_lane.specs.Standing.{Standing}
 
 abbrev folding_code : Coded Folding
 folding_code =
-    code_by (ℕ × (Rows × (List Message × (ℕ × (List Message × (ℕ × ℕ))))))
-    (coded× coded_ℕ (coded× (code (coded_list coded_ℕ) row_code) (coded× (coded_list messages.the_row.coded) (coded× coded_ℕ (coded× (coded_list messages.the_row.coded) (coded× coded_ℕ coded_ℕ))))))
-    (λ f. (f.state.sequencer.sequence, (f.state.sequencer.rows, (f.state.messages, (f.before, (f.held, (f.entered, f.counted)))))))
-    (λ p. record { state = record { sequencer = record { sequence = p.0; rows = p.1.0 }; messages = p.1.1.0 }; before = p.1.1.1.0; held = p.1.1.1.1.0; entered = p.1.1.1.1.1.0; counted = p.1.1.1.1.1.1 })
+    code_by (State × (List Message × (ℕ × (List Message × (ℕ × ℕ)))))
+    (coded× state_code (coded× (coded_list messages.the_row.coded) (coded× coded_ℕ (coded× (coded_list messages.the_row.coded) (coded× coded_ℕ coded_ℕ)))))
+    (λ f. (f.state.sequencer, (f.state.messages, (f.before, (f.held, (f.entered, f.counted))))))
+    (λ p. record { state = record { sequencer = p.0; messages = p.1.0 }; before = p.1.1.0; held = p.1.1.1.0; entered = p.1.1.1.1.0; counted = p.1.1.1.1.1 })
     (λ _. refl)
 
 abbrev pub standing_code : Coded Standing

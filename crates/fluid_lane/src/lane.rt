@@ -615,6 +615,6 @@ fn sequenced(verdict: Verdict) -> Message
 {
     match verdict {
         Verdict::Sequenced(message) => message,
-        Verdict::Nacked(_) | Verdict::Dropped => unreachable!(),
+        Verdict::Nacked(_) | Verdict::Dropped | Verdict::Absorbed => unreachable!(),
     }
 }

@@ -5,7 +5,7 @@ use Rattle.std.proofs.lemmas.List.{take_more, length-take}
 use Rattle.fluid_types.specs.declared.entries.Raw.{Raw}
 use Rattle.fluid_types.specs.declared.messages.Message.{Message}
 use Rattle.fluid_types.specs.declared.verdicts.Verdict.{Verdict}
-use Rattle.fluid_types.specs.declared.verdicts.Verdict.TheVariants.{Sequenced, Nacked, Dropped}
+use Rattle.fluid_types.specs.declared.verdicts.Verdict.TheVariants.{Sequenced, Nacked, Dropped, Absorbed}
 use Rattle.fluid_types.specs.Ledger.{Ledger, messages_of, order, seq}
 use Rattle.fluid_types.specs.Quorum.{Quorum, quorum_of}
 use Rattle.fluid_types.proofs.Ledgers.{order-push}
@@ -44,6 +44,7 @@ first-behind ledger raw (Sequenced m) first is =
     let next = message-number ledger raw m (verdict-is_message ledger raw m is) in numbered_more (order ledger) m 1 first (omega (arith, next))
 first-behind ledger raw (Nacked nack) first is = rw (append-nil (order ledger)) first
 first-behind ledger raw Dropped first is = rw (append-nil (order ledger)) first
+first-behind ledger raw Absorbed first is = rw (append-nil (order ledger)) first
 
 begins_first : AreFirst (order [])
 unfolding order

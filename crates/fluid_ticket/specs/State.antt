@@ -29,6 +29,14 @@ pub record State : Type 0 where
   pub last_minimum : ℕ
   pub rows : Rows
 
+-- as a tuple of its parts
+abbrev pub state_code : Coded State
+state_code =
+    code_by (ℕ × (ℕ × Rows)) (coded× coded_ℕ (coded× coded_ℕ (code (coded_list coded_ℕ) row_code)))
+    (λ s. (s.sequence, (s.last_minimum, s.rows)))
+    (λ parts. record { sequence = parts.0; last_minimum = parts.1.0; rows = parts.1.1 })
+    (λ _. refl)
+
 -- nothing was sequenced and nobody is joined
 abbrev pub start : State
 start = record { sequence = 0; last_minimum = 0; rows = empty }
@@ -190,10 +198,7 @@ pub record Sequencing : Type 0 where
 
 abbrev pub sequencing_code : Coded Sequencing
 sequencing_code =
-    code_by (ℕ × (ℕ × (Rows × ℕ))) (coded× coded_ℕ (coded× coded_ℕ (coded× (code (coded_list coded_ℕ) row_code) coded_ℕ)))
-    (λ q. (q.state.sequence, (q.state.last_minimum, (q.state.rows, q.spare))))
-    (λ parts. record { state = record { sequence = parts.0; last_minimum = parts.1.0; rows = parts.1.1.0 }; spare = parts.1.1.1 })
-    (λ _. refl)
+    code_by (State × ℕ) (coded× state_code coded_ℕ) (λ q. (q.state, q.spare)) (λ parts. record { state = parts.0; spare = parts.1 }) (λ _. refl)
 
 -- the ready is that of an entry in the state that the sequencer is in, with the room that it may need
 pub record IsPreparedIn (q : Sequencing) (ready : Prepared) : Type 0 where

@@ -3,6 +3,7 @@ ghost use Rattle.std.specs.Prelude.{◌≡◌, ℕ, ◌+◌, ◌-◌, ◌*◌, �
 ghost use Rattle.fluid_io.specs.Causes.{HasExactCause};
 ghost use Rattle.fluid_io.specs.Streams.{Appends, AppendsFront};
 ghost use Rattle.fluid_io.specs.declared.lines.TheConstants.{MOST_LINES};
+ghost use Rattle.fluid_types.specs.Fits.{IsInRange};
 ghost use Rattle.fluid_types.specs.Ledger.{Ledger};
 ghost use Rattle.std.specs.FinMap.{len};
 ghost use Rattle.fluid_rules.specs.Counted.{is_counted};
@@ -84,7 +85,8 @@ impl Document {
 
     // Enters a raw entry that isn't refused.
     fn admit(&mut self, alloc: Global, limits: Limits, raw: &Raw) -> Result<(), Untaken>
-        requires { IsWithin MOST_LINES self.old }
+        requires few { IsWithin MOST_LINES self.old }
+        requires in_range { IsInRange raw.now }
         ensures within { (n : ℕ) → IsWithin n self.old → IsWithin (n + 1) self.new }
         ensures admits { (gone : List ℕ) (l : Ledger) → Stands gone l self.old → Admits limits gone l raw.now self.new result }
     {
@@ -129,7 +131,8 @@ impl Document {
 
     // Enters a raw entry, and puts the line of its verdict behind those that wait.
     fn enter(&mut self, alloc: Global, raw: &Raw) -> Result<(), NoMemory>
-        requires { IsWithin MOST_LINES self.old }
+        requires few { IsWithin MOST_LINES self.old }
+        requires in_range { IsInRange raw.now }
         ensures within { (n : ℕ) → IsWithin n self.old → IsWithin (n + 1) self.new }
         ensures entered { OnOk result ((gone : List ℕ) (l : Ledger) → Stands gone l self.old → Stands gone (with_entry l raw.now) self.new) }
         ensures kept { OnErr result ((gone : List ℕ) (l : Ledger) → Stands gone l self.old → Stands gone l self.new) }
