@@ -10,4 +10,4 @@ mod tests;
 
 pub use front::{Front, FrontFault, MemoryFront};
 pub use handler::{Gate, Handler, OpenGate};
-pub use spawner::{FrontEnd, HereSpawner, Spawner, ThreadSpawner};
+pub use spawner::{Ended, FrontEnd, HereSpawner, Spawner, ThreadSpawner};

@@ -39,9 +39,9 @@ fn enter_all<R: Wait>(
     mut seat: Seat<Numbers>,
     first: u64,
 ) -> (Seat<Numbers>, Result<(), AllocError>)
-    requires turn { seat.turn ≡ turn.now.id }
+    requires turn { seat.turn ≡ turn.now }
     requires fits { first + EACH < 2 ^ 64 }
-    ensures { result.0.turn ≡ turn.now.id }
+    ensures { result.0.turn ≡ turn.now }
 {
     for number in first..first + EACH {
         let mut held = turn.take_noted(rt, seat);
@@ -123,8 +123,8 @@ fn write<R: Wait>(
     page: u32,
     text: &str,
 ) -> Result<Seat<Notebook>, NoMemory>
-    requires { seat.turn ≡ turn.now.id }
-    ensures turn { IfOk result (λ after. after.turn ≡ turn.now.id) }
+    requires { seat.turn ≡ turn.now }
+    ensures turn { IfOk result (λ after. after.turn ≡ turn.now) }
     ensures mine { IfOk result (λ after. after.mine ≡ seat.mine ++ record { page = page; text = text.now } ∷ []) }
 {
     let line = Line {
