@@ -201,7 +201,9 @@ fn joined(rt: &impl Abort, alloc: Global, raw: &Raw, message: &Message) -> Strin
 
 fn join(rt: &impl Abort, alloc: Global, lane: &mut Lane<MemoryKeeper>) -> String {
     let number = lane.entered();
-    assert!(rt; number <= LAST_MOMENT);
+    if number > LAST_MOMENT {
+        panic!(rt; "no number of an entry");
+    }
     let (scopes, detail) = client(rt, alloc);
     let answer = lane.join(alloc, scopes, detail, 4);
     let told = match &answer {
