@@ -159,6 +159,7 @@ fn numbers(alloc: Global, verdict: &Verdict) -> Result<String, Fail> {
             Ok(format!(in alloc; "{rule:?}")?)
         }
         Verdict::Dropped => Ok(String::from_str(alloc, "dropped")?),
+        Verdict::Absorbed => Ok(String::from_str(alloc, "absorbed")?),
     }
 }
 
