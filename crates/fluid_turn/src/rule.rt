@@ -15,7 +15,8 @@ pub struct TurnRule<T> {
 }
 
 // The table is told what the turn began with.
-impl<T: Chronicle> TableRule<Option<T>, View<T::Entry>, Origin<T::Entry, T::Fixed>> for TurnRule<T> {
+impl<T: Chronicle> TableRule<Option<T>, View<T::Entry>, Origin<T::Entry, T::Fixed>>
+    for TurnRule<T> {
     ghost holds = { λ key. Kept (StandsFixed T.stands T.fixed key.fixed) key.began };
 
     ghost first = { λ _. opening_view };

@@ -3,9 +3,9 @@ ghost use Rattle.fluid_types.specs.Fits.{Fits};
 
 use fluid_checkpoint::CheckpointFault;
 use fluid_codec::read_raw;
-use fluid_readback::read_entries_fit;
 use fluid_fold::{Folded, LaneFault, MOST, enter, load};
 use fluid_log::{Keeper, LONGEST_KEPT, MemoryKeeper};
+use fluid_readback::read_entries_fit;
 use fluid_types::{Raw, Verdict};
 use std::alloc::Global;
 use std::process::Abort;

@@ -7,11 +7,11 @@ ghost use Rattle.fluid_lane.specs.Standing.{IsLeaveOrSubmission};
 
 use fluid_checkpoint::CheckpointFault;
 use fluid_codec::{Event, read_event, read_raw};
-use fluid_readback::{leaves_and_reports_fit, read_entries_fit};
 use fluid_io::{FaultNote, LAST_MOMENT};
 use fluid_json::Json;
 use fluid_lane::{Lane, LaneFault, Side};
 use fluid_log::MemoryKeeper;
+use fluid_readback::{leaves_and_reports_fit, read_entries_fit};
 use fluid_types::{Message, Raw, Scopes, Verdict};
 use std::alloc::Global;
 use std::process::Abort;

@@ -17,6 +17,7 @@ returns g c =
     let at = rw c.deref.ensures.value at c.place_of-at.ensures in
     let entry = c.index_mut-pair.result.now in
     let key = key_read _ _ _ c.self.invariant c.args.key.now _ at entry c.index_mut-pair.ensures.value in
-    rw (← c.self.view_is)
-    ((refl, λ w. with_values _ _ _ (insert_there _ _ _ c.self.invariant c.args.key.now _ at (entry.0, w) key)),
-    value_read _ _ _ c.self.invariant c.args.key.now _ at entry c.index_mut-pair.ensures.value)
+    rw (← c.self.view_is) (
+      (refl, λ w. with_values _ _ _ (insert_there _ _ _ c.self.invariant c.args.key.now _ at (entry.0, w) key)),
+      value_read _ _ _ c.self.invariant c.args.key.now _ at entry c.index_mut-pair.ensures.value,
+    )
