@@ -9,13 +9,23 @@ pub(crate) fn told(alloc: Global, text: &str) -> Result<Text, NoMemory> {
     let mut entries = SortedMap::new(alloc);
     let mut told = String::new(alloc);
     for call in text.split("; ") {
-        let answer = answer(alloc, &mut entries, call)?;
-        if !told.is_empty() {
-            told.push_str("; ")?;
-        }
-        told.push_str(answer.as_str())?;
+        tell(alloc, &mut entries, call, &mut told)?;
     }
     Ok(Text::new(told))
+}
+
+fn tell(
+    alloc: Global,
+    entries: &mut SortedMap<Text, u64>,
+    call: &str,
+    told: &mut String,
+) -> Result<(), NoMemory> {
+    let answer = answer(alloc, entries, call)?;
+    if !told.is_empty() {
+        told.push_str("; ")?;
+    }
+    told.push_str(answer.as_str())?;
+    Ok(())
 }
 
 fn answer(alloc: Global, entries: &mut SortedMap<Text, u64>, call: &str) -> Result<Text, NoMemory> {

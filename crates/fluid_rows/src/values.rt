@@ -67,12 +67,16 @@ pub(crate) fn made(alloc: Global, what: &str) -> Result<Text, NoMemory> {
 
 // A list of three and a text, under two keys.
 fn value(alloc: Global) -> Result<Json, NoMemory> {
-    let items = items(alloc)?;
-    let text = Text::copied(alloc, "x")?;
     let mut pairs = Pairs::with_capacity(alloc, 2)?;
-    pairs.push(Text::copied(alloc, "a")?, Json::list(items))?;
-    pairs.push(Text::copied(alloc, "b")?, Json::text(text))?;
+    push_members(alloc, &mut pairs)?;
     Ok(Json::object(pairs))
+}
+
+fn push_members(alloc: Global, pairs: &mut Pairs) -> Result<(), NoMemory> {
+    let key = Text::copied(alloc, "a")?;
+    pairs.push(key, Json::list(items(alloc)?))?;
+    let key = Text::copied(alloc, "b")?;
+    pairs.push(key, Json::text(Text::copied(alloc, "x")?))
 }
 
 fn items(alloc: Global) -> Result<Items, NoMemory> {
@@ -113,17 +117,25 @@ fn length(items: Option<Items>) -> usize {
 // Tokens behind a line.
 fn tokens(alloc: Global) -> Result<Text, NoMemory> {
     let mut out = Printer::behind(Vec::from_slice(alloc, b"line ")?);
-    let value = value(alloc)?;
+    push_tokens(alloc, &mut out)?;
+    let bytes = out.into_vec();
+    crate::words::text_of(alloc, &bytes)
+}
+
+fn push_tokens(alloc: Global, out: &mut Printer) -> Result<(), NoMemory> {
     out.begin_object()?;
     out.key("a")?;
-    numbers(&mut out)?;
+    numbers(out)?;
     out.key("b")?;
     out.text("\"")?;
     out.key("c")?;
-    out.value(&value)?;
-    out.end_object()?;
-    let bytes = out.into_vec();
-    crate::words::text_of(alloc, &bytes)
+    push_value(alloc, out)?;
+    out.end_object()
+}
+
+fn push_value(alloc: Global, out: &mut Printer) -> Result<(), NoMemory> {
+    let value = value(alloc)?;
+    out.value(&value)
 }
 
 fn numbers(out: &mut Printer) -> Result<(), NoMemory> {
