@@ -171,7 +171,8 @@ impl Core {
     pub fn job(&mut self, alloc: Global) -> Result<Option<Job>, NoMemory>
         ensures same { self.new ≡ self.old }
         ensures job { IfOk result (λ given. given ≡ job self.old.state.messages) }
-        ensures sequenced { IfOk result (λ given. IfSome given (λ job. IsUpTo self.old.state.sequencer.sequence job.summary)) }
+        ensures sequenced { IfOk result (λ given.
+            IfSome given (λ job. IsUpTo self.old.state.sequencer.sequence job.summary)) }
     {
         self.scribe.job(alloc)
     }

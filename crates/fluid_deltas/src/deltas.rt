@@ -116,7 +116,8 @@ impl Deltas {
     pub fn held(&self, from: u64, to: u64) -> Option<&[Message]>
         ensures known { IsSome result ↔ AreHeld self.now from to }
         ensures messages { IfSome result (λ messages. messages.now ≡ held_between self.now (from - 1) (to - 1)) }
-        ensures slice { (order : List Message) → AreEndOf self.now order → IfSome result (λ messages. messages.now ≡ slice order from to) }
+        ensures slice { (order : List Message) → AreEndOf self.now order →
+            IfSome result (λ messages. messages.now ≡ slice order from to) }
     {
         if to <= from {
             return Some(&[]);
