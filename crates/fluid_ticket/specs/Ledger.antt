@@ -1,6 +1,6 @@
 -- The state of a ledger.
-use Rattle.std.specs.Prelude.{◌≡◌, ℕ, List, map}
-use Rattle.std.specs.FinMap.{from_entries}
+use Rattle.std.specs.Prelude.{◌≡◌, ℕ, List, map, length}
+use Rattle.std.specs.FinMap.{from_entries, keys, len}
 use Rattle.fluid_types.specs.declared.entries.Raw.{Raw}
 use Rattle.fluid_types.specs.declared.entries.Raw.TheVariants.{Join, Leave, Submit, Report}
 use Rattle.fluid_types.specs.Ledger.{Ledger, order, seq}
@@ -31,6 +31,14 @@ state_of ledger = record {
 -- a state stands for a ledger where it is what the ledger says
 pub record StandsFor (s : State) (ledger : Ledger) : Type 0 where
   pub is : s ≡ state_of ledger
+
+-- the rows of a state that stands for a ledger are those of the joined clients, in byte order of their ids, and as many
+pub record HasJoinedRows (s : State) (ledger : Ledger) : Type 0 where
+  pub ids : keys s.rows ≡ joined ledger
+  pub as_many : len s.rows ≡ length (joined ledger)
+
+abbrev pub RowsAreJoined : Type 0
+RowsAreJoined = (s : State) (ledger : Ledger) → StandsFor s ledger → HasJoinedRows s ledger
 
 -- the answer to an entry is the scribe's over the order of a ledger; only a report asks for one
 abbrev pub IsAnswered : Ledger → Raw → Answer → Type 0

@@ -5,8 +5,8 @@ use Rattle.fluid_fold.specs.Folding.{message_of}
 use Rattle.fluid_fold.proofs.Levels.{next-numbered, next-keepable, verdict_prepared}
 use Rattle.fluid_fold.proofs.folded.Folded.prepare.Goals as goal
 
-pub prepare_entry-entry-requires-clause-in_range : goal.prepare_entry-entry-requires-clause-in_range
-prepare_entry-entry-requires-clause-in_range c = fitting-in_range c.args.raw.now c.requires.fits
+pub prepare_entry-requires-clause-in_range : goal.prepare_entry-requires-clause-in_range
+prepare_entry-requires-clause-in_range c = fitting-in_range c.args.raw.now c.requires.fits
 
 pub returns-clause-ready : goal.returns-clause-ready
 returns-clause-ready c =
