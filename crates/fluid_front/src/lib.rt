@@ -5,8 +5,6 @@
 mod front;
 mod handler;
 mod spawner;
-#[cfg(test)]
-mod tests;
 
 pub use front::{Front, FrontFault, MemoryFront};
 pub use handler::{Gate, Handler, OpenGate};

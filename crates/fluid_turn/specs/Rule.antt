@@ -92,9 +92,9 @@ module _ {T E : Type 0} (stands : T → List E → Type 0) (began : List E) wher
     -- the turn began with an entry, or it bears the number of one seat, where seats that have ended count as well
     pub signed : IsSigned began (length s.views) log
 
--- the table has the three words, the 64 bays and the one slot
+-- the table has the three words, the 512 bays and the one slot
 abbrev pub IsTurnTable : TableId → Type 0
-IsTurnTable id = (id.words ≡ 67) × (id.slots ≡ 1)
+IsTurnTable id = (id.words ≡ 515) × (id.slots ≡ 1)
 
 -- a seat of the turn's table
 abbrev pub IsAtTable : TableId → TableId → Type 0

@@ -12,8 +12,6 @@ mod origin;
 mod rule;
 mod seat;
 mod steps;
-#[cfg(test)]
-mod tests;
 mod turn;
 mod view;
 

@@ -28,12 +28,12 @@ pub(crate) const COUNT: usize = 2;
 
 const BAYS: usize = 3;
 
-const BAY_COUNT: u64 = 64;
+const BAY_COUNT: u64 = 512;
 
-pub(crate) const WORDS: usize = 67;
+pub(crate) const WORDS: usize = 515;
 
 // How often a waiter looks before it sleeps.
-const LOOKS: u64 = 100;
+const LOOKS: u64 = 20;
 
 pub(crate) type Token<T> = Seat<Option<T>, View<<T as Chronicle>::Entry>>;
 
@@ -101,27 +101,15 @@ fn watch<T: Chronicle>(words: &Words<T>, ticket: u64) -> bool
     false
 }
 
-// Says in a bay that somebody is about to sleep there, and answers what the bay then has.
-fn lie_down<T: Chronicle>(words: &Words<T>, token: &mut Token<T>, bay: usize) -> u64
-    requires turn { IsAtTable words.now.table_id token.old.table_id }
-    requires bay { (COUNT < bay) × (bay < WORDS) }
-    ensures same { (token.new.table_id ≡ token.old.table_id) × (token.new.id ≡ token.old.id) }
-    ensures view { token.new.me ≡ token.old.me }
-{
-    words.fetch_or::<Ring>(token, bay, 1) | 1
-}
-
-// Wakes those who sleep in the bay of this ticket.
+// Wakes who sleeps in the bay of this ticket.
 fn ring<T: Chronicle>(words: &Words<T>, token: &mut Token<T>, ticket: u64)
     requires turn { IsAtTable words.now.table_id token.old.table_id }
     ensures same { (token.new.table_id ≡ token.old.table_id) × (token.new.id ≡ token.old.id) }
     ensures view { token.new.me ≡ token.old.me }
 {
     let bay = bay_of(ticket);
-    if words.peek(bay) % 2 == 1 {
-        words.fetch_add::<Ring>(token, bay, 1);
-        words.wake_all(bay);
-    }
+    words.fetch_add::<Ring>(token, bay, 1);
+    words.wake_all(bay);
 }
 
 // Waits until the ticket is served.
@@ -138,18 +126,14 @@ pub(crate) fn wait<T: Chronicle, W: Picks<T, T::Entry>, R: Wait>(
     ensures served { HasValue W.tells ticket token.old.me.0 token.new.me }
 {
     let bay = bay_of(ticket);
+    let _served = watch(words, ticket);
     for _ in rt.forever() {
-        let mut bell = None;
-        if !watch(words, ticket) {
-            bell = Some(lie_down(words, token, bay));
-        }
+        let bell = words.peek(bay);
         let serving = look::<T, W>(words, token, ticket);
         if serving == ticket {
             return;
         }
-        if let Some(bell) = bell {
-            words.park(rt, bay, (bell % (1 << 32)) as u32);
-        }
+        words.park(rt, bay, (bell % (1 << 32)) as u32);
     }
     unreachable!()
 }
@@ -187,12 +171,12 @@ pub(crate) fn enter<T: Chronicle, W: Picks<T, T::Entry>>(
 
 // Serves the next ticket, with the value at home again, and wakes who sleeps with it.
 //
-// No wake is lost. Who waits says so in its bay (an odd number), looks which ticket is served, and sleeps only while the bay
-// has the number that it left there. Who passes on stores the ticket and looks into the bay then. Where the waiter's look
-// didn't see the ticket, it stands before that store, and what it said in the bay too: so either the bay is odd here, and
-// changes and is woken; or it has changed since, by somebody who wakes it behind that change. In both cases a waiter that slept
-// before the change is woken, and one that was about to sleep finds another number and doesn't. A bay's number only grows, and
-// while one ticket waits, by fewer than 2^32, so that its low 32 bits, by which one sleeps, differ too.
+// No wake is lost. Who waits reads the number of its bay, looks which ticket is served, and sleeps only while the bay has that
+// number. Who passes on stores the ticket, adds one to the ticket's bay and wakes who sleeps there. Where the waiter's look
+// didn't see the ticket, it stands before that store, and its reading of the bay too, so that the bay has another number
+// behind the addition: a waiter that slept before it is woken, and one that was about to sleep doesn't. While one ticket waits
+// its bay grows at most once for each ticket before it, by fewer than 2^32, so that the low 32 bits, by which one sleeps,
+// differ too. With no more waiters than bays each sleeps alone; else those of one bay are woken together, and sleep again.
 // Who draws a ticket behind the look at the tickets finds it served, so that nobody need be woken where none was drawn.
 pub(crate) fn pass_on<T: Chronicle>(words: &Words<T>, token: &mut Token<T>, ticket: u64)
     requires turn { IsAtTable words.now.table_id token.old.table_id }
