@@ -1,3 +1,6 @@
 pub mod Each
 pub mod Told
-pub mod Kinds
+pub mod Attached
+pub mod Nodes
+pub mod Laid
+pub mod Marked

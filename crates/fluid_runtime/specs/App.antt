@@ -1,8 +1,9 @@
 -- A client's channels, and what they stand for.
-use Rattle.std.specs.Prelude.{◌≡◌, ℕ, ◌^◌, List, [], ◌∷◌, Bool, true, false, ◌&&◌, Option, Some, None, option_and_then, is_some, if◌then◌else◌, drop, map}
+use Rattle.std.specs.Prelude.{◌≡◌, ℕ, ◌^◌, List, [], ◌∷◌, Bool, true, false, ◌&&◌, Option, Some, None, option_and_then, is_some, Result, Ok, Err, if◌then◌else◌, drop, map}
 use Rattle.std.specs.List.{filter_map}
 use Rattle.std.specs.FinMap.{entries, from_sorted, get, insert}
 use Rattle.fluid_table.specs.Table as table
+use Rattle.fluid_types.specs.declared.fault.BlobFault.{BlobFault}
 use Rattle.fluid_types.specs.declared.messages.Message.{Message}
 use Rattle.fluid_edits.specs.declared.edit.Edit.{Edit}
 use Rattle.fluid_edits.specs.Forms.{address_of, edit_of, of_op}
@@ -36,7 +37,7 @@ after_message channels message = after_any channels (edit_of message)
 
 -- an own op takes the oldest edit off, where there is one
 abbrev pub is_op : Message → Bool
-is_op message = is_some (of_op message.kind (Some tt))
+is_op message = is_some (of_op message.kind (Some true))
 
 abbrev pub left : Bool → Message → List Edit → List Edit
 left own message edits = if own && is_op message then drop 1 edits else edits
@@ -67,3 +68,8 @@ most_taken = 2 ^ 64
 -- an app of these channels, with nothing pending and without a mark
 abbrev pub loaded : Channels → AnApp
 loaded channels = record { channels = channels; changed = all_are true channels; pending = []; room = most_taken }
+
+-- what is answered of channels, of the app of these channels
+abbrev pub loaded_if : Result Channels BlobFault → Result AnApp BlobFault
+loaded_if (Ok channels) = Ok (loaded channels)
+loaded_if (Err fault) = Err fault

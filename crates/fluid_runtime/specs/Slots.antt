@@ -1,8 +1,10 @@
 -- The channels as they are kept.
-use Rattle.std.specs.Prelude.{◌≡◌, ℕ, ◌+◌, ◌*◌, ◌^◌, ◌≤◌, List, [], map, Bool, true, Option, Some, None, nat_lt, unsigned_abs}
+use Rattle.std.specs.Prelude.{◌≡◌, ℕ, ◌+◌, ◌*◌, ◌^◌, ◌≤◌, List, [], ◌∷◌, map, Bool, true, if◌then◌else◌, Option, Some, None, nat_lt, unsigned_abs}
 use Rattle.std.specs.FinMap.{entries, from_sorted, get, insert}
 use Rattle.fluid_table.specs.Table as table
 use Rattle.fluid_edits.specs.Replay.{Channel, a_map, a_counter, Channels}
+use Rattle.fluid_tree.specs.Summary.{Summary, handle}
+use Rattle.fluid_runtime.specs.AppTree.{channel_node}
 use Rattle.fluid_runtime.specs.declared.slots.Object.{Object}
 use Rattle.fluid_runtime.specs.declared.slots.Object.TheVariants.{Map, Counter}
 use Rattle.fluid_runtime.specs.declared.slots.Slot.{Slot}
@@ -80,3 +82,7 @@ IsTold number at before behind (Some channel) = IsPut number at before behind ch
 abbrev pub IsKnown : ℕ → Option ℕ → Type 0
 IsKnown taken None = Unit {0}
 IsKnown taken (Some mark) = mark ≤ taken
+
+-- the node of a channel in a tree that tells what has changed since the mark: a handle of its address where nothing has
+abbrev pub node_at : Option ℕ → List ℕ → Slot → Summary
+node_at mark at slot = if is_changed mark slot then channel_node (channel_of slot) else handle (at ∷ [])

@@ -1,28 +1,25 @@
 // A client's channels.
-ghost use Rattle.std.specs.Prelude.{◌≡◌, ◌+◌, ◌<◌, ◌≤◌, [], ◌∷◌, ◌++◌, List, false, IsTrue, ◌↔◌, IfOk, OnOk, OnErr, option_map, result_map};
+ghost use Rattle.std.specs.Prelude.{◌≡◌, ◌+◌, ◌<◌, ◌≤◌, [], ◌∷◌, ◌++◌, List, false, IsTrue, ◌↔◌, IfOk, OnOk, OnErr, option_map};
 ghost use Rattle.std.specs.FinMap.{get};
 ghost use Rattle.fluid_json.specs.Unless.{IsUnless};
 ghost use Rattle.fluid_types.specs.declared.messages.Message.{Message as AMessage};
 ghost use Rattle.fluid_edits.specs.declared.edit.Edit.{Edit as AnEdit};
 ghost use Rattle.fluid_edits.specs.Forms.{edit_of};
-ghost use Rattle.fluid_edits.specs.Replay.{Channels, no_channels, kind_of};
+ghost use Rattle.fluid_edits.specs.Replay.{Channels, no_channels, attached, kind_of};
 ghost use Rattle.fluid_runtime.specs.App.{StandsFor, visible, after_message, left, changed_by, all_are, loaded};
-ghost use Rattle.fluid_runtime.specs.AppTree as summaries;
 ghost use Rattle.fluid_runtime.specs.AppTree.{app_tree, tree_since};
 ghost use Rattle.fluid_runtime.specs.Kinds.{first_attached};
 ghost use Rattle.fluid_runtime.specs.Refused as refused;
 ghost use Rattle.fluid_runtime.specs.Shown.{shown};
 
 use crate::fault::{EditFault, refusal};
-use crate::loading;
-use crate::shown;
-use crate::slots::{Slot, copy_slots, take};
-use crate::summary;
+use crate::slots::{Slot, copy_slots, lay, take};
+use crate::{shown, summary};
 use fluid_edits::{ChannelKind, Edit, spelled_edit};
 use fluid_json::{Json, NoMemory};
 use fluid_table::Entries;
 use fluid_tree::Node;
-use fluid_types::{BlobFault, Kind, Message};
+use fluid_types::{Kind, Message};
 use std::alloc::Global;
 use std::collections::VecDeque;
 use std::marker::Model;
@@ -90,14 +87,34 @@ impl App {
         ensures changed { OnOk result (self.new.changed ≡ changed_by self.old.channels self.old.changed (edit_of message.now)) }
         ensures kept { (self.old.room ≤ self.new.room + 1) × OnErr result (self.new ≡ self.old) }
     {
-        if let Some(edit) = spelled_edit(alloc, message)? {
-            take(alloc, &mut self.slots, self.taken + 1, edit)?;
-            self.taken += 1;
-        }
+        self.count(alloc, message)?;
+        self.take_off(own, message);
+        Ok(())
+    }
+
+    // Takes in what a message says to the channels.
+    fn count(&mut self, alloc: Global, message: &Message) -> Result<(), NoMemory>
+        requires { 0 < self.old.room }
+        ensures channels { OnOk result (self.new.channels ≡ after_message self.old.channels message.now) }
+        ensures changed { OnOk result (self.new.changed ≡ changed_by self.old.channels self.old.changed (edit_of message.now)) }
+        ensures pending { self.new.pending ≡ self.old.pending }
+        ensures kept { (self.old.room ≤ self.new.room + 1) × OnErr result (self.new ≡ self.old) }
+    {
+        let Some(edit) = spelled_edit(alloc, message)? else {
+            return Ok(());
+        };
+        take(alloc, &mut self.slots, self.taken + 1, edit)?;
+        self.taken += 1;
+        Ok(())
+    }
+
+    // Takes the oldest pending edit off for an op of this client's own.
+    fn take_off(&mut self, own: bool, message: &Message)
+        ensures { self.new ≡ record self.old { pending = left own message.now self.old.pending } }
+    {
         if own && message.kind == Kind::Op {
             drop(self.pending.pop_front());
         }
-        Ok(())
     }
 
     /// Lays an edit over what is shown, and gives the contents of its op. After a fault nothing has changed.
@@ -119,10 +136,11 @@ impl App {
     fn visible_kind(&self, address: &str) -> Option<ChannelKind>
         ensures { result ≡ option_map kind_of (get (visible self.now) address.now) }
     {
-        match self.slots.get(address) {
-            Some(slot) => Some(slot.object.kind()),
-            None => first_attached(&self.pending, address),
+        if let Some(slot) = self.slots.get(address) {
+            return Some(slot.object.kind());
         }
+        let (older, newer) = self.pending.as_slices();
+        first_attached(older, address).or(first_attached(newer, address))
     }
 
     /// Takes the newest pending edit back, where there is one. Takes no memory.
@@ -139,12 +157,10 @@ impl App {
         ensures { IfOk result (λ json. json ≡ shown (visible self.now)) }
     {
         let mut slots = copy_slots(alloc, &self.slots)?;
-        let mut number = self.taken;
-        for edit in self.pending.iter() {
-            let edit = edit.copy(alloc)?;
-            number += 1;
-            take(alloc, &mut slots, number, edit)?;
-        }
+        let (older, newer) = self.pending.as_slices();
+        let laid = self.taken + older.len() as u128;
+        lay(alloc, &mut slots, self.taken, older)?;
+        lay(alloc, &mut slots, laid, newer)?;
         shown::shown(alloc, &slots)
     }
 
@@ -153,20 +169,6 @@ impl App {
         ensures { IfOk result (λ node. node ≡ app_tree self.now.channels) }
     {
         summary::tree_of(alloc, &self.slots)
-    }
-
-    /// The channels that such a tree keeps, with nothing pending. Another tree is refused by the path of the first blob that
-    /// is missing or outside its form, in the order in which they stand.
-    pub fn from_tree(alloc: Global, tree: &Node) -> Result<App, BlobFault>
-        ensures { IsUnless BlobFault.NoMemory result (result_map loaded (summaries.answer tree.now)) }
-    {
-        let slots = loading::slots_of(alloc, tree)?;
-        Ok(App {
-            slots,
-            taken: 0,
-            mark: None,
-            pending: VecDeque::new(alloc),
-        })
     }
 
     /// From now on `to_tree_since` tells which channels have changed. Takes no memory.
@@ -186,15 +188,29 @@ impl App {
 }
 
 // The kind of the first attach of an address.
-fn first_attached(edits: &VecDeque<Edit>, address: &str) -> Option<ChannelKind>
-    ensures { result ≡ first_attached address.now edits.now.items }
+fn first_attached(edits: &[Edit], address: &str) -> Option<ChannelKind>
+    ensures { result ≡ first_attached address.now edits.now }
 {
-    for edit in edits.iter() {
-        if let Edit::Attach(own, kind) = edit {
-            if own.as_str() == address {
-                return Some(*kind);
-            }
+    for edit in edits {
+        if let Some(kind) = attached(edit, address) {
+            return Some(kind);
         }
     }
     None
+}
+
+// The kind of channel that an edit attaches at an address, if it attaches one there.
+fn attached(edit: &Edit, address: &str) -> Option<ChannelKind>
+    ensures { result ≡ attached address.now edit.now }
+{
+    match edit {
+        Edit::Attach(own, kind) => {
+            if address == own.as_str() {
+                Some(*kind)
+            } else {
+                None
+            }
+        }
+        _ => None,
+    }
 }

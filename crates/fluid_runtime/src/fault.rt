@@ -51,7 +51,11 @@ pub(crate) fn refusal(edit: &Edit, kind: Option<ChannelKind>) -> Option<EditFaul
         (Edit::Attach(_, _), Some(_)) => Some(EditFault::Exists),
         (_, None) => Some(EditFault::NoChannel),
         (Edit::Increment(_, amount), Some(ChannelKind::Counter)) => {
-            if is_in_range(*amount) { None } else { Some(EditFault::OutOfRange) }
+            if is_in_range(*amount) {
+                None
+            } else {
+                Some(EditFault::OutOfRange)
+            }
         }
         (Edit::Increment(_, _), Some(ChannelKind::Map)) => Some(EditFault::WrongKind),
         (_, Some(ChannelKind::Map)) => None,

@@ -5,14 +5,13 @@
 //! pending edits, oldest first. What is shown is the replay of the one on the other, made when it is asked for.
 //!
 //! - `app`: `App`. `fault`: why an edit is refused. `slots`: the channels that stand. `shown`: what a client shows, as JSON.
-//! - `summary` and `loading`: the tree in which a summary keeps the channels, written and read.
+//! - `summary`: the tree in which a summary keeps the channels.
 //!
 //! What edits and messages make of channels is defined in `fluid_edits` (`specs/Replay.antt`).
 #![tactic(auto)]
 
 mod app;
 mod fault;
-mod loading;
 mod shown;
 mod slots;
 mod summary;
@@ -20,4 +19,3 @@ mod summary;
 pub use app::App;
 pub use fault::EditFault;
 pub use fluid_edits::{ChannelKind, Edit, read_edit};
-pub use fluid_types::BlobFault;

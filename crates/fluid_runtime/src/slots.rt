@@ -1,8 +1,8 @@
 // The channels that stand, each under its address, with the number of the last edit that counted for it.
-ghost use Rattle.std.specs.Prelude.{◌≡◌, ℕ, ◌-◌, ◌^◌, ◌<◌, ◌≤◌, Some, IsTrue, IfOk, OnOk, OnErr, map};
+ghost use Rattle.std.specs.Prelude.{◌≡◌, ◌+◌, ◌-◌, ◌^◌, ◌<◌, ◌≤◌, Some, IsTrue, IfOk, OnOk, OnErr, length, map};
 ghost use Rattle.std.specs.FinMap.{get};
 ghost use Rattle.fluid_edits.specs.Forms.{address_of, is_in_range};
-ghost use Rattle.fluid_edits.specs.Replay.{kind_of, fresh, told_map, told_counter, told_attach, told};
+ghost use Rattle.fluid_edits.specs.Replay.{kind_of, fresh, told_map, told_counter, told_attach, told, replay_edits};
 ghost use Rattle.fluid_runtime.specs.Slots.{each, settled, settled_object, channel_of, channel_of_object, channels_of, IsQuiet, IsSound, IsToldSlot, IsTold};
 
 use fluid_counter::{CounterOp, SharedCounter};
@@ -99,6 +99,27 @@ pub(crate) fn take(
             Ok(())
         }
     }
+}
+
+/// Takes in copies of edits, behind so many that were taken in before.
+pub(crate) fn lay(
+    alloc: Global,
+    slots: &mut Entries<Slot>,
+    taken: u128,
+    edits: &[Edit],
+) -> Result<(), NoMemory>
+    requires sound { IsSound taken slots.old.values }
+    requires room { taken + length edits.now ≤ 2 ^ 66 }
+    ensures sound { OnOk result (IsSound (taken + length edits.now) slots.new.values) }
+    ensures channels { OnOk result (channels_of slots.new.values ≡ replay_edits (channels_of slots.old.values) edits.now) }
+{
+    let mut number = taken;
+    for edit in edits {
+        let edit = edit.copy(alloc)?;
+        number += 1;
+        take(alloc, slots, number, edit)?;
+    }
+    Ok(())
 }
 
 fn attach(

@@ -1,9 +1,8 @@
 // The tree in which a summary keeps channels.
-ghost use Rattle.std.specs.Prelude.{◌≡◌, ℕ, ◌++◌, [], ◌∷◌, Option, IfOk, OnOk, codes};
+ghost use Rattle.std.specs.Prelude.{◌≡◌, ◌++◌, [], ◌∷◌, IfOk, OnOk};
 ghost use Rattle.fluid_tree.specs.Summary.{blob, handle};
-ghost use Rattle.fluid_edits.specs.Replay.{kind_of};
-ghost use Rattle.fluid_runtime.specs.AppTree.{content_of, channel_node, app_tree, tree_since};
-ghost use Rattle.fluid_runtime.specs.Slots.{channel_of, channel_of_object, channels_of, changed_of, is_changed};
+ghost use Rattle.fluid_runtime.specs.AppTree.{channel_node, app_tree, tree_since};
+ghost use Rattle.fluid_runtime.specs.Slots.{channel_of_object, channels_of, changed_of, is_changed, node_at};
 
 use crate::slots::{Object, Slot};
 use fluid_json::{Bytes, NoMemory, Text};
@@ -16,8 +15,9 @@ use std::alloc::Global;
 pub(crate) fn tree_of(alloc: Global, slots: &Entries<Slot>) -> Result<Node, NoMemory>
     ensures { IfOk result (λ node. node ≡ app_tree (channels_of slots.now.values)) }
 {
+    let slice = slots.as_slice();
     let mut nodes = Nodes::new(alloc);
-    for (address, slot) in slots.as_slice() {
+    for (address, slot) in slice {
         let name = address.copy(alloc)?;
         let node = channel_node(alloc, &slot.object)?;
         nodes.push(name, node)?;
@@ -33,17 +33,25 @@ pub(crate) fn tree_since(
 ) -> Result<Node, NoMemory>
     ensures { IfOk result (λ node. node ≡ tree_since (changed_of mark slots.now.values) (channels_of slots.now.values)) }
 {
+    let slice = slots.as_slice();
     let mut nodes = Nodes::new(alloc);
-    for (address, slot) in slots.as_slice() {
+    for (address, slot) in slice {
         let name = address.copy(alloc)?;
-        let node = if is_changed(slot, mark) {
-            channel_node(alloc, &slot.object)?
-        } else {
-            handle_of(alloc, address)?
-        };
+        let node = node_at(alloc, mark, address, slot)?;
         nodes.push(name, node)?;
     }
     Ok(Node::tree(nodes))
+}
+
+// The node of a channel in such a tree.
+fn node_at(alloc: Global, mark: Option<u128>, address: &Text, slot: &Slot) -> Result<Node, NoMemory>
+    ensures { IfOk result (λ node. node ≡ node_at mark address.now slot.now) }
+{
+    if is_changed(slot, mark) {
+        channel_node(alloc, &slot.object)
+    } else {
+        handle_of(alloc, address)
+    }
 }
 
 /// Whether an edit behind the mark has counted for the channel; without a mark it has.

@@ -17,13 +17,14 @@ fresh_kind : (kind : ChannelKind) → kind_of (fresh kind) ≡ kind
 fresh_kind Map = refl
 fresh_kind Counter = refl
 
+by_attach : (at : List ℕ) (edits : List Edit) (kind : Option ChannelKind) → option_map kind_of (channel_behind at None edits) ≡ first_attached at edits
+    → option_map kind_of (channel_behind at (option_map fresh kind) edits) ≡ option_or kind (first_attached at edits)
+by_attach at edits None rest = rest
+by_attach at edits (Some kind) rest = ap Some (same_kind at (fresh kind) edits ∙ fresh_kind kind)
+
 kind_behind : (at : List ℕ) (edits : List Edit) → option_map kind_of (channel_behind at None edits) ≡ first_attached at edits
 kind_behind at [] = refl
-kind_behind at (edit ∷ edits) = by_attach (attached at edit)
-  where
-    by_attach : (kind : Option ChannelKind) → option_map kind_of (channel_behind at (option_map fresh kind) edits) ≡ option_or kind (first_attached at edits)
-    by_attach None = kind_behind at edits
-    by_attach (Some kind) = ap Some (same_kind at (fresh kind) edits ∙ fresh_kind kind)
+kind_behind at (edit ∷ edits) = by_attach at edits (attached at edit) (kind_behind at edits)
 
 -- a channel that stands keeps its kind
 pub kind_found : (channels : Channels) (edits : List Edit) (at : List ℕ) (channel : Channel) → get channels at ≡ Some channel
