@@ -3,15 +3,18 @@ ghost use Rattle.std.specs.Prelude.{◌≡◌, IfOk};
 ghost use Rattle.fluid_map.specs.Content.{object_of};
 
 use fluid_json::{Json, NoMemory, Pairs, Text};
-use fluid_table::Entries;
+use fluid_table::SortedMap;
 use std::alloc::Global;
 
 /// The same entries once more, with their own memory.
-pub(crate) fn copy_entries(alloc: Global, entries: &Entries<Json>) -> Result<Entries<Json>, NoMemory>
+pub(crate) fn copy_entries(
+    alloc: Global,
+    entries: &SortedMap<Text, Json>,
+) -> Result<SortedMap<Text, Json>, NoMemory>
     ensures { IfOk result (λ copy. copy.values ≡ entries.now.values) }
 {
     let pairs = copy_pairs(alloc, entries.as_slice())?;
-    Ok(Entries::of_sorted(pairs))
+    Ok(SortedMap::of_sorted(pairs))
 }
 
 fn copy_pairs(alloc: Global, pairs: &[(Text, Json)]) -> Result<Vec<(Text, Json)>, NoMemory>
@@ -27,7 +30,7 @@ fn copy_pairs(alloc: Global, pairs: &[(Text, Json)]) -> Result<Vec<(Text, Json)>
 }
 
 /// The object of the entries, which keep their own memory.
-pub(crate) fn object(alloc: Global, entries: &Entries<Json>) -> Result<Json, NoMemory>
+pub(crate) fn object(alloc: Global, entries: &SortedMap<Text, Json>) -> Result<Json, NoMemory>
     ensures { IfOk result (λ json. json ≡ object_of entries.now.values) }
 {
     let slice = entries.as_slice();

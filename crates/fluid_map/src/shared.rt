@@ -12,10 +12,9 @@ ghost use Rattle.fluid_map.specs.Replay.{Values, StandsFor, after, replay, shown
 ghost use Rattle.fluid_map.specs.Content.{content, answer, object_of};
 ghost use Rattle.fluid_map.specs.declared.operation.MapOp.{MapOp};
 
-use crate::content;
-use crate::copying;
 use crate::operation::MapOp;
 use crate::pending::Pending;
+use crate::{content, copying};
 use fluid_json::{Bytes, Json, NoMemory, Text};
 use fluid_table::SortedMap;
 use fluid_types::BlobFault;

@@ -16,8 +16,8 @@ use crate::fault::{EditFault, refusal};
 use crate::slots::{Slot, copy_slots, lay, take};
 use crate::{shown, summary};
 use fluid_edits::{ChannelKind, Edit, spelled_edit};
-use fluid_json::{Json, NoMemory};
-use fluid_table::Entries;
+use fluid_json::{Json, NoMemory, Text};
+use fluid_table::SortedMap;
 use fluid_tree::Node;
 use fluid_types::{Kind, Message};
 use std::alloc::Global;
@@ -30,7 +30,7 @@ const MOST_TAKEN: u128 = 1 << 64;
 /// The channels of a document as one client has them.
 #[derive(Drop)]
 pub struct App {
-    slots: Entries<Slot>,
+    slots: SortedMap<Text, Slot>,
     // How many edits the messages have made.
     taken: u128,
     // How many they had made at the last mark.
@@ -61,7 +61,7 @@ impl App {
         ensures stands { StandsFor no_channels [] [] result }
     {
         App {
-            slots: Entries::new(alloc),
+            slots: SortedMap::new(alloc),
             taken: 0,
             mark: None,
             pending: VecDeque::new(alloc),

@@ -8,12 +8,12 @@ ghost use Rattle.fluid_runtime.specs.Slots.{channel_of_object, channels_of};
 use crate::slots::{Object, Slot};
 use fluid_edits::ChannelKind;
 use fluid_json::{Json, NoMemory, Pairs, Text};
-use fluid_table::Entries;
+use fluid_table::SortedMap;
 use fluid_types::Word;
 use std::alloc::Global;
 
 /// The object of these channels.
-pub(crate) fn shown(alloc: Global, slots: &Entries<Slot>) -> Result<Json, NoMemory>
+pub(crate) fn shown(alloc: Global, slots: &SortedMap<Text, Slot>) -> Result<Json, NoMemory>
     ensures { IfOk result (λ json. json ≡ shown (channels_of slots.now.values)) }
 {
     let slice = slots.as_slice();

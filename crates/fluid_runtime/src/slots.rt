@@ -9,7 +9,7 @@ use fluid_counter::{CounterOp, SharedCounter};
 use fluid_edits::{ChannelKind, Edit, is_in_range};
 use fluid_json::{NoMemory, Text};
 use fluid_map::{MapOp, SharedMap};
-use fluid_table::Entries;
+use fluid_table::SortedMap;
 use fluid_types::Address;
 use std::alloc::Global;
 
@@ -75,7 +75,7 @@ impl Slot {
 /// Takes in the edit of this number, which is the next. After `NoMemory` the channels are as they were.
 pub(crate) fn take(
     alloc: Global,
-    slots: &mut Entries<Slot>,
+    slots: &mut SortedMap<Text, Slot>,
     number: u128,
     edit: Edit,
 ) -> Result<(), NoMemory>
@@ -104,7 +104,7 @@ pub(crate) fn take(
 /// Takes in copies of edits, behind so many that were taken in before.
 pub(crate) fn lay(
     alloc: Global,
-    slots: &mut Entries<Slot>,
+    slots: &mut SortedMap<Text, Slot>,
     taken: u128,
     edits: &[Edit],
 ) -> Result<(), NoMemory>
@@ -124,7 +124,7 @@ pub(crate) fn lay(
 
 fn attach(
     alloc: Global,
-    slots: &mut Entries<Slot>,
+    slots: &mut SortedMap<Text, Slot>,
     number: u128,
     address: &Address,
     kind: ChannelKind,
@@ -153,7 +153,7 @@ fn attach(
 
 fn tell_map(
     alloc: Global,
-    slots: &mut Entries<Slot>,
+    slots: &mut SortedMap<Text, Slot>,
     number: u128,
     address: &Address,
     op: MapOp,
@@ -197,7 +197,7 @@ fn map_told(slot: Slot, number: u128, op: MapOp) -> (Slot, Result<(), NoMemory>)
 
 fn tell_counter(
     alloc: Global,
-    slots: &mut Entries<Slot>,
+    slots: &mut SortedMap<Text, Slot>,
     number: u128,
     address: &Address,
     amount: i64,
@@ -245,11 +245,14 @@ fn counter_told(slot: Slot, number: u128, amount: i64) -> Slot
 // ---- copies
 
 /// The same channels once more, with their own memory.
-pub(crate) fn copy_slots(alloc: Global, slots: &Entries<Slot>) -> Result<Entries<Slot>, NoMemory>
+pub(crate) fn copy_slots(
+    alloc: Global,
+    slots: &SortedMap<Text, Slot>,
+) -> Result<SortedMap<Text, Slot>, NoMemory>
     ensures { IfOk result (λ copy. copy.values ≡ each settled slots.now.values) }
 {
     let pairs = copy_pairs(alloc, slots.as_slice())?;
-    Ok(Entries::of_sorted(pairs))
+    Ok(SortedMap::of_sorted(pairs))
 }
 
 fn copy_pairs(alloc: Global, slots: &[(Text, Slot)]) -> Result<Vec<(Text, Slot)>, NoMemory>

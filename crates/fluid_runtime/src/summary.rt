@@ -6,13 +6,13 @@ ghost use Rattle.fluid_runtime.specs.Slots.{channel_of_object, channels_of, chan
 
 use crate::slots::{Object, Slot};
 use fluid_json::{Bytes, NoMemory, Text};
-use fluid_table::Entries;
+use fluid_table::SortedMap;
 use fluid_tree::{Entries as Nodes, Node, Path};
 use fluid_types::Word;
 use std::alloc::Global;
 
 /// The tree of these channels.
-pub(crate) fn tree_of(alloc: Global, slots: &Entries<Slot>) -> Result<Node, NoMemory>
+pub(crate) fn tree_of(alloc: Global, slots: &SortedMap<Text, Slot>) -> Result<Node, NoMemory>
     ensures { IfOk result (λ node. node ≡ app_tree (channels_of slots.now.values)) }
 {
     let slice = slots.as_slice();
@@ -28,7 +28,7 @@ pub(crate) fn tree_of(alloc: Global, slots: &Entries<Slot>) -> Result<Node, NoMe
 /// The tree of these channels in which one that hasn't changed since the mark is a handle of its address.
 pub(crate) fn tree_since(
     alloc: Global,
-    slots: &Entries<Slot>,
+    slots: &SortedMap<Text, Slot>,
     mark: Option<u128>,
 ) -> Result<Node, NoMemory>
     ensures { IfOk result (λ node. node ≡ tree_since (changed_of mark slots.now.values) (channels_of slots.now.values)) }
