@@ -74,7 +74,6 @@ said_behind l c submission moment taken =
 module _ (l : Ledger) (c : List ℕ) (submission : Submission) (moment : ℕ) (v : Verdict) (taken : ℕ)
     (takes : (said : Client) → client_submitting (seq l) submission v said ≡ client_taking submission.client_number taken said)
     (next : IsNext l c submission) where
-
   abbrev after : Ledger
   after = l ++ (Submit c submission moment, v) ∷ []
 

@@ -295,9 +295,9 @@ abbrev pub client_behind : Entry → ℕ → ℕ → List ℕ → Option Client 
 client_behind (Join id scopes detail moment, verdict) sequence minimum c client =
     if bytes_eq id c
     then
-      (if is_sequenced verdict
-      then Some (record { last = 0; reference = minimum; nacked = false; scopes = scopes; heard = moment })
-      else option_map (client_heard moment) client)
+    (if is_sequenced verdict
+    then Some (record { last = 0; reference = minimum; nacked = false; scopes = scopes; heard = moment })
+    else option_map (client_heard moment) client)
     else client
 client_behind (Leave id moment, verdict) sequence minimum c client =
     if bytes_eq id c then (if is_sequenced verdict then None else option_map (client_heard moment) client) else client

@@ -361,7 +361,7 @@ lifted-state_of ledger c submission said is =
     let referring : Row → Row = λ row. record row { reference = taken } in
     let there : get (state_of ledger).rows c ≡ Some (rowed said) = get-state_of ledger c ∙ ap (option_map rowed) is in
     let told : (d : List ℕ) → get (change_row c referring (state_of ledger).rows) d ≡ option_map rowed (cond (bytes_eq c d) (Some other) (client ledger d)) =
-        λ d. get_changed (state_of ledger).rows c d referring (Some (rowed said)) there ∙ chosen (bytes_eq c d) (Some other) (client ledger d) (get (state_of ledger).rows d) (get-state_of ledger d) in
+    λ d. get_changed (state_of ledger).rows c d referring (Some (rowed said)) there ∙ chosen (bytes_eq c d) (Some other) (client ledger d) (get (state_of ledger).rows d) (get-state_of ledger d) in
     least-unique (λ d. cond (bytes_eq c d) (Some other) (client ledger d)) (seq ledger) _ _
     (rows_least (change_row c referring (state_of ledger).rows) (λ d. cond (bytes_eq c d) (Some other) (client ledger d)) (seq ledger) told)
     (lifted-least ledger c submission other refl)

@@ -110,8 +110,13 @@ module _ (s : State) (id : List ℕ) (moment : ℕ) where
     unfolding prepared verdict_in change_of message_in after unsettled
     submit_admitted answer row least_then there is moves high least_is =
         let reference : ℕ = given_or (s.sequence + 1) submission.reference in
-        rw (is, moves, reference_is (s.sequence + 1) (minimum s) submission.reference high, there,
-        with_row s.rows id row (record row { last = submission.client_number; reference = reference; heard = moment }) (s.sequence + 1) least_then there (least_is))
+        rw (
+          is,
+          moves,
+          reference_is (s.sequence + 1) (minimum s) submission.reference high,
+          there,
+          with_row s.rows id row (record row { last = submission.client_number; reference = reference; heard = moment }) (s.sequence + 1) least_then there (least_is),
+        )
 
 module _ (s : State) (summary : ℕ) (found : Bool) (moment : ℕ) where
   -- a report on a number that no message has, and one on another

@@ -380,10 +380,7 @@ fn dropped(alloc: Global, id: &ClientId, moment: u64) -> Result<Ready, NoMemory>
     ensures { IfOk result (λ ready. ready ≡ record { verdict = Verdict.Dropped; change = Change.Hears id.now moment }) }
 {
     let id = id.copy(alloc)?;
-    Ok(Ready::new(
-        Verdict::Dropped,
-        Change::Hears { id, moment },
-    ))
+    Ok(Ready::new(Verdict::Dropped, Change::Hears { id, moment }))
 }
 
 // A refusal below the minimum holds its client there; of any other one it is only heard.

@@ -23,7 +23,13 @@ fn join(rt: &impl Abort, alloc: Global, clients: &mut Clients, name: &str, refer
     clients.join(id, row).expect(rt, "memory");
 }
 
-fn least_with(rt: &impl Abort, alloc: Global, clients: &Clients, name: &str, reference: u64) -> u64 {
+fn least_with(
+    rt: &impl Abort,
+    alloc: Global,
+    clients: &Clients,
+    name: &str,
+    reference: u64,
+) -> u64 {
     let id = ClientId::read(alloc, name).expect(rt, "a name");
     assert!(rt; clients.row(&id).is_some());
     let least = clients.min_with(&id, reference);

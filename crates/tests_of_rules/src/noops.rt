@@ -32,9 +32,9 @@ fn raw_of(rt: &impl Abort, alloc: Global, entry: &Entry, moment: u64) -> Raw {
 
 fn entered(rt: &impl Abort, alloc: Global, sequencer: &mut Sequencer, raw: &Raw) -> Verdict {
     assert!(rt; sequencer.seq() < 1000 && raw.is_in_range());
-    let ready = sequencer.prepare(alloc, raw, &Answer::Dropped).expect(
-        rt, "memory",
-    );
+    let ready = sequencer
+        .prepare(alloc, raw, &Answer::Dropped)
+        .expect(rt, "memory");
     sequencer.commit(ready)
 }
 
@@ -95,7 +95,11 @@ fn a_marked_client_holds_noops_back(rt: HostRuntime) {
         (Entry::Op("B", 1, 3), Shown::At(4, 2), 2),
         // A noop below the minimum is refused as all else, and its client is marked.
         (Entry::Quiet("A", 2, 1), Shown::Nack(NackRule::Below), 2),
-        (Entry::Quiet("A", 3, 4), Shown::Nack(NackRule::Nonexistent), 2),
+        (
+            Entry::Quiet("A", 3, 4),
+            Shown::Nack(NackRule::Nonexistent),
+            2,
+        ),
         (Entry::Loud("B", 2, 4), Shown::Absorbed, 2),
         (Entry::Loud("B", 3, 5), Shown::Nack(NackRule::Ahead), 2),
         (Entry::Leave("A"), Shown::At(5, 4), 4),
@@ -153,10 +157,5 @@ fn assert_line(rt: &impl Abort, alloc: Global, verdict: &Verdict, wanted: &str) 
 
 #[test]
 fn an_absorbed_entry_has_its_line(rt: HostRuntime) {
-    assert_line(
-        &rt,
-        rt.alloc(),
-        &Verdict::Absorbed,
-        r#"{"absorbed":true}"#,
-    );
+    assert_line(&rt, rt.alloc(), &Verdict::Absorbed, r#"{"absorbed":true}"#);
 }
