@@ -8,7 +8,7 @@ use Rattle.std.specs.FinMap.Entries.{below_all, is_sorted}
 use Rattle.std.specs.FinMap.{entries, get, from_sorted, entries_sorted, get-entries}
 use Rattle.fluid_json.specs.Tree.{Tree, members, IsBelowAll, AreAscending}
 use Rattle.fluid_table.specs.Table.{byte_order, Values}
-use Rattle.fluid_table.proofs.Places.{byte_order_total}
+use Rattle.fluid_table.proofs.Places.{byte_order_total, same_pairs}
 use Rattle.fluid_table.proofs.Ordered.{first, second, less, find_at}
 use Rattle.fluid_tree.specs.Summary.{Summary, tree, children, handle}
 use Rattle.fluid_edits.specs.Replay.{Channel}
@@ -32,6 +32,10 @@ pushed_on f xs so_far behind n x made pushed first_ones within is made_is =
 
 pub at_end : {A B : Type 0} (f : A → B) (xs : List A) (so_far : List B) (n : ℕ) → so_far ≡ map f (take n xs) → length xs ≤ n → so_far ≡ map f xs
 at_end f xs so_far n is all = is ∙ ap (map f) (take_all n xs all)
+
+-- pairs of the keys' texts and the values are the pairs themselves
+pub listed : {V : Type 0} (m : Values V) (es : List (List ℕ × V)) → map (λ e. (e.0, e.1)) es ≡ entries m → es ≡ entries m
+listed m es is = sym (same_pairs es) ∙ is
 
 pub copies_are : (slots : Slots) (items : List (List ℕ × Slot)) → items ≡ map (λ e. (e.0, settled e.1)) (entries slots) → from_sorted items ≡ each settled slots
 copies_are slots items is = ap from_sorted is
