@@ -129,8 +129,8 @@ module _ (ms : List Message) (order : AreFirst ms) (back : Each IsReadAsItself m
     utf8 = subst AreTexts (sym same_quorum) utf8;
   }
 
-  kept : quorum.QuorumsAreReadBack → AreTexts (quorum_of ms) → answer (node_of (quorum_of ms)) ≡ Ok (quorum_of ms)
+  kept : quorum.AreReadBack → AreTexts (quorum_of ms) → answer (node_of (quorum_of ms)) ≡ Ok (quorum_of ms)
   kept law utf8 = subst (λ q. answer (node_of q) ≡ Ok q) same_quorum (law least last its_members (pending ms) its_values (stored utf8))
 
-pub read_back : quorum.QuorumsAreReadBack → QuorumsAreReadBack
+pub read_back : quorum.AreReadBack → QuorumsAreReadBack
 read_back law ms order back utf8 = kept ms order (each-all IsReadAsItself ms back) law utf8

@@ -1,5 +1,5 @@
 -- The rows of a state that stands for a ledger: one for each joined client, in order.
-use Rattle.std.proofs.Common.{◌≡◌, ℕ, ◌+◌, List, [], ◌∷◌, length, map, refl, sym, ◌∙◌, ap, arith}
+use Rattle.std.proofs.Common.{◌≡◌, ℕ, suc, List, [], ◌∷◌, length, map, refl, ◌∙◌, ap, arith}
 use Rattle.std.specs.FinMap.{from_entries, entries, keys, len, len-entries, entries-insert, empty, len-empty}
 use Rattle.std.specs.FinMap.Entries.{put}
 use Rattle.fluid_types.specs.Ledger.{Ledger}
@@ -36,7 +36,7 @@ named f (id ∷ ids) = ap (λ rest. id ∷ rest) (named f ids)
 
 many : (f : List ℕ → Row) (ids : List (List ℕ)) → length {A = List ℕ × Row} (map (λ id. (id, f id)) ids) ≡ length ids
 many f [] = refl
-many f (id ∷ ids) = ap (λ n. 1 + n) (many f ids)
+many f (id ∷ ids) = ap suc (many f ids)
 
 pub rows-joined : RowsAreJoined
 unfolding state_of
