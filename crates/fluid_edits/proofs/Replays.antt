@@ -1,22 +1,17 @@
 -- What a replay leaves at each address.
-use Rattle.std.proofs.Common.{◌≡◌, ℕ, ℤ, pos, ◌+ℤ◌, Bool, true, false, cond, ◌&&◌, List, [], ◌∷◌, ◌++◌, Option, Some, None, option_map, if◌then◌else◌, bytes_eq, refl, sym, ap, ◌∙◌, arith}
+use Rattle.std.proofs.Common.{◌≡◌, ℕ, ℤ, ◌+ℤ◌, Bool, true, false, cond, List, [], ◌∷◌, Option, Some, None, option_map, if◌then◌else◌, bytes_eq, refl, sym, ap, ◌∙◌, arith}
 use Rattle.std.specs.List.{filter_map}
-use Rattle.std.specs.FinMap.{get, insert}
+use Rattle.std.specs.FinMap.{get}
 use Rattle.std.proofs.lemmas.Int.{ints}
 use Rattle.std.proofs.lemmas.List.Elements.{filter_map-append}
 use Rattle.std.proofs.lemmas.List.Sums.{fold-append}
 use Rattle.std.proofs.lemmas.Slice.Eq.{bytes_eq-Decides}
-use Rattle.fluid_json.specs.Tree.{Tree}
 use Rattle.fluid_table.proofs.Places.{get_inserted}
-use Rattle.fluid_map.specs.Replay as map
-use Rattle.fluid_map.specs.declared.operation.MapOp.{MapOp}
-use Rattle.fluid_map.specs.declared.operation.MapOp.TheVariants as op
 use Rattle.fluid_counter.specs.Counter as counter
-use Rattle.fluid_edits.specs.declared.edit.ChannelKind.{ChannelKind}
 use Rattle.fluid_edits.specs.declared.edit.Edit.{Edit}
 use Rattle.fluid_edits.specs.declared.edit.Edit.TheVariants.{Attach, Set, Delete, Clear, Increment}
 use Rattle.fluid_edits.specs.Forms.{address_of, is_in_range, edit_of}
-use Rattle.fluid_edits.specs.Replay.{Channel, a_map, a_counter, Channels, fresh, attached, to_map, to_counter, spoken_to, channel_behind, told, put_if_any, after, replay_edits, replay}
+use Rattle.fluid_edits.specs.Replay.{Channel, a_map, a_counter, Channels, fresh, to_counter, channel_behind, told, put_if_any, after, replay_edits}
 use Rattle.fluid_edits.specs.Laws.{IsFirstAttach, IsReplayedOn}
 
 -- what stands there now, or else what stood before

@@ -1,7 +1,7 @@
 -- What the contents of an edit's op spell, and the worked examples.
-use Rattle.std.proofs.Common.{◌≡◌, ℕ, ◌≤◌, List, [], ◌∷◌, Ok, None, codes, refl, ap, ◌∙◌, arith}
+use Rattle.std.proofs.Common.{◌≡◌, ℕ, ◌≤◌, List, Ok, codes, refl, ap, ◌∙◌, arith}
 use Rattle.std.specs.List.{filter_map}
-use Rattle.std.specs.FinMap.{get, get-empty}
+use Rattle.std.specs.FinMap.{get-empty}
 use Rattle.json.specs.Print.{escape_byte}
 use Rattle.fluid_json.specs.Printed as json
 use Rattle.fluid_json.specs.Spelled.{answer}

@@ -35,12 +35,15 @@ set address n =
     object
     (members
     ((codes "address", text address)
-    ∷ (codes "contents", object
-    (members
-    ((codes "key", text (codes "k"))
-    ∷ (codes "type", text (codes "set"))
-    ∷ (codes "value", object (members ((codes "type", text (codes "Plain")) ∷ (codes "value", whole (pos n)) ∷ [])))
-    ∷ [])))
+    ∷ (
+      codes "contents",
+      object
+          (members
+          ((codes "key", text (codes "k"))
+          ∷ (codes "type", text (codes "set"))
+          ∷ (codes "value", object (members ((codes "type", text (codes "Plain")) ∷ (codes "value", whole (pos n)) ∷ [])))
+          ∷ [])),
+    )
     ∷ []))
 
 -- {"address":A,"contents":{"incrementAmount":N,"type":"increment"}}
@@ -80,11 +83,11 @@ pub record OnlyBehindItsAttach : Type 0 where
 -- a body whose type is "attach" is nothing else than an attach, however it goes on; an address is a name; a kind is "map" or "counter"
 pub record OtherFormsCountForNothing : Type 0 where
   pub attach_alone : edit_of (message Op 1 (object
-    (members
-    ((codes "address", text m)
-    ∷ (codes "contents", object (members ((codes "type", text (codes "clear")) ∷ [])))
-    ∷ (codes "type", text (codes "attach"))
-    ∷ [])))) ≡ None
+      (members
+      ((codes "address", text m)
+      ∷ (codes "contents", object (members ((codes "type", text (codes "clear")) ∷ [])))
+      ∷ (codes "type", text (codes "attach"))
+      ∷ [])))) ≡ None
   pub no_name : edit_of (message Op 1 (attach (codes "m.1") (codes "map"))) ≡ None
   pub no_kind : edit_of (message Op 1 (attach m (codes "list"))) ≡ None
   pub no_op : edit_of (message Noop 1 (attach m (codes "map"))) ≡ None

@@ -1,5 +1,5 @@
 -- The five forms of an op, and which edit each spells.
-use Rattle.std.specs.Prelude.{ℕ, ◌==◌, ℤ, unsigned_abs, nat_le, List, [], ◌∷◌, ◌++◌, Bool, true, false, Option, Some, None, option_and_then, if◌then◌else◌, find, bytes_eq, codes}
+use Rattle.std.specs.Prelude.{ℕ, ℤ, unsigned_abs, nat_le, List, [], ◌∷◌, Bool, false, Option, Some, None, option_and_then, if◌then◌else◌, find, bytes_eq, codes}
 use Rattle.fluid_json.specs.Tree as json
 use Rattle.fluid_json.specs.Tree.{Tree, text, whole, object, members, as_text, as_whole}
 use Rattle.fluid_types.specs.Contents.{body}

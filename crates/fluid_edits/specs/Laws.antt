@@ -1,11 +1,10 @@
 -- What holds of the definitions.
 use Rattle.std.specs.Prelude.{◌≡◌, ℕ, List, ◌++◌, Some}
-use Rattle.std.specs.List.{filter_map}
 use Rattle.std.specs.FinMap.{get}
 use Rattle.fluid_types.specs.Names.{IsName}
 use Rattle.fluid_types.specs.declared.messages.Message.{Message}
 use Rattle.fluid_edits.specs.declared.edit.Edit.{Edit}
-use Rattle.fluid_edits.specs.Forms.{address_of, edit_in, edit_of, contents_of}
+use Rattle.fluid_edits.specs.Forms.{address_of, edit_in, contents_of}
 use Rattle.fluid_edits.specs.Replay.{Channels, channel_behind, replay_edits, replay}
 
 -- a replay has at each address what edits make of the channel there: the first attach counts, and what stands behind it

@@ -1,8 +1,7 @@
 -- What edits make of the channels of a document.
-use Rattle.std.specs.Prelude.{ℕ, ℤ, pos, ◌+ℤ◌, List, [], ◌∷◌, Bool, ◌&&◌, Option, Some, None, option_map, if◌then◌else◌, bytes_eq, fold}
+use Rattle.std.specs.Prelude.{ℕ, ℤ, pos, ◌+ℤ◌, List, [], ◌∷◌, ◌&&◌, Option, Some, None, option_map, if◌then◌else◌, bytes_eq, fold}
 use Rattle.std.specs.List.{filter_map}
-use Rattle.std.specs.FinMap.{FinMap, empty, get, insert}
-use Rattle.fluid_json.specs.Tree.{Tree}
+use Rattle.std.specs.FinMap.{empty, get, insert}
 use Rattle.fluid_table.specs.Table as table
 use Rattle.fluid_types.specs.declared.messages.Message.{Message}
 use Rattle.fluid_map.specs.declared.operation.MapOp.{MapOp}

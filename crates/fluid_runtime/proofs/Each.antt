@@ -1,7 +1,7 @@
 -- A table whose values are what a function makes of another table's.
-use Rattle.std.proofs.Common.{◌≡◌, ℕ, ◌<◌, Bool, true, false, cond, ◌&&◌, T, List, [], ◌∷◌, ◌++◌, length, get_or, take, map, Option, Some, None, option_map, bytes_eq, refl, sym, ap, ap₂, subst, ◌∙◌}
+use Rattle.std.proofs.Common.{◌≡◌, ℕ, Bool, true, false, cond, ◌&&◌, T, List, [], ◌∷◌, map, Option, Some, None, option_map, bytes_eq, refl, sym, ap, ap₂, subst, ◌∙◌}
 use Rattle.std.specs.Ordering.{is_lt, eq_by_cmp}
-use Rattle.std.specs.FinMap.{empty, entries, get, insert, from_sorted, entries_sorted, entries-from_sorted, get-entries, get-from_sorted, get-empty}
+use Rattle.std.specs.FinMap.{empty, entries, get, insert, entries_sorted, entries-from_sorted, get-entries, get-from_sorted, get-empty}
 use Rattle.std.specs.FinMap.Entries.{find, below_all, is_sorted}
 use Rattle.std.proofs.lemmas.Slice.Eq.{bytes_eq-Decides}
 use Rattle.fluid_table.specs.Table.{byte_order, Values}

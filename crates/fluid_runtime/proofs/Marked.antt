@@ -1,11 +1,11 @@
 -- What has changed, at the beginning and at a mark.
-use Rattle.std.proofs.Common.{◌≡◌, ℕ, ◌-◌, ◌^◌, ◌<◌, ◌≤◌, Bool, true, false, nat_lt, List, [], Option, Some, None, refl, sym, ap, ap₂, ◌∙◌, arith}
+use Rattle.std.proofs.Common.{◌≡◌, ℕ, true, false, List, [], Some, None, sym, ap, ◌∙◌}
 use Rattle.std.proofs.lemmas.Bool.{le-ltb}
 use Rattle.std.specs.FinMap.{empty}
 use Rattle.fluid_edits.specs.declared.edit.Edit.{Edit}
 use Rattle.fluid_edits.specs.Replay.{no_channels}
 use Rattle.fluid_runtime.specs.App.{AnApp, all_are, loaded, most_taken}
-use Rattle.fluid_runtime.specs.Slots.{Slots, channel_of, channels_of, changed_of, is_changed, each, IsSound}
+use Rattle.fluid_runtime.specs.Slots.{Slots, channel_of, channels_of, changed_of, is_changed, IsSound}
 use Rattle.fluid_runtime.proofs.Each.{each_alike, each_each, each_empty}
 
 -- nothing has changed since a mark that is made now

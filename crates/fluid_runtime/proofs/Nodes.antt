@@ -1,5 +1,5 @@
 -- Lists that are made of a table's entries one after another.
-use Rattle.std.proofs.Common.{◌≡◌, ℕ, zero, suc, ◌+◌, ◌<◌, ◌≤◌, Bool, true, false, cond, if◌then◌else◌, IsTrue, T, List, [], ◌∷◌, ◌++◌, length, get_or, take, map, Option, Some, None, option_map, refl, sym, ap, ap₂, subst, ◌∙◌, arith}
+use Rattle.std.proofs.Common.{◌≡◌, ℕ, zero, suc, ◌+◌, ◌<◌, ◌≤◌, true, if◌then◌else◌, T, List, [], ◌∷◌, ◌++◌, length, get_or, take, map, Option, Some, refl, sym, ap, ap₂, subst, ◌∙◌, arith}
 use Rattle.std.proofs.Math.Seq.{take-suc}
 use Rattle.std.proofs.lemmas.List.{map-append, take-map, take_all}
 use Rattle.std.proofs.lemmas.Simd.{map-map}
@@ -8,15 +8,14 @@ use Rattle.std.specs.FinMap.Entries.{below_all, is_sorted}
 use Rattle.std.specs.FinMap.{entries, get, from_sorted, entries_sorted, get-entries}
 use Rattle.fluid_json.specs.Tree.{Tree, members, IsBelowAll, AreAscending}
 use Rattle.fluid_table.specs.Table.{byte_order, Values}
-use Rattle.fluid_table.proofs.Places.{byte_order_total}
+use Rattle.fluid_table.proofs.Places.{byte_order_total, same_pairs}
 use Rattle.fluid_table.proofs.Ordered.{first, second, less, find_at}
-use Rattle.fluid_tree.specs.Summary.{Summary, tree, children, handle}
-use Rattle.fluid_edits.specs.Replay.{Channel}
-use Rattle.fluid_runtime.specs.AppTree.{channel_node, node_since, app_tree, tree_since}
-use Rattle.fluid_runtime.specs.Shown.{shown_channel, shown}
+use Rattle.fluid_tree.specs.Summary.{Summary, handle}
+use Rattle.fluid_runtime.specs.AppTree.{channel_node, node_since}
+use Rattle.fluid_runtime.specs.Shown.{shown_channel}
 use Rattle.fluid_runtime.specs.Slots.{Slots, each, channel_of, channels_of, changed_of, is_changed, settled, node_at}
 use Rattle.fluid_runtime.specs.declared.slots.Slot.{Slot}
-use Rattle.fluid_runtime.proofs.Each.{mapped, in_order_each, entries_each, get_each, get_found}
+use Rattle.fluid_runtime.proofs.Each.{mapped, in_order_each, entries_each, get_found}
 
 -- one more of a list, and of what a function makes of it
 pub mapped_pushed : {A B : Type 0} (f : A → B) (xs : List A) (n : ℕ) (x : A) → n < length xs → x ≡ get_or xs n x → map f (take n xs) ++ f x ∷ [] ≡ map f (take (n + 1) xs)
@@ -32,6 +31,10 @@ pushed_on f xs so_far behind n x made pushed first_ones within is made_is =
 
 pub at_end : {A B : Type 0} (f : A → B) (xs : List A) (so_far : List B) (n : ℕ) → so_far ≡ map f (take n xs) → length xs ≤ n → so_far ≡ map f xs
 at_end f xs so_far n is all = is ∙ ap (map f) (take_all n xs all)
+
+-- pairs of the keys' texts and the values are the pairs themselves
+pub listed : {V : Type 0} (m : Values V) (es : List (List ℕ × V)) → map (λ e. (e.0, e.1)) es ≡ entries m → es ≡ entries m
+listed m es is = sym (same_pairs es) ∙ is
 
 pub copies_are : (slots : Slots) (items : List (List ℕ × Slot)) → items ≡ map (λ e. (e.0, settled e.1)) (entries slots) → from_sorted items ≡ each settled slots
 copies_are slots items is = ap from_sorted is

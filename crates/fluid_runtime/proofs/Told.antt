@@ -1,20 +1,19 @@
 -- What one edit makes of the channels that are kept.
-use Rattle.std.proofs.Common.{◌≡◌, ℕ, ◌+◌, ◌*◌, ◌-◌, ◌^◌, ◌<◌, ◌≤◌, ℤ, ◌+ℤ◌, unsigned_abs, Bool, true, false, cond, nat_lt, List, [], ◌∷◌, Option, Some, None, is_some, option_map, bytes_eq, refl, sym, ap, ap₂, subst, ◌∙◌, arith, lt-ltb, Result, Ok, Err}
+use Rattle.std.proofs.Common.{◌≡◌, ℕ, ◌-◌, ◌<◌, ◌≤◌, Bool, true, false, cond, List, Option, Some, None, is_some, option_map, bytes_eq, refl, sym, ap, ap₂, subst, ◌∙◌, arith, lt-ltb, Result, Ok, Err}
 use Rattle.std.specs.Result.{OnOk, OnErr}
 use Rattle.std.proofs.lemmas.Bool.{false≢true}
 use Rattle.fluid_edits.specs.declared.edit.ChannelKind.{ChannelKind}
 use Rattle.std.specs.FinMap.{empty, get, insert, get-empty}
 use Rattle.std.proofs.lemmas.Option.{same_Some, none-some}
-use Rattle.std.proofs.lemmas.Slice.Eq.{bytes_eq-Decides}
-use Rattle.fluid_table.specs.Table.{byte_order, Values}
+use Rattle.fluid_table.specs.Table.{byte_order}
 use Rattle.fluid_table.proofs.Places.{get_inserted, get_own, insert_again}
-use Rattle.fluid_edits.specs.Replay.{Channel, Channels, fresh, told_attach, put_if_any}
+use Rattle.fluid_edits.specs.Replay.{Channel, fresh, told_attach, put_if_any}
 use Rattle.fluid_runtime.specs.App.{marked_if}
-use Rattle.fluid_runtime.specs.Slots.{Slots, channel_of, channel_of_object, channels_of, changed_of, is_changed, settled, settled_object, each, IsQuiet, IsSoundSlot, IsSound, IsToldSlot, IsPut, IsTold, IsKnown}
+use Rattle.fluid_runtime.specs.Slots.{Slots, channel_of, channel_of_object, channels_of, changed_of, is_changed, settled, settled_object, IsQuiet, IsSoundSlot, IsSound, IsToldSlot, IsTold, IsKnown}
 use Rattle.fluid_runtime.specs.declared.slots.Object.{Object}
 use Rattle.fluid_runtime.specs.declared.slots.Object.TheVariants.{Map, Counter}
 use Rattle.fluid_runtime.specs.declared.slots.Slot.{Slot}
-use Rattle.fluid_runtime.proofs.Each.{get_each, get_found, get_absent, each_inserted, each_alike, insert_same}
+use Rattle.fluid_runtime.proofs.Each.{get_each, get_found, get_absent, each_inserted, insert_same}
 
 pub quiet_more : (fewer more : ℕ) → fewer ≤ more → (object : Object) → IsQuiet fewer object → IsQuiet more object
 quiet_more fewer more le (Map shared) quiet = quiet

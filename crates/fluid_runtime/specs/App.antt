@@ -1,6 +1,5 @@
 -- A client's channels, and what they stand for.
-use Rattle.std.specs.Prelude.{◌≡◌, ℕ, ◌^◌, List, [], ◌∷◌, Bool, true, false, ◌&&◌, Option, Some, None, option_and_then, is_some, Result, Ok, Err, if◌then◌else◌, drop, map}
-use Rattle.std.specs.List.{filter_map}
+use Rattle.std.specs.Prelude.{◌≡◌, ℕ, ◌^◌, List, [], Bool, true, ◌&&◌, Option, Some, None, is_some, Result, Ok, Err, if◌then◌else◌, drop, map}
 use Rattle.std.specs.FinMap.{entries, from_sorted, get, insert}
 use Rattle.fluid_table.specs.Table as table
 use Rattle.fluid_types.specs.declared.fault.BlobFault.{BlobFault}

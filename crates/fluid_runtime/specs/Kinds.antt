@@ -1,5 +1,5 @@
 -- Which kind of channel pending edits attach.
-use Rattle.std.specs.Prelude.{ℕ, List, [], ◌∷◌, Option, Some, None}
+use Rattle.std.specs.Prelude.{ℕ, List, [], ◌∷◌, Option, None}
 use Rattle.std.specs.Option.{option_or}
 use Rattle.fluid_edits.specs.declared.edit.ChannelKind.{ChannelKind}
 use Rattle.fluid_edits.specs.declared.edit.Edit.{Edit}

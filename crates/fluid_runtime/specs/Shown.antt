@@ -1,5 +1,5 @@
 -- What a client shows of channels, as JSON: an object with one member per channel, under its address.
-use Rattle.std.specs.Prelude.{List, ℕ, [], ◌∷◌, map, codes}
+use Rattle.std.specs.Prelude.{[], ◌∷◌, map, codes}
 use Rattle.std.specs.Fmt.{signed_decimal}
 use Rattle.std.specs.FinMap.{entries}
 use Rattle.fluid_json.specs.Tree.{Tree, text, object, members}

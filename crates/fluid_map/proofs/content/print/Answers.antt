@@ -11,7 +11,7 @@ use Rattle.fluid_map.proofs.content.print.Goals as goal
 pub returns-clause-content : goal.returns-clause-content
 returns-clause-content c =
     c.new.ensures
-    ∙ c.into_bytes.ensures
+    ∙ ap (λ bytes. bytes.items) c.into_bytes.ensures.value
     ∙ c.into_string.ensures
     ∙ c.in_ok-text.ensures.text
     ∙ ap (λ pairs. printed (object (members pairs))) (sym (same_pairs c.as_slice.result.now) ∙ c.as_slice.ensures)

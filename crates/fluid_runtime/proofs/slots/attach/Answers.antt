@@ -1,4 +1,4 @@
-use Rattle.std.proofs.Common.{is_some, refl, sym, ap, ap₂, ◌∙◌}
+use Rattle.std.proofs.Common.{is_some, sym, ap, ap₂, ◌∙◌}
 use Rattle.std.specs.FinMap.{get, insert}
 use Rattle.fluid_runtime.proofs.Told.{some_mapped, attached_again, attached_first}
 use Rattle.fluid_runtime.proofs.slots.attach.Goals as goal

@@ -1,10 +1,10 @@
-use Rattle.std.proofs.Common.{◌≡◌, ℕ, ◌+◌, ◌-◌, ◌^◌, ◌<◌, ◌≤◌, length, sym, ap, subst, ◌∙◌, arith}
+use Rattle.std.proofs.Common.{◌≡◌, ℕ, ◌+◌, ◌-◌, length, ap, subst, ◌∙◌, arith}
 use Rattle.std.specs.FinMap.{get}
 use Rattle.fluid_edits.specs.Forms.{address_of}
 use Rattle.fluid_edits.specs.Replay.{told, after}
 use Rattle.fluid_runtime.specs.Slots.{channels_of, IsSound}
 use Rattle.fluid_runtime.proofs.Laid.{laid_on, laid_all}
-use Rattle.fluid_runtime.proofs.Told.{told_channels, told_sound, all_sound_more}
+use Rattle.fluid_runtime.proofs.Told.{told_channels, told_sound}
 use Rattle.fluid_runtime.proofs.slots.lay.Goals as goal
 
 before : (n : ℕ) → n + 1 - 1 ≡ n

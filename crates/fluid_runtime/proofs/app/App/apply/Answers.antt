@@ -1,4 +1,4 @@
-use Rattle.std.proofs.Common.{sym, ap, ◌∙◌}
+use Rattle.std.proofs.Common.{ap, ◌∙◌}
 use Rattle.fluid_runtime.specs.App.{left}
 use Rattle.fluid_runtime.proofs.Laid.{stands_on}
 use Rattle.fluid_runtime.proofs.app.App.apply.Goals as goal

@@ -1,4 +1,4 @@
-use Rattle.std.proofs.Common.{◌^◌, ◌≤◌, [], refl, subst, sym, arith}
+use Rattle.std.proofs.Common.{[], refl, subst, sym, arith}
 use Rattle.fluid_edits.specs.Replay.{no_channels}
 use Rattle.fluid_runtime.specs.App.{StandsFor}
 use Rattle.fluid_runtime.specs.Slots.{IsSound}
