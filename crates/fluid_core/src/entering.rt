@@ -276,7 +276,15 @@ fn take(scribe: &mut Scribe, verdict: Verdict, note: Option<ScribeNote>)
     requires { CanTake scribe.old (with_note verdict note) }
     ensures { scribe.new.messages ≡ scribe.old.messages ++ noted (with_note verdict note) }
 {
-    if let (Verdict::Sequenced(message), Some(note)) = (verdict, note) {
-        scribe.take(message, note);
+    // (an arm for each verdict, so that each proof knows its case)
+    match verdict {
+        Verdict::Sequenced(message) => {
+            if let Some(note) = note {
+                scribe.take(message, note);
+            }
+        }
+        Verdict::Nacked(_) => {}
+        Verdict::Dropped => {}
+        Verdict::Absorbed => {}
     }
 }

@@ -237,7 +237,7 @@ nothing_stands d content held before none = record {
 lacking_of : (d : Pushed) (order : List Message) (content : Content) → StandFor d order content → lacking d (length content.deltas) ≡ drop (length content.deltas) order
 lacking_of d order content stands =
     let at : d.before + (length content.deltas - d.before) ≡ length content.deltas = omega (arith, stands.reached) in
-    ap (drop (length content.deltas - d.before)) (held_of d order is)
+    ap (drop (length content.deltas - d.before)) (held_of d order stands.end)
     ∙ drop-drop (length content.deltas - d.before) d.before order
     ∙ ap (λ n. drop n order) at
 
