@@ -72,7 +72,7 @@ fn noops_that_move_nothing_take_no_number(rt: HostRuntime) {
         (Entry::Join("A"), Shown::At(1, 0), 0),
         (Entry::Join("B"), Shown::At(2, 0), 0),
         (Entry::Quiet("A", 1, 2), Shown::Absorbed, 0),
-        // It lifts the minimum to 2, which A was the last to hold back.
+        // It lifts the minimum to 2, which B was the last to hold back.
         (Entry::Loud("B", 1, 2), Shown::At(3, 2), 2),
         // A still refers to 2.
         (Entry::Loud("B", 2, 3), Shown::Absorbed, 2),
