@@ -79,10 +79,7 @@ fn start_all<R: Threads + Wait + Sync>(
 ) -> bool {
     thread::scope(thread::scope_env(), rt, move |scope| {
         for _ in 0..threads {
-            if scope
-                .spawn(move || pass(rt, turn, passes, rounds))
-                .is_err()
-            {
+            if scope.spawn(move || pass(rt, turn, passes, rounds)).is_err() {
                 return false;
             }
         }
