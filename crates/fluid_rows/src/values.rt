@@ -67,16 +67,12 @@ pub(crate) fn made(alloc: Global, what: &str) -> Result<Text, NoMemory> {
 
 // A list of three and a text, under two keys.
 fn value(alloc: Global) -> Result<Json, NoMemory> {
+    let items = items(alloc)?;
+    let text = Text::copied(alloc, "x")?;
     let mut pairs = Pairs::with_capacity(alloc, 2)?;
-    push_members(alloc, &mut pairs)?;
+    pairs.push(Text::copied(alloc, "a")?, Json::list(items))?;
+    pairs.push(Text::copied(alloc, "b")?, Json::text(text))?;
     Ok(Json::object(pairs))
-}
-
-fn push_members(alloc: Global, pairs: &mut Pairs) -> Result<(), NoMemory> {
-    let key = Text::copied(alloc, "a")?;
-    pairs.push(key, Json::list(items(alloc)?))?;
-    let key = Text::copied(alloc, "b")?;
-    pairs.push(key, Json::text(Text::copied(alloc, "x")?))
 }
 
 fn items(alloc: Global) -> Result<Items, NoMemory> {

@@ -2,6 +2,7 @@
 use std::alloc::Global;
 use std::process::Abort;
 
+#[derive(Drop)]
 pub enum Entry {
     Join(&'static str),
     Leave(&'static str),
