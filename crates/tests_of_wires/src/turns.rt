@@ -67,7 +67,9 @@ fn enter_in_threads<R: Threads + Wait + Sync>(rt: &R, turn: &Turn<Numbers>) -> b
 }
 
 // Whether these are the numbers of one caller, each once and in order.
-fn are_of(all: &[u64], caller: u64) -> bool {
+fn are_of(all: &[u64], caller: u64) -> bool
+    requires { caller < THREADS }
+{
     all.iter()
         .copied()
         .filter(|&number| number / EACH == caller)
