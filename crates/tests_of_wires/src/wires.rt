@@ -1,6 +1,6 @@
-use fluid_io::{LONGEST_TEXT, MemorySink, MemorySource};
+use fluid_io::{MemorySink, MemorySource};
 use fluid_json::Text;
-use fluid_lines::{LineWire, MemoryWire, Recv, Wire, WireFault, WireScript, WireText};
+use fluid_lines::{LineWire, MemoryWire, Recv, Wire, WireFault, WireScript};
 use std::alloc::Global;
 use std::collections::VecDeque;
 use std::sync::Wait;
@@ -83,37 +83,6 @@ fn a_wire_in_memory_answers_by_its_script(rt: HostRuntime) -> Result<(), Fail> {
 }
 
 #[test]
-fn a_history_has_what_came_in_and_what_went_out(rt: HostRuntime) -> Result<(), Fail> {
-    let alloc = rt.alloc();
-    let mut wire = memory_wire(alloc, &["a", ""], &[2], &[3], &[2])?;
-    let mut told = String::new(alloc);
-    for text in ["x", "y", "z", ""] {
-        told.push_str(received(&rt, alloc, &mut wire, 1)?.as_str())?;
-        told.push_str(if wire.send(&rt, alloc, text).is_ok() {
-            ">"
-        } else {
-            "!"
-        })?;
-    }
-    assert_eq!(rt; told.as_str(), "[a]>!!?>[]>");
-    let mut history = String::new(alloc);
-    for text in wire.history() {
-        match text {
-            WireText::In(text) => history.push_str(format!(in alloc;
-                "in {};",
-                text.as_str()
-            )?.as_str())?,
-            WireText::Out(text) => history.push_str(format!(in alloc;
-                "out {};",
-                text.as_str()
-            )?.as_str())?,
-        }
-    }
-    assert_eq!(rt; history.as_str(), "in a;out x;out z;in ;out ;");
-    Ok(())
-}
-
-#[test]
 fn each_line_is_a_text(rt: HostRuntime) -> Result<(), Fail> {
     let alloc = rt.alloc();
     let rows: [(&[u8], &[u64], &str); 8] = [
@@ -149,33 +118,6 @@ fn each_text_that_is_sent_is_a_line(rt: HostRuntime) -> Result<(), Fail> {
             want.as_bytes(),
             "where call {failing} fails"
         );
-    }
-    Ok(())
-}
-
-#[test]
-fn a_text_has_its_greatest_length(rt: HostRuntime) -> Result<(), Fail> {
-    let alloc = rt.alloc();
-    for (size, want) in [(LONGEST_TEXT, None), (LONGEST_TEXT + 1, Some(1_048_577))] {
-        let bytes = vec![in alloc; b'a'; size]?;
-        let source = MemorySource::new(bytes, Vec::new(alloc));
-        let mut lines = LineWire::new(source, MemorySink::new(alloc, Vec::new(alloc)));
-        let Ok(string) = String::from_utf8(vec![in alloc; b'a'; size]?) else {
-            return Err(Fail::from("letters are a text"));
-        };
-        let mut memory = memory_wire(alloc, &[string.as_str(), "b"], &[], &[], &[])?;
-        for answer in [lines.recv(&rt, alloc), memory.recv(&rt, alloc)] {
-            match answer {
-                Ok(Recv::Text(text)) => assert_eq!(rt;
-                    (Some(text.as_str().len()), None),
-                    (Some(size), want)
-                ),
-                Ok(Recv::TooLong(least)) => assert_eq!(rt; Some(least), want),
-                _ => assert!(rt; false, "a long text of {size} bytes"),
-            }
-        }
-        assert_eq!(rt; received(&rt, alloc, &mut memory, 2)?.as_str(), "[b].");
-        assert_eq!(rt; received(&rt, alloc, &mut lines, 1)?.as_str(), ".");
     }
     Ok(())
 }
