@@ -6,7 +6,7 @@ use Rattle.std.proofs.lemmas.Int.{ints, fits_signed_from_abs}
 use Rattle.std.proofs.lemmas.List.Sums.{sum-map, sum_by-cons, sum_by_push}
 use Rattle.fluid_counter.specs.Counter.{sum_of, replay, greatest_size}
 use Rattle.fluid_counter.specs.Laws.{IsReplayedOn, IsIncrement, IsRoomy}
-use Rattle.fluid_counter.specs.Kept.{IsKept}
+use Rattle.fluid_counter.specs.Totals.{IsKept}
 
 pub sum_of-append : (before behind : List ℤ) → sum_of (before ++ behind) ≡ sum_of before +ℤ sum_of behind
 sum_of-append [] behind = omega (arith, ints)

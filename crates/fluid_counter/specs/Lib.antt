@@ -1,6 +1,6 @@
 pub mod Counter
 pub mod Content
-pub mod Kept
+pub mod Totals
 pub mod Laws
 pub mod Examples
 pub use Rattle.fluid_json.specs.Tree

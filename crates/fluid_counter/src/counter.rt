@@ -40,7 +40,7 @@ impl Model for SharedCounter {
 
     ghost coded = { shared_code };
 
-    ghost use Rattle.fluid_counter.specs.Kept.{IsKept};
+    ghost use Rattle.fluid_counter.specs.Totals.{IsKept};
 
     ghost view = { λ c. record { acknowledged = c.acknowledged; pending = c.pending.items } };
 

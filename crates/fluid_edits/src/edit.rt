@@ -2,7 +2,7 @@
 ghost use Rattle.std.specs.Prelude.{◌≡◌, IfOk};
 ghost use Rattle.fluid_edits.specs.Forms.{address_of, is_in_range};
 
-use fluid_json::{Json, NoMemory, Text};
+use fluid_json::{Json, LARGEST, NoMemory, Text};
 use fluid_types::{Address, Word};
 use std::alloc::Global;
 
@@ -81,9 +81,6 @@ impl Edit {
         }
     }
 }
-
-/// The greatest size of an amount of the protocol: the last up to which each whole number is a double.
-const LARGEST: u64 = 9_007_199_254_740_991;
 
 /// Whether an amount lies within plus or minus 2^53 - 1.
 pub fn is_in_range(amount: i64) -> bool

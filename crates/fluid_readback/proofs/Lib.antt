@@ -4,7 +4,7 @@ pub mod Nesting
 pub mod Punctuated
 pub mod Parsed
 pub mod Numerals
-pub mod Kept
+pub mod InOrder
 pub mod Values
 pub mod Entries
 pub mod Fitting

@@ -22,7 +22,7 @@ use Rattle.fluid_readback.specs.Laws.{ValuesAreBounded}
 use Rattle.fluid_readback.proofs.Numerals.{number_size, IsNegative}
 use Rattle.fluid_readback.proofs.Punctuated.{tokens_short, tokens_shallow}
 use Rattle.fluid_readback.proofs.Parsed.{json_size, parsed}
-use Rattle.fluid_readback.proofs.Kept.{data_size, data_items_size, data_members_size, IsBelowEach, IsSorted, AreSorted, HasSorted, IsKept, Kept, kept}
+use Rattle.fluid_readback.proofs.InOrder.{data_size, data_items_size, data_members_size, IsBelowEach, IsSorted, AreSorted, HasSorted, IsKept, Kept, kept}
 
 -- ---- what is made of a value's data
 

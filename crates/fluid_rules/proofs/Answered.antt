@@ -17,6 +17,8 @@ use Rattle.fluid_types.specs.declared.verdicts.Verdict.TheVariants.{Sequenced, N
 use Rattle.fluid_types.specs.Blobs.{blobs}
 use Rattle.fluid_types.specs.Ledger.{Ledger, messages_of, order, seq}
 use Rattle.fluid_types.proofs.Ledgers.{order-push}
+use Rattle.fluid_types.specs.Order.{AreNumberedFrom}
+use Rattle.fluid_types.proofs.Numbers.{numbered_more, numbered_least, numbered_most}
 use Rattle.fluid_tree.specs.Laws.{IsIdReadBack}
 use Rattle.fluid_rules.specs.Rules.{first_case, kind_of, answer_message, settled, unsettled, message, verdict, IsLegal}
 use Rattle.fluid_rules.specs.Scribe.{is_ack, is_answer, is_stale, is_old, last_ack, handling, is_number, answers, answered_by, unanswered, pending, acknowledged, reference_of, proposed_by, version, judged, answer_to, answer_by, answer, ack_contents, refusal_contents, reported}
@@ -34,24 +36,11 @@ use Rattle.fluid_rules.proofs.Verdicts.{some_message, verdict-is_message, messag
 
 -- ---- rising numbers
 
-abbrev AreNumbered : ℕ → List Message → Type 0
-AreNumbered n [] = Unit {0}
-AreNumbered n (m ∷ ms) = (m.number ≡ n) × AreNumbered (suc n) ms
-
-numbered-push : (n : ℕ) (ms : List Message) (m : Message) → AreNumbered n ms → m.number ≡ n + length ms → AreNumbered n (ms ++ m ∷ [])
-numbered-push n [] m h is = (omega (arith, is), tt)
-numbered-push n (x ∷ ms) m h is = (h.0, numbered-push (suc n) ms m h.1 (omega (arith, is)))
-
-numbered-from : (n : ℕ) (ms : List Message) → AreNumbered n ms → All (λ m. n ≤ m.number) ms
-numbered-from n [] h = All-nil (λ m. n ≤ m.number)
-numbered-from n (m ∷ ms) h =
-    All-cons (λ m. n ≤ m.number) m ms (omega (arith, h.0)) (λ k d lt. let later = numbered-from (suc n) ms h.1 k d lt in omega (arith, later))
-
-numbered-rising : (n : ℕ) (ms : List Message) → AreNumbered n ms → AreRising ms
+numbered-rising : (n : ℕ) (ms : List Message) → AreNumberedFrom n ms → AreRising ms
 numbered-rising n [] h = λ i j d lt within. absurd (omega (arith, within))
 numbered-rising n (m ∷ ms) h =
     AllPairs-cons (λ m later. m.number < later.number) m ms
-    (λ k d lt. let later = numbered-from (suc n) ms h.1 k d lt in omega (arith, h.0, later))
+    (λ k d lt. let later = numbered_least ms (suc n) h.1 k d lt in omega (arith, h.0, later))
     (numbered-rising (suc n) ms h.1)
 
 -- ---- messages whose numbers are known
@@ -64,9 +53,8 @@ up_to : (n : ℕ) (ms : List Message) → All (λ m. m.number ≤ n) ms → AreU
 up_to n [] h = tt
 up_to n (m ∷ ms) h = (h zero m (omega arith), up_to n ms (λ k d lt. h (suc k) d (omega arith)))
 
-numbered-up_to : (n k : ℕ) (ms : List Message) → AreNumbered n ms → n + length ms ≤ k + 1 → AreUpTo k ms
-numbered-up_to n k [] h le = tt
-numbered-up_to n k (m ∷ ms) h le = (omega (arith, h.0), numbered-up_to (suc n) k ms h.1 (omega arith))
+numbered-up_to : (n k : ℕ) (ms : List Message) → AreNumberedFrom n ms → n + length ms ≤ k + 1 → AreUpTo k ms
+numbered-up_to n k ms h le = up_to k ms (numbered_most ms n k h le)
 
 one_waits : (n : ℕ) (waits : Bool) (m p : Message) (ms : List Message) → m.number ≤ n → (slice_get ms 0 ≡ Some p → p.number ≤ n) →
     slice_get ((if waits then m ∷ [] else []) ++ ms) 0 ≡ Some p → p.number ≤ n
@@ -272,7 +260,7 @@ acknowledging-push before (x ∷ ms) m h is = (
 -- ---- legal ledgers
 
 record AreInTurn (ms : List Message) : Type 0 where
-  pub numbered : AreNumbered 1 ms
+  pub numbered : AreNumberedFrom 1 ms
   pub naming : AreNaming (length ms) ms
   pub behind : AreAnsweredBehind [] ms
   pub acknowledging : AreAcknowledging [] ms
@@ -281,7 +269,7 @@ in_turn-push : (ms : List Message) (m : Message) → AreInTurn ms → m.number �
 in_turn-push ms m h at turn =
     let size : length (ms ++ m ∷ []) ≡ length ms + 1 = omega (arith, length-append ms (m ∷ [])) in
     record {
-      numbered = numbered-push 1 ms m h.numbered (omega (arith, at));
+      numbered = numbered_more ms m 1 h.numbered (omega (arith, at));
       naming = rw size (naming-push (length ms) ms m h.naming turn.named);
       behind = behind-push [] ms m h.behind (none_named (length ms) m.number ms h.naming (omega (arith, at)));
       acknowledging = acknowledging-push [] ms m h.acknowledging turn.acknowledges;

@@ -23,7 +23,7 @@ use Rattle.fluid_types.specs.Ledger.{Ledger, order, seq, raws}
 use Rattle.fluid_rules.specs.Past as past
 pub use Rattle.fluid_rules.specs.Past.{leaves_reference, read_as}
 pub use Rattle.fluid_rules.specs.Cases.{first_case}
-use Rattle.fluid_rules.specs.Scribe.{answer, reported}
+use Rattle.fluid_rules.specs.Scribe.{is_summarize, answer, reported}
 use Rattle.fluid_rules.specs.declared.answers.Answer.{Answer}
 
 -- a ledger from its last entry back to its first
@@ -166,13 +166,6 @@ abbrev pub sequenced : Option Message → Verdict
 sequenced None = Dropped
 sequenced (Some m) = Sequenced m
 
-abbrev pub is_summarize : Offered → Bool
-is_summarize offered.Op = false
-is_summarize offered.Noop = false
-is_summarize offered.Propose = false
-is_summarize offered.Reject = false
-is_summarize offered.Summarize = true
-
 abbrev pub is_noop : Offered → Bool
 is_noop offered.Op = false
 is_noop offered.Noop = true
@@ -206,7 +199,7 @@ is_ahead ledger submission = int_lt (pos (seq ledger)) submission.reference
 
 -- it is a summarize of a client that may not write summaries
 abbrev pub lacks_scope : Ledger → List ℕ → Submission → Bool
-lacks_scope ledger c submission = is_summarize submission.kind && not (scopes ledger c).summary
+lacks_scope ledger c submission = is_summarize (kind_of submission.kind) && not (scopes ledger c).summary
 
 -- it is a noop that asks for no number, or that lifts the minimum to no more than the last message says
 abbrev pub is_absorbed : Ledger → List ℕ → Submission → Bool

@@ -13,7 +13,8 @@ use Rattle.fluid_types.specs.declared.verdicts.Verdict.{Verdict}
 use Rattle.fluid_types.specs.declared.verdicts.Verdict.TheVariants.{Sequenced, Nacked, Dropped, Absorbed}
 use Rattle.fluid_types.specs.Ledger.{messages_of}
 use Rattle.fluid_rules.specs.Past.{is_below, count_of}
-use Rattle.fluid_rules.specs.Rules.{leaves_reference, read_as, is_summarize, is_noop, last_minimum_behind, submission_message, answer_message, unsettled, sequenced}
+use Rattle.fluid_rules.specs.Rules.{leaves_reference, read_as, kind_of, is_noop, last_minimum_behind, submission_message, answer_message, unsettled, sequenced}
+use Rattle.fluid_rules.specs.Scribe.{is_summarize}
 use Rattle.fluid_rules.specs.declared.answers.Answer.{Answer}
 use Rattle.fluid_rules.specs.declared.answers.Answer.TheVariants.{Dropped as unanswered}
 use Rattle.fluid_clients.specs.declared.table.Row.{Row}
@@ -103,7 +104,7 @@ is_below_minimum minimum reference = not (leaves_reference reference) && int_lt 
 
 -- a summarize of a client that may not summarize
 abbrev pub lacks_scope : Submission → Row → Bool
-lacks_scope submission row = is_summarize submission.kind && not row.scopes.summary
+lacks_scope submission row = is_summarize (kind_of submission.kind) && not row.scopes.summary
 
 -- a number that isn't negative, and another one in place of a negative number
 abbrev pub given_or : ℕ → ℤ → ℕ

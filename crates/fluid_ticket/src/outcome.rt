@@ -1,6 +1,7 @@
 // What becomes of a submission.
 ghost use Rattle.std.specs.Prelude.{◌≡◌, ◌<◌, ◌^◌, pos, int_lt};
-ghost use Rattle.fluid_rules.specs.Rules.{is_summarize, leaves_reference};
+ghost use Rattle.fluid_rules.specs.Rules.{kind_of, leaves_reference};
+ghost use Rattle.fluid_rules.specs.Scribe.{is_summarize};
 ghost use Rattle.fluid_ticket.specs.State.{outcome_by, is_below_minimum, lacks_scope};
 
 use fluid_clients::Row;
@@ -72,7 +73,7 @@ fn leaves_reference(reference: i64) -> bool
 }
 
 fn is_summarize(kind: Offered) -> bool
-    ensures { result ≡ is_summarize kind }
+    ensures { result ≡ is_summarize (kind_of kind) }
 {
     matches!(kind, Offered::Summarize)
 }

@@ -1,5 +1,5 @@
 mod Admitted
-mod Kept
+mod EntryMap
 mod Walked
 mod Rest
 mod Grows

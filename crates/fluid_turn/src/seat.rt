@@ -34,7 +34,7 @@ impl<T: Chronicle> Seat<T> {
     ghost use Rattle.fluid_turn.specs.Seated.{known_of, IsSeated};
 
     /// What holds of every seat: its own entries are those of the seen ones that bear its number, in order, and what it has
-    /// seen is a list that its turn had once.
+    /// seen begins with the list with which its turn began, and is one for which some value with the turn's fixed part stands.
     pub fn know(&self)
         ensures own { self.now.mine ≡ made_by self.now.number self.now.seen }
         ensures history { IsOfTurn T.stands T.fixed self.now.turn self.now.seen }

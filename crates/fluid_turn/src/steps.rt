@@ -171,13 +171,14 @@ pub(crate) fn enter<T: Chronicle, W: Picks<T, T::Entry>>(
 
 // Serves the next ticket, with the value at home again, and wakes who sleeps with it.
 //
-// No wake is lost. Who waits reads the number of its bay, looks which ticket is served, and sleeps only while the bay has that
-// number. Who passes on stores the ticket, adds one to the ticket's bay and wakes who sleeps there. Where the waiter's look
-// didn't see the ticket, it stands before that store, and its reading of the bay too, so that the bay has another number
-// behind the addition: a waiter that slept before it is woken, and one that was about to sleep doesn't. While one ticket waits
-// its bay grows at most once for each ticket before it, by fewer than 2^32, so that the low 32 bits, by which one sleeps,
-// differ too. With no more waiters than bays each sleeps alone; else those of one bay are woken together, and sleep again.
-// Who draws a ticket behind the look at the tickets finds it served, so that nobody need be woken where none was drawn.
+// No wake is lost, since all steps on the words stand in one total order (each is `SeqCst`). Who waits reads the number
+// of its bay, looks which ticket is served, and sleeps only while the bay has that number. Who passes on stores the
+// ticket, adds one to the ticket's bay and wakes who sleeps there. Where the waiter's look didn't see the ticket, it
+// stands before that store, and its reading of the bay too, so that the bay has another number behind the addition: a
+// waiter that slept before it is woken, and one that was about to sleep doesn't. While one ticket waits its bay grows
+// at most once for each ticket before it, by fewer than 2^32, so that the low 32 bits, by which one sleeps, differ too.
+// With no more waiters than bays each sleeps alone; else those of one bay are woken together, and sleep again. Who
+// draws a ticket behind the look at the tickets finds it served, so that nobody need be woken where none was drawn.
 pub(crate) fn pass_on<T: Chronicle>(words: &Words<T>, token: &mut Token<T>, ticket: u64)
     requires turn { IsAtTable words.now.table_id token.old.table_id }
     requires holds { (token.old.me.0.stage ≡ Holding ticket) × (ticket < u64.MAX) }

@@ -2,7 +2,7 @@ use Rattle.std.proofs.Common.{arith, drop, fold, ◌+◌, ◌∷◌, ◌∙◌, 
 use Rattle.std.proofs.lemmas.List.{at_drop_more}
 use Rattle.fluid_tree.specs.Object.{placed}
 use Rattle.fluid_tree.specs.Sorted.{Stands}
-use Rattle.fluid_tree.proofs.Kept.{put_in_order}
+use Rattle.fluid_tree.proofs.EntryMap.{put_in_order}
 use Rattle.fluid_tree.proofs.writing.sorted.Goals as goal
 
 pub loop-entry-preserved : goal.loop-entry-preserved

@@ -1,7 +1,7 @@
 use Rattle.std.proofs.Common.{◌∙◌, ap}
 use Rattle.std.specs.Prelude.{codes}
 use Rattle.fluid_tree.specs.Object.{tree_bytes, with_header}
-use Rattle.fluid_tree.proofs.Kept.{bytes_in_order}
+use Rattle.fluid_tree.proofs.EntryMap.{bytes_in_order}
 use Rattle.fluid_tree.proofs.writing.tree_bytes.Goals as goal
 
 pub returns : goal.returns
