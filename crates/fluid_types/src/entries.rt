@@ -4,7 +4,7 @@ ghost use Rattle.fluid_types.specs.Fits.{is_in_range};
 ghost use Rattle.fluid_types.specs.declared.entries.Raw.TheVariants.{Join, Submit};
 
 use crate::ClientId;
-use fluid_json::{Json, NoMemory};
+use fluid_json::{Json, LARGEST, NoMemory};
 use std::alloc::Global;
 
 /// What a client may do, each held or not: `doc:read`, `doc:write`, `summary:write`.
@@ -93,9 +93,6 @@ pub enum Raw {
         moment: u64,
     },
 }
-
-/// The largest number of the protocol: the last up to which each whole number is a double.
-const LARGEST: u64 = 9_007_199_254_740_991;
 
 impl Raw {
     /// Whether its client number, where it has one, is at most 2^53 - 1, as in each entry that a record spells.
