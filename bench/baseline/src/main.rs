@@ -291,6 +291,8 @@ fn read(line: &str) -> Result<Raw, Why> {
 struct Document {
     number: u64,
     minimum: u64,
+    /// The minimum of the last message.
+    last_minimum: u64,
     counted: u64,
     clients: Clients,
 }
@@ -347,7 +349,8 @@ impl Document {
         Ok(Ok(()))
     }
 
-    fn system<W: Write>(&self, out: &mut W, data: String, timestamp: i64, kind: &'static str) -> io::Result<()> {
+    fn system<W: Write>(&mut self, out: &mut W, data: String, timestamp: i64, kind: &'static str) -> io::Result<()> {
+        self.last_minimum = self.minimum;
         let message = Message {
             client: None,
             client_number: -1,
@@ -391,15 +394,30 @@ impl Document {
                 (403, "InvalidScopeError", "summary:write is missing")
             }
             Some(row) => {
-                self.number += 1;
-                let reference =
-                    if operation.reference == -1 { self.number } else { operation.reference as u64 };
+                let mut reference = if operation.reference == -1 { seq } else { operation.reference as u64 };
                 let before = row.reference;
                 row.last = operation.number;
                 row.reference = reference;
                 self.clients.take(before);
                 self.clients.put(reference);
+                if operation.kind == "noop" {
+                    let lifted = self.minimum_now();
+                    if operation.contents.is_null() || lifted <= self.last_minimum {
+                        self.minimum = lifted;
+                        return out.write_all(b"{\"absorbed\":true}\n");
+                    }
+                }
+                self.number += 1;
+                if operation.reference == -1 {
+                    self.clients.take(reference);
+                    reference = self.number;
+                    self.clients.put(reference);
+                    if let Some(row) = self.clients.rows.get_mut(&id) {
+                        row.reference = reference;
+                    }
+                }
                 self.minimum = self.minimum_now();
+                self.last_minimum = self.minimum;
                 let message = Message {
                     client: Some(&id),
                     client_number: operation.number,

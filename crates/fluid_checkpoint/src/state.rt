@@ -4,15 +4,12 @@ ghost use Rattle.fluid_json.specs.Unless.{IsUnless};
 ghost use Rattle.fluid_checkpoint.specs.Text.{state_printed, value_in, state_in, whole_at, count_at, of_version, object_of, whole_member, within, text_answer, answer};
 
 use crate::CheckpointFault;
-use fluid_json::{Bytes, Json, JsonFault, NoMemory, Printer, Text, read_stored};
+use fluid_json::{Bytes, Json, JsonFault, LARGEST, NoMemory, Printer, Text, read_stored};
 use std::alloc::Global;
 use std::str;
 
 /// The version of the text that is printed and read here.
 const VERSION: u64 = 0;
-
-/// The largest count, 2^53 - 1: the last up to which each whole number is a double.
-const LARGEST: u64 = 9_007_199_254_740_991;
 
 /// The state of a document as far as a checkpoint keeps it.
 #[derive(Clone, Copy, Debug, PartialEq, Eq)]

@@ -2,7 +2,7 @@
 use Rattle.std.proofs.lemmas.Bool.{false≢true, cases_lt}
 use Rattle.std.proofs.lemmas.Option.{none-some, same_Some}
 use Rattle.std.specs.declared.cmp.Ordering.{Ordering}
-use Rattle.std.proofs.Common.{suc, ◌<◌, ◌≤◌, Bool, true, false, cond, ◌⊎◌, inl, inr, Option, None, length, get_or, ◌≡◌, ℕ, not, T, List, [], ◌∷◌, Some, map, min, fold, refl, sym, ap, ◌∙◌, arith}
+use Rattle.std.proofs.Common.{suc, ◌<◌, ◌≤◌, Bool, true, false, cond, ◌⊎◌, inl, inr, Option, None, is_some, length, get_or, ◌≡◌, ℕ, not, T, List, [], ◌∷◌, Some, map, min, fold, refl, sym, ap, ◌∙◌, arith}
 use Rattle.std.specs.List.{reduce}
 use Rattle.std.specs.Ordering.{is_eq, eq_by_cmp}
 use Rattle.std.specs.declared.cmp.Ordering.TheVariants.{Less, Equal, Greater}
@@ -10,7 +10,7 @@ use Rattle.std.specs.FinMap as finite
 use Rattle.std.specs.FinMap.{entries, get-entries, get-insert, get-remove, same_map, entries_sorted, entries-insert, entries-from_sorted, same_entries_map}
 use Rattle.std.specs.FinMap.Entries.{by_order, put, where_key, is_sorted, is_sorted-where_key}
 use Rattle.fluid_clients.specs.declared.table.Row.{Row}
-use Rattle.fluid_clients.specs.Table.{byte_order, Rows, rows_of, least, lesser}
+use Rattle.fluid_clients.specs.Table.{byte_order, Rows, rows_of, change_row, least, least_with, lesser}
 use Rattle.fluid_clients.proofs.Entries.{find_at, second, others_less, others_equal}
 use Rattle.fluid_clients.proofs.Places.{no_row, Entries, fold_min, least_of_both}
 pub use Rattle.fluid_clients.proofs.Places.{byte_order_total, byte_order-IsAntisymmetric}
@@ -91,6 +91,40 @@ pub insert-same : (rows : Rows) (id : List ℕ) (row : Row) → finite.get rows 
 insert-same rows id row there =
     same_map byte_order_total byte_order-IsAntisymmetric _ _ (λ q. get-insert byte_order_total rows id row q ∙ same_at rows id q (Some row) there)
 
+picked_twice : {A : Type 0} (b : Bool) (first second other : A) → cond b second (cond b first other) ≡ cond b second other
+picked_twice true first second other = refl
+picked_twice false first second other = refl
+
+-- a row that is inserted under the id of another takes its place
+pub insert-again : (rows : Rows) (id : List ℕ) (first second : Row) → finite.insert (finite.insert rows id first) id second ≡ finite.insert rows id second
+insert-again rows id first second =
+    same_map byte_order_total byte_order-IsAntisymmetric _ _ (λ q.
+    get-insert byte_order_total (finite.insert rows id first) id second q
+    ∙ ap (λ o. cond (eq_by_cmp byte_order q id) (Some second) o) (get-insert byte_order_total rows id first q)
+    ∙ picked_twice (eq_by_cmp byte_order q id) (Some first) (Some second) (finite.get rows q)
+    ∙ sym (get-insert byte_order_total rows id second q))
+
+-- a changed row that is there is inserted, and where there is none nothing changes
+pub change-there : (rows : Rows) (id : List ℕ) (f : Row → Row) (row : Row) → finite.get rows id ≡ Some row → change_row id f rows ≡ finite.insert rows id (f row)
+change-there rows id f row there = rw there
+
+pub change-absent : (rows : Rows) (id : List ℕ) (f : Row → Row) → finite.get rows id ≡ None → change_row id f rows ≡ rows
+change-absent rows id f none = rw none
+
+-- the least reference with this one in a row is the lesser of it and of those of the other rows
+pub least_with-there : (rows : Rows) (id : List ℕ) (reference : ℕ) (row : Row) → finite.get rows id ≡ Some row →
+    least_with rows id reference ≡ lesser (Some reference) (least (finite.remove rows id))
+least_with-there rows id reference row there =
+    ap least (change-there rows id (λ row. record row { reference = reference }) row there) ∙ least-insert id (record row { reference = reference }) rows
+
+pub least_with-joined : (rows : Rows) (id : List ℕ) (reference : ℕ) (rest : Option ℕ) → is_some (finite.get rows id) ≡ true → rest ≡ least (finite.remove rows id) →
+    least_with rows id reference ≡ lesser (Some reference) rest
+least_with-joined rows id reference rest joined is =
+    elim (finite.get rows id) as (λ o. finite.get rows id ≡ o → least_with rows id reference ≡ lesser (Some reference) rest) [
+      | None ↦ λ none. absurd (false≢true (sym (ap is_some none) ∙ joined))
+      | Some row ↦ λ there. least_with-there rows id reference row there ∙ ap (lesser (Some reference)) (sym is)
+    ] refl
+
 -- ---- the least reference is the least
 
 -- with a row under an id, the least reference is the lesser of its own and that of the other rows
@@ -100,6 +134,18 @@ least-there rows id row there = ap least (sym (insert-same rows id row there)) �
 some_lesser : (a : ℕ) (o : Option ℕ) → (n : ℕ) × (lesser (Some a) o ≡ Some n) × (n ≤ a)
 some_lesser a None = (a, refl, omega arith)
 some_lesser a (Some b) = (min a b, refl, omega arith)
+
+-- a change that leaves the references leaves the least of them
+pub least-change : (rows : Rows) (id : List ℕ) (f : Row → Row) → ((row : Row) → (f row).reference ≡ row.reference) → least (change_row id f rows) ≡ least rows
+least-change rows id f same =
+    elim (finite.get rows id) as (λ o. finite.get rows id ≡ o → least (change_row id f rows) ≡ least rows) [
+      | None ↦ λ none. ap least (change-absent rows id f none)
+      | Some row ↦ λ there.
+          ap least (change-there rows id f row there)
+          ∙ least-insert id (f row) rows
+          ∙ ap (λ n. lesser (Some n) (least (finite.remove rows id))) (same row)
+          ∙ sym (least-there rows id row there)
+    ] refl
 
 -- no reference is below the least
 pub least-below : (rows : Rows) (id : List ℕ) (row : Row) (m : ℕ) → finite.get rows id ≡ Some row → least rows ≡ Some m → m ≤ row.reference

@@ -34,7 +34,7 @@ AreInOrder es = IsTrue (is_sorted byte_order es)
 
 -- a row, to read a place with
 abbrev pub no_row : Row
-no_row = record { last = 0; reference = 0; nacked = false; scopes = record { read = false; write = false; summary = false } }
+no_row = record { last = 0; reference = 0; nacked = false; scopes = record { read = false; write = false; summary = false }; heard = 0 }
 
 -- the two ways to say that a test holds
 holds : (b : Bool) → IsTrue b → T b

@@ -1,17 +1,12 @@
 -- The table of joined clients: a finite map from their ids to their rows.
 use Rattle.std.specs.Prelude.{ℕ, Option, Some, None, List, map, min}
 use Rattle.std.specs.List.{reduce}
-use Rattle.std.specs.Ordering.{nat_cmp}
-use Rattle.std.specs.Cmp.Lexicographic.{slice_cmp}
-use Rattle.std.specs.declared.cmp.Ordering.{Ordering}
-use Rattle.std.specs.FinMap.{FinMap, from_sorted, values, code}
+use Rattle.std.specs.Option.{option_map_or}
+use Rattle.std.specs.FinMap.{FinMap, from_sorted, get, insert, values, code}
 use Rattle.std.specs.Coded.{Coded, code_by, coded×, coded_ℕ, coded_list, coded_bool}
 use Rattle.std.specs.Prelude.{Bool, refl}
+pub use Rattle.fluid_table.specs.Table.{byte_order}
 use Rattle.fluid_clients.specs.declared.table.Row.{Row}
-
--- ids stand in the order of their bytes
-abbrev pub byte_order : List ℕ → List ℕ → Ordering
-byte_order = slice_cmp nat_cmp
 
 -- the row of each joined client under its id
 abbrev pub Rows : Type 0
@@ -30,6 +25,14 @@ pub record Table : Type 0 where
 abbrev pub least : Rows → Option ℕ
 least rows = reduce min (map (λ row. row.reference) (values rows))
 
+-- the rows with the one under an id changed; as they are where there is none
+abbrev pub change_row : List ℕ → (Row → Row) → Rows → Rows
+change_row id f rows = option_map_or (λ row. insert rows id (f row)) (get rows id) rows
+
+-- the least reference among the rows, were this one that of the client with the id
+abbrev pub least_with : Rows → List ℕ → ℕ → Option ℕ
+least_with rows id reference = least (change_row id (λ row. record row { reference = reference }) rows)
+
 -- the lesser of two numbers, either of which may be missing
 abbrev pub lesser : Option ℕ → Option ℕ → Option ℕ
 lesser None other = other
@@ -39,9 +42,16 @@ lesser (Some one) (Some other) = Some (min one other)
 -- a row as the tuple of its fields
 abbrev pub row_code : Coded Row
 row_code =
-    code_by (ℕ × (ℕ × (Bool × (Bool × (Bool × Bool))))) (coded× coded_ℕ (coded× coded_ℕ (coded× coded_bool (coded× coded_bool (coded× coded_bool coded_bool)))))
-    (λ row. (row.last, (row.reference, (row.nacked, (row.scopes.read, (row.scopes.write, row.scopes.summary))))))
-    (λ fields. record { last = fields.0; reference = fields.1.0; nacked = fields.1.1.0; scopes = record { read = fields.1.1.1.0; write = fields.1.1.1.1.0; summary = fields.1.1.1.1.1 } })
+    code_by (ℕ × (ℕ × (Bool × (Bool × (Bool × (Bool × ℕ))))))
+    (coded× coded_ℕ (coded× coded_ℕ (coded× coded_bool (coded× coded_bool (coded× coded_bool (coded× coded_bool coded_ℕ))))))
+    (λ row. (row.last, (row.reference, (row.nacked, (row.scopes.read, (row.scopes.write, (row.scopes.summary, row.heard)))))))
+    (λ fields. record {
+      last = fields.0;
+      reference = fields.1.0;
+      nacked = fields.1.1.0;
+      scopes = record { read = fields.1.1.1.0; write = fields.1.1.1.1.0; summary = fields.1.1.1.1.1.0 };
+      heard = fields.1.1.1.1.1.1;
+    })
     (λ _. refl)
 
 -- a table as the pair of its parts

@@ -3,7 +3,7 @@ ghost use Rattle.std.specs.Prelude.{◌≡◌, ◌+◌, ◌<◌, ◌≤◌, IsTr
 ghost use Rattle.std.specs.List.{reduce};
 ghost use Rattle.std.specs.Option.{option_copied};
 ghost use Rattle.std.specs.FinMap.{empty, get, insert, remove, len, keys, is_sorted};
-ghost use Rattle.fluid_clients.specs.Table.{byte_order, rows_of, least, lesser};
+ghost use Rattle.fluid_clients.specs.Table.{byte_order, rows_of, change_row, least, least_with, lesser};
 ghost use Rattle.fluid_clients.specs.Place.{IsAt, IsGap};
 
 use fluid_json::NoMemory;
@@ -22,6 +22,8 @@ pub struct Row {
     pub nacked: bool,
     /// What it may do, as it joined.
     pub scopes: Scopes,
+    /// The moment of its latest entry from its join on, whatever became of it.
+    pub heard: u64,
 }
 
 /// The joined clients with their rows.
@@ -96,6 +98,17 @@ impl Clients {
         }
     }
 
+    /// The least reference if the row of this client had this one.
+    pub fn min_with(&self, id: &ClientId, reference: u64) -> u64
+        requires { IsSome (get self.now.rows id.now) }
+        ensures { Some result ≡ least_with self.now.rows id.now reference }
+    {
+        match self.min_without(id) {
+            Some(others) => reference.min(others),
+            None => reference,
+        }
+    }
+
     /// Takes a client in. After `NoMemory` the table is as it was, and id and row are gone.
     pub fn join(&mut self, id: ClientId, row: Row) -> Result<(), NoMemory>
         requires { get self.old.rows id ≡ None }
@@ -125,7 +138,7 @@ impl Clients {
         }
     }
 
-    /// Writes down what a submission that was sequenced says of its client.
+    /// Writes down what a submission that was sequenced or absorbed says of its client.
     pub fn accept(&mut self, id: &ClientId, number: u64, reference: u64)
         requires joined { IsSome (get self.old.rows id.now) }
         requires room { 0 < self.old.spare }
@@ -152,6 +165,17 @@ impl Clients {
         row.last = number;
         row.reference = minimum;
         row.nacked = true;
+    }
+
+    /// Writes down the moment at which a client was heard of. One that isn't joined has no row.
+    pub fn hear(&mut self, id: &ClientId, moment: u64)
+        ensures heard { self.new.rows ≡ change_row id.now (λ row. record row { heard = moment }) self.old.rows }
+        ensures spare { self.old.spare ≤ self.new.spare }
+    {
+        if let Ok(at) = place(&self.rows, id) {
+            let row = &mut self.rows[at].1;
+            row.heard = moment;
+        }
     }
 
     /// Makes room for one more client.

@@ -3,6 +3,7 @@ pub mod Each
 pub mod Heard
 pub mod Nth
 pub mod Objects
+pub mod Ranges
 pub mod ReadBack
 pub mod ScopeWords
 pub mod Spelled

@@ -5,10 +5,9 @@ ghost use Rattle.fluid_json.specs.Tree.{trees};
 ghost use Rattle.fluid_codec.specs.Behind.{behind};
 ghost use Rattle.fluid_codec.specs.Events.{each, alone, batch, batches};
 
-use crate::collections::Submissions;
 use crate::records::submission;
 use fluid_json::{Items, Json};
-use fluid_types::{CodecFault, Field, What};
+use fluid_types::{CodecFault, Field, Submissions, What};
 use std::alloc::Global;
 
 /// A list of submissions and lists of submissions.

@@ -3,7 +3,6 @@ ghost use Rattle.fluid_json.specs.Unless.{IsUnless};
 ghost use Rattle.fluid_codec.specs.Events.{writes, connect_document, submit_op, get_deltas, get_summary, get_object, put_object, event_named, event_name, event, event_spelled};
 
 use crate::batches::batches;
-use crate::collections::Submissions;
 use crate::forms::{
     ADocName, AWhole, Form, HeldScopes, Name, OneOf, a_text, an_object, any, argument, item,
     optional, present_argument, required,
@@ -12,7 +11,7 @@ use crate::hexadecimal::{AnId, HexBytes, lower_hex};
 use crate::names::{EventName, LATEST, Mode};
 use crate::reading::read_value;
 use fluid_json::{Bytes, Json};
-use fluid_types::{ClientId, CodecFault, DocName, Field, Scopes, What, of_word};
+use fluid_types::{ClientId, CodecFault, DocName, Field, Scopes, Submissions, What, of_word};
 use std::alloc::Global;
 
 /// What a connection hears.

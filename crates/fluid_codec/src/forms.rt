@@ -8,7 +8,7 @@ ghost use Rattle.fluid_types.specs.Forms.{a_truth, a_whole, a_text, a_list, an_o
 ghost use Rattle.fluid_types.specs.declared.fault.Field.TheVariants as field;
 ghost use Rattle.fluid_types.specs.Texts.{name_of};
 
-use fluid_json::{Json, Text};
+use fluid_json::{Json, LARGEST, Text};
 use fluid_types::{ClientId, CodecFault, DocName, Field, NameFault, Scopes, What, Word, of_word};
 use std::alloc::Global;
 
@@ -189,9 +189,6 @@ pub(crate) fn an_object(value: &Json, field: Field) -> Result<(), CodecFault>
 
 // ---- forms
 
-/// The largest number of the protocol, 2^53 - 1: the last up to which each whole number is a double.
-pub(crate) const LARGEST: i64 = 9_007_199_254_740_991;
-
 /// `true` or `false`.
 #[derive(Clone, Copy, Drop)]
 pub(crate) struct Truth;
@@ -255,7 +252,7 @@ impl Form for Within {
 
     fn read(&self, _alloc: Global, value: &Json, field: Field) -> Result<i64, CodecFault> {
         let number = a_whole(value, field)?;
-        if self.0 <= number && number <= LARGEST {
+        if self.0 <= number && number <= LARGEST as i64 {
             Ok(number)
         } else {
             Err(CodecFault::BadField(field, What::OutOfRange))
@@ -277,7 +274,7 @@ impl Form for Count {
     fn read(&self, _alloc: Global, value: &Json, field: Field) -> Result<u64, CodecFault> {
         let number = a_whole(value, field)?;
         match u64::try_from(number) {
-            Ok(count) if self.0 <= count && count <= LARGEST as u64 => Ok(count),
+            Ok(count) if self.0 <= count && count <= LARGEST => Ok(count),
             _ => Err(CodecFault::BadField(field, What::OutOfRange)),
         }
     }

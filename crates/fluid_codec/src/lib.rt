@@ -6,7 +6,6 @@
 #![tactic(auto)]
 
 mod batches;
-mod collections;
 mod events;
 mod forms;
 mod hexadecimal;
@@ -19,8 +18,8 @@ mod replies;
 mod rows;
 mod verdicts;
 
-pub use collections::{Messages, Submissions};
 pub use events::{Asked, Event, read_event};
+pub use fluid_types::{Messages, Submissions};
 pub use laws::{answers_are_spelled, printed_is_read_back};
 pub use messages::{print_message, read_message};
 pub use names::{EventName, Mode};

@@ -4,13 +4,12 @@ ghost use Rattle.fluid_codec.specs.Rows.{rows_tokens, items_tokens};
 ghost use Rattle.fluid_codec.specs.Replies.{reply_items, reply_printed};
 ghost use Rattle.fluid_codec.specs.declared.replies.Reply.TheVariants as reply;
 
-use crate::collections::Messages;
 use crate::names::Mode;
 use crate::rows::{
     Items, Members, Print, member, print_item, print_list, print_object, print_text,
 };
 use fluid_json::{Bytes, NoMemory, Printer, Text};
-use fluid_types::{ClientId, DocName, Field, Message, Nack, Word};
+use fluid_types::{ClientId, DocName, Field, Message, Messages, Nack, Word};
 use std::alloc::Global;
 
 /// What a connection sends.

@@ -58,6 +58,7 @@ impl Members for Line<'_> {
                 Ok(())
             }
             Verdict::Dropped => member(alloc, out, Field::Dropped, &true),
+            Verdict::Absorbed => member(alloc, out, Field::Absorbed, &true),
         }
     }
 }

@@ -5,7 +5,7 @@ use Rattle.fluid_types.specs.declared.entries.Raw.{Raw}
 use Rattle.fluid_types.specs.declared.entries.Raw.TheVariants.{Join, Leave, Submit, Report}
 use Rattle.fluid_types.specs.declared.messages.Message.{Message}
 use Rattle.fluid_types.specs.declared.verdicts.Verdict.{Verdict}
-use Rattle.fluid_types.specs.declared.verdicts.Verdict.TheVariants.{Sequenced, Nacked, Dropped}
+use Rattle.fluid_types.specs.declared.verdicts.Verdict.TheVariants.{Sequenced, Nacked, Dropped, Absorbed}
 use Rattle.fluid_types.specs.Ledger.{Ledger, messages_of, order, seq}
 use Rattle.fluid_types.proofs.Ledgers.{order-push}
 use Rattle.fluid_rules.specs.Rules as rules
@@ -77,6 +77,7 @@ after-next s raw verdict = few _ _ verdict (tickets.after-sequence s.sequencer r
     few n m (Sequenced message) h = omega (arith, h)
     few n m (Nacked nack) h = omega (arith, h)
     few n m Dropped h = omega (arith, h)
+    few n m Absorbed h = omega (arith, h)
 
 -- ---- what holds of every core
 
@@ -97,6 +98,7 @@ abbrev IsNext : List Message → Verdict → Type 0
 IsNext messages (Sequenced m) = m.number ≡ length messages + 1
 IsNext messages (Nacked nack) = Unit {0}
 IsNext messages Dropped = Unit {0}
+IsNext messages Absorbed = Unit {0}
 
 -- the message of a verdict is the next of the order
 is_next : (s : State) (raw : Raw) (verdict : Verdict) → IsLevel s → verdict ≡ verdict_in s raw → IsNext s.messages verdict
@@ -105,6 +107,7 @@ is_next s raw (Sequenced m) level is =
     number_in s.sequencer (answer_for s.messages raw) raw m (is_message_in s.sequencer (answer_for s.messages raw) raw m (sym is)) ∙ ap (λ n. n + 1) level.level
 is_next s raw (Nacked nack) level is = tt
 is_next s raw Dropped level is = tt
+is_next s raw Absorbed level is = tt
 
 numbered-push : (n : ℕ) (ms : List Message) (m : Message) → AreNumberedFrom n ms → m.number ≡ n + length ms → AreNumberedFrom n (ms ++ m ∷ [])
 numbered-push n [] m numbered next = (omega (arith, next), tt)
@@ -114,6 +117,7 @@ first-after : (ms : List Message) (verdict : Verdict) → AreFirst ms → IsNext
 first-after ms (Sequenced m) first next = numbered-push 1 ms m first (omega (arith, next))
 first-after ms (Nacked nack) first next = rw (append-nil ms) first
 first-after ms Dropped first next = rw (append-nil ms) first
+first-after ms Absorbed first next = rw (append-nil ms) first
 
 pub level-after : (s : State) (raw : Raw) (verdict : Verdict) → IsLevel s → verdict ≡ verdict_in s raw → IsLevel (after s raw verdict)
 unfolding after
@@ -139,6 +143,7 @@ note-for : (ms : List Message) (verdict : Verdict) → with_note verdict (note_o
 note-for ms (Sequenced m) = refl
 note-for ms (Nacked nack) = refl
 note-for ms Dropped = refl
+note-for ms Absorbed = refl
 
 pub prepared-is : (s : State) (raw : Raw) (p : ticket.Prepared) (note : Option ScribeNote) → p ≡ ticket.prepared s.sequencer (answer_for s.messages raw) raw →
     note ≡ note_of s.messages p.verdict → record { ticket = p; note = with_note p.verdict note } ≡ prepared s raw
@@ -164,12 +169,14 @@ pub noted-is : (ms : List Message) (verdict : Verdict) → noted (note_for ms ve
 noted-is ms (Sequenced m) = refl
 noted-is ms (Nacked nack) = refl
 noted-is ms Dropped = refl
+noted-is ms Absorbed = refl
 
 can_take : (ms : List Message) (spare : ℕ) (verdict : Verdict) → HasRoom (note_for ms verdict) spare →
     CanTake (record { messages = ms; spare = spare }) (note_for ms verdict)
 can_take ms spare (Sequenced m) room = record { is = refl; room = room }
 can_take ms spare (Nacked nack) room = tt
 can_take ms spare Dropped room = tt
+can_take ms spare Absorbed room = tt
 
 pub takes : (s : State) (spare : ℕ) (raw : Raw) (ready : Prepared) → ready ≡ prepared s raw → HasRoom ready.note spare →
     CanTake (record { messages = s.messages; spare = spare }) ready.note

@@ -1,11 +1,11 @@
 -- Sequencer and scribe together: what they keep of the entries so far, the verdict of the next one, and what it makes of it.
-use Rattle.std.specs.Prelude.{◌≡◌, ℕ, ◌-◌, ◌^◌, ◌<◌, List, [], ◌∷◌, ◌++◌, length, Option, Some, None, refl}
+use Rattle.std.specs.Prelude.{◌≡◌, ℕ, ◌-◌, ◌^◌, ◌<◌, ◌≤◌, List, [], ◌∷◌, ◌++◌, length, Option, Some, None, refl}
 use Rattle.std.specs.Coded.{Coded, code_by, coded×, coded_option}
 use Rattle.fluid_types.specs.declared.entries.Raw.{Raw}
 use Rattle.fluid_types.specs.declared.entries.Raw.TheVariants.{Join, Leave, Submit, Report}
 use Rattle.fluid_types.specs.declared.messages.Message.{Message}
 use Rattle.fluid_types.specs.declared.verdicts.Verdict.{Verdict}
-use Rattle.fluid_types.specs.declared.verdicts.Verdict.TheVariants.{Sequenced, Nacked, Dropped}
+use Rattle.fluid_types.specs.declared.verdicts.Verdict.TheVariants.{Sequenced, Nacked, Dropped, Absorbed}
 use Rattle.fluid_types.specs.contracts.messages.Message as messages
 use Rattle.fluid_types.specs.contracts.verdicts.Verdict as verdicts
 use Rattle.fluid_types.specs.Ledger.{Ledger, order, messages_of}
@@ -80,6 +80,7 @@ abbrev pub note_for : List Message → Verdict → Option scribing.Prepared
 note_for messages (Sequenced m) = Some (scribing.prepared messages m)
 note_for messages (Nacked nack) = None
 note_for messages Dropped = None
+note_for messages Absorbed = None
 
 -- the message of a verdict with what is kept beside it, where there are both
 abbrev pub with_note : Verdict → Option ScribeNote → Option scribing.Prepared
@@ -87,6 +88,7 @@ with_note (Sequenced m) (Some note) = Some (scribing.with_note m note)
 with_note (Sequenced m) None = None
 with_note (Nacked nack) beside = None
 with_note Dropped beside = None
+with_note Absorbed beside = None
 
 -- what an entry is prepared as
 unfoldable pub prepared : State → Raw → Prepared
@@ -121,12 +123,17 @@ pub record IsLevel (s : State) : Type 0 where
   pub level : s.sequencer.sequence ≡ length s.messages
   pub first : AreFirst s.messages
 
+-- the number of one of the messages up to this one, the last
+abbrev pub IsUpTo : (last number : ℕ) → Type 0
+IsUpTo last number = (1 ≤ number) × (number ≤ last)
+
 -- ---- for private clauses: what the scribe notes of the message of a verdict, the messages of what it prepared, and whether it
 -- can take them
 abbrev pub note_of : List Message → Verdict → Option ScribeNote
 note_of messages (Sequenced m) = Some (scribing.note_of messages m)
 note_of messages (Nacked nack) = None
 note_of messages Dropped = None
+note_of messages Absorbed = None
 
 abbrev pub noted : Option scribing.Prepared → List Message
 noted None = []

@@ -1,5 +1,6 @@
 //! Sequencer and scribe together.
-ghost use Rattle.std.specs.Prelude.{◌≡◌, ◌+◌, ◌-◌, ◌^◌, ◌<◌, ◌≤◌, ◌++◌, ◌∷◌, [], IfOk};
+ghost use Rattle.std.specs.Prelude.{◌≡◌, ◌+◌, ◌-◌, ◌^◌, ◌<◌, ◌≤◌, ◌++◌, ◌∷◌, [], IfOk, IfSome};
+ghost use Rattle.fluid_types.specs.Fits.{IsInRange};
 ghost use Rattle.fluid_types.specs.Ledger.{Ledger, seq as last_sequence};
 ghost use Rattle.fluid_types.specs.declared.entries.Raw.{Raw as ARaw};
 ghost use Rattle.fluid_rules.specs.Rules.{minimum as minimum_by_rules, verdict as verdict_by_rules};
@@ -7,7 +8,7 @@ ghost use Rattle.fluid_quorum.specs.Order.{AreFirst};
 ghost use Rattle.fluid_rules.specs.Scribe.{acks};
 ghost use Rattle.fluid_scribe.specs.Jobs.{job};
 ghost use Rattle.fluid_ticket.specs.State.{minimum, HasMinimumUpTo};
-ghost use Rattle.fluid_core.specs.Entering.{start, answer_for, note_of, with_note, after, prepared, IsPreparedIn, StandsFor, noted, CanTake};
+ghost use Rattle.fluid_core.specs.Entering.{start, answer_for, note_of, with_note, after, prepared, IsPreparedIn, StandsFor, noted, CanTake, IsUpTo};
 
 use fluid_clients::Clients;
 use fluid_json::NoMemory;
@@ -27,15 +28,14 @@ pub struct Core {
 impl Model for Core {
     ghost use Rattle.std.specs.Prelude.{ℕ, List, refl};
     ghost use Rattle.std.specs.Coded.{code_by, coded×, coded_ℕ, coded_list};
-    ghost use Rattle.std.specs.FinMap.{code};
     ghost use Rattle.fluid_types.specs.declared.messages.Message.{Message};
     ghost use Rattle.fluid_types.specs.contracts.messages.Message as messages;
-    ghost use Rattle.fluid_clients.specs.Table.{Rows, row_code};
+    ghost use Rattle.fluid_ticket.specs.State.{State, state_code};
     ghost use Rattle.fluid_core.specs.Entering.{Entering, IsLevel};
 
     ghost Value = { Entering };
 
-    ghost coded = { code_by (ℕ × (Rows × (List Message × (ℕ × ℕ)))) (coded× coded_ℕ (coded× (code (coded_list coded_ℕ) row_code) (coded× (coded_list messages.the_row.coded) (coded× coded_ℕ coded_ℕ)))) (λ e. (e.state.sequencer.sequence, (e.state.sequencer.rows, (e.state.messages, (e.clients, e.notes))))) (λ p. record { state = record { sequencer = record { sequence = p.0; rows = p.1.0 }; messages = p.1.1.0 }; clients = p.1.1.1.0; notes = p.1.1.1.1 }) (λ _. refl) };
+    ghost coded = { code_by (State × (List Message × (ℕ × ℕ))) (coded× state_code (coded× (coded_list messages.the_row.coded) (coded× coded_ℕ coded_ℕ))) (λ e. (e.state.sequencer, (e.state.messages, (e.clients, e.notes)))) (λ p. record { state = record { sequencer = p.0; messages = p.1.0 }; clients = p.1.1.0; notes = p.1.1.1 }) (λ _. refl) };
 
     ghost view = { λ c. record {
       state = record { sequencer = c.sequencer.state; messages = c.scribe.messages };
@@ -139,12 +139,13 @@ impl Core {
     /// The last sequence number, 0 before the first message. Takes no memory.
     pub fn seq(&self) -> u64
         ensures is { result ≡ self.now.state.sequencer.sequence }
+        ensures few { result ≤ 2 ^ 53 - 1 }
         ensures stands { (ledger : Ledger) → StandsFor self.now.state ledger → result ≡ last_sequence ledger }
     {
         self.sequencer.seq()
     }
 
-    /// The minimum sequence number. Takes no memory.
+    /// The minimum sequence number, which an absorbed noop may have raised above that of the last message. Takes no memory.
     pub fn min(&self) -> u64
         ensures is { result ≡ minimum self.now.state.sequencer }
         ensures stands { (ledger : Ledger) → StandsFor self.now.state ledger → result ≡ minimum_by_rules ledger }
@@ -170,13 +171,16 @@ impl Core {
     pub fn job(&mut self, alloc: Global) -> Result<Option<Job>, NoMemory>
         ensures same { self.new ≡ self.old }
         ensures job { IfOk result (λ given. given ≡ job self.old.state.messages) }
+        ensures sequenced { IfOk result (λ given.
+            IfSome given (λ job. IsUpTo self.old.state.sequencer.sequence job.summary)) }
     {
         self.scribe.job(alloc)
     }
 
     /// Gives a raw entry its verdict and makes every growth that this verdict needs. The state stays.
     pub fn prepare(&mut self, alloc: Global, raw: &Raw) -> Result<CoreReady, NoMemory>
-        requires { self.old.state.sequencer.sequence < 2 ^ 53 - 1 }
+        requires few { self.old.state.sequencer.sequence < 2 ^ 53 - 1 }
+        requires in_range { IsInRange raw.now }
         ensures same { self.new.state ≡ self.old.state }
         ensures room { (self.old.clients ≤ self.new.clients) × (self.old.notes ≤ self.new.notes) }
         ensures ready { IfOk result (λ ready. ready ≡ prepared self.old.state raw.now) }
@@ -206,7 +210,8 @@ impl Core {
     /// The same as `prepare` for who needs no verdict behind the entry: its message isn't copied, but for a summarize, which is to
     /// wait for its answer.
     pub fn prepare_entry(&mut self, alloc: Global, raw: &Raw) -> Result<CoreEntry, NoMemory>
-        requires { self.old.state.sequencer.sequence < 2 ^ 53 - 1 }
+        requires few { self.old.state.sequencer.sequence < 2 ^ 53 - 1 }
+        requires in_range { IsInRange raw.now }
         ensures same { self.new.state ≡ self.old.state }
         ensures room { (self.old.clients ≤ self.new.clients) × (self.old.notes ≤ self.new.notes) }
         ensures entry { IfOk result (λ entry. entry ≡ prepared self.old.state raw.now) }
@@ -262,7 +267,7 @@ fn note_of(
             let note = scribe.note(alloc, message)?;
             Ok(Some(note))
         }
-        Verdict::Nacked(_) | Verdict::Dropped => Ok(None),
+        Verdict::Nacked(_) | Verdict::Dropped | Verdict::Absorbed => Ok(None),
     }
 }
 
@@ -271,7 +276,15 @@ fn take(scribe: &mut Scribe, verdict: Verdict, note: Option<ScribeNote>)
     requires { CanTake scribe.old (with_note verdict note) }
     ensures { scribe.new.messages ≡ scribe.old.messages ++ noted (with_note verdict note) }
 {
-    if let (Verdict::Sequenced(message), Some(note)) = (verdict, note) {
-        scribe.take(message, note);
+    // (an arm for each verdict, so that each proof knows its case)
+    match verdict {
+        Verdict::Sequenced(message) => {
+            if let Some(note) = note {
+                scribe.take(message, note);
+            }
+        }
+        Verdict::Nacked(_) => {}
+        Verdict::Dropped => {}
+        Verdict::Absorbed => {}
     }
 }

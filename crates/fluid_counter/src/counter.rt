@@ -157,4 +157,18 @@ impl SharedCounter {
         let total = content::read(alloc, blob)?;
         Ok(SharedCounter::at(alloc, total))
     }
+
+    /// The acknowledged total, without the pending increments. Takes no memory.
+    pub fn total(&self) -> i128
+        ensures { result ≡ self.now.acknowledged }
+    {
+        self.acknowledged
+    }
+
+    /// The counter at the acknowledged total, with nothing pending. Takes no memory.
+    pub fn copy_acknowledged(&self, alloc: Global) -> SharedCounter
+        ensures { result ≡ record { acknowledged = self.now.acknowledged; pending = [] } }
+    {
+        SharedCounter::at(alloc, self.acknowledged)
+    }
 }

@@ -1,4 +1,3 @@
-pub mod Numbering
 mod Putting
 mod Reading
 mod Slices

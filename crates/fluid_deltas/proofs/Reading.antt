@@ -10,7 +10,7 @@ use Rattle.fluid_deltas.specs.declared.fault.DeltaFault.TheVariants.{DeltaFailed
 use Rattle.fluid_deltas.specs.Stored.{in_front, then_others, delta_messages}
 use Rattle.fluid_deltas.specs.Ranges.{AreNumbersOf, IsDelta, DecodesAs, IsBadAs, deltas_between}
 use Rattle.fluid_log.proofs.Sameness.{same_itself, same_twice}
-use Rattle.fluid_deltas.proofs.Numbering.{numbered_more}
+use Rattle.fluid_types.proofs.Numbers.{numbered_more}
 use Rattle.fluid_deltas.proofs.Telling.{tells_each, tells_both, tells_along}
 
 drop_at : {X : Type 0} (xs : List X) (i : ℕ) (x : X) → slice_get xs i ≡ Some x → drop i xs ≡ x ∷ drop (suc i) xs

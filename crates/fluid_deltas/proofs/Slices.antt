@@ -11,12 +11,13 @@ use Rattle.fluid_io.specs.Causes.{Tells}
 use Rattle.fluid_log.specs.Keeping.{Content, Keeping, HasLengths, IsSized, IsText}
 use Rattle.fluid_deltas.specs.declared.fault.DeltaFault.{DeltaFault}
 use Rattle.fluid_deltas.specs.declared.fault.DeltaFault.TheVariants.{DeltaFailed, NoMemory, BadDelta, Worn}
-use Rattle.fluid_deltas.specs.Pushed.{Pushed, pushed, AreNumbered, IsKeepable, AreInOrder, AreDeltasOf, AreEndOf, StandFor, slice}
+use Rattle.fluid_types.specs.Order.{AreNumberedFrom, AreFirst}
+use Rattle.fluid_types.proofs.Numbers.{numbered_same, numbered_take, numbered_drop, numbered_append, numbered_more}
+use Rattle.fluid_deltas.specs.Pushed.{Pushed, pushed, IsKeepable, AreInOrder, AreDeltasOf, AreEndOf, StandFor, slice}
 use Rattle.fluid_deltas.specs.Stored.{delta_message, in_front, then_others, delta_messages}
 use Rattle.fluid_deltas.specs.Ranges.{AreNumbersOf, IsAnswer, IsSlice, held_between, deltas_between, followed_by, range_of}
 use Rattle.fluid_deltas.specs.Flushes.{lacking, put_behind, Puts, PutsFront, AreAll}
 use Rattle.fluid_deltas.proofs.Telling.{tells_from, tells_both, tells_along, tells_becomes}
-use Rattle.fluid_deltas.proofs.Numbering.{numbered_from, numbered_take, numbered_drop, numbered_append, numbered_more}
 
 -- ---- lists
 
@@ -49,35 +50,35 @@ pub behind_is : (xs : List Message) (k f : ℕ) → f ≡ min k (length xs) → 
 behind_is xs k f is =
     take_all (length xs - f) (drop f xs) (omega (arith, length-drop f xs)) ∙ ap (λ n. drop n xs) is ∙ drop_min xs k
 
-pub behind_numbered : (xs : List Message) (before count f : ℕ) → AreNumbered (before + 1) xs → before ≤ count → f ≡ min (count - before) (length xs) → AreNumbered (count + 1) (take (length xs - f) (drop f xs))
+pub behind_numbered : (xs : List Message) (before count f : ℕ) → AreNumberedFrom (before + 1) xs → before ≤ count → f ≡ min (count - before) (length xs) → AreNumberedFrom (count + 1) (take (length xs - f) (drop f xs))
 behind_numbered xs before count f numbered le is =
     let number : before + 1 + (count - before) ≡ count + 1 = omega arith in
-    subst (λ ms. AreNumbered (count + 1) ms) (sym (behind_is xs (count - before) f is))
-    (numbered_from (drop (count - before) xs) _ _ number (numbered_drop xs (before + 1) (count - before) numbered))
+    subst (λ ms. AreNumberedFrom (count + 1) ms) (sym (behind_is xs (count - before) f is))
+    (numbered_same (drop (count - before) xs) _ _ number (numbered_drop xs (before + 1) (count - before) numbered))
 
 -- ---- the messages in memory
 
 length_end : (d : Pushed) (order : List Message) → AreEndOf d order → length order ≡ pushed d
 length_end d order end = ap length end.splits ∙ length-append end.first d.held ∙ ap (λ n. n + length d.held) end.before
 
-held_of : (d : Pushed) (order : List Message) (content : Content) → StandFor d order content → d.held ≡ drop d.before order
-held_of d order content stands =
-    sym (ap (λ n. drop n order) (sym stands.end.before) ∙ ap (drop (length stands.end.first)) stands.end.splits ∙ drop-append_seam stands.end.first d.held)
+held_of : (d : Pushed) (order : List Message) → AreEndOf d order → d.held ≡ drop d.before order
+held_of d order end =
+    sym (ap (λ n. drop n order) (sym end.before) ∙ ap (drop (length end.first)) end.splits ∙ drop-append_seam end.first d.held)
 
-held_between_of : (d : Pushed) (order : List Message) (content : Content) (start end : ℕ) → StandFor d order content
+held_between_of : (d : Pushed) (order : List Message) (start end : ℕ) → AreEndOf d order
     → held_between d start end ≡ take (end - max start d.before) (drop (max start d.before) order)
-held_between_of d order content start end stands =
+held_between_of d order start end is =
     let count = end - max start d.before in
     let at : d.before + (start - d.before) ≡ max start d.before = omega arith in
-    ap (λ held. take count (drop (start - d.before) held)) (held_of d order content stands)
+    ap (λ held. take count (drop (start - d.before) held)) (held_of d order is)
     ∙ ap (take count) (drop-drop (start - d.before) d.before order ∙ ap (λ n. drop n order) at)
 
 -- a range in memory is a slice of the order
-pub held_slice : (d : Pushed) (order : List Message) (content : Content) (from to : ℕ) → StandFor d order content → d.before < from → held_between d (from - 1) (to - 1) ≡ slice order from to
-held_slice d order content from to stands lt =
+pub held_slice : (d : Pushed) (order : List Message) (from to : ℕ) → AreEndOf d order → d.before < from → held_between d (from - 1) (to - 1) ≡ slice order from to
+held_slice d order from to end lt =
     let at : max (from - 1) d.before ≡ from - 1 = omega arith in
     let count : to - 1 - (from - 1) ≡ to - from = omega arith in
-    held_between_of d order content (from - 1) (to - 1) stands
+    held_between_of d order (from - 1) (to - 1) end
     ∙ ap (λ n. take (to - 1 - n) (drop n order)) at
     ∙ ap (λ n. take n (drop (from - 1) order)) count
 
@@ -96,11 +97,11 @@ kept_texts order deltas s k are le =
 one_decoded : (n : ℕ) (m : Message) → m.number ≡ n → IsKeepable m → IsText (message_printed m) → delta_message n (message_printed m) ≡ Ok m
 one_decoded n m number keepable text = rw (text, keepable.read_back, eq-eqb m.number n number) refl
 
-texts_decoded : (n : ℕ) (ms : List Message) → AreNumbered n ms → All IsKeepable ms → All IsText (map message_printed ms) → delta_messages n (map message_printed ms) ≡ Ok ms
+texts_decoded : (n : ℕ) (ms : List Message) → AreNumberedFrom n ms → All IsKeepable ms → All IsText (map message_printed ms) → delta_messages n (map message_printed ms) ≡ Ok ms
 texts_decoded n [] numbered keepable texts = refl
 texts_decoded n (m ∷ ms) numbered keepable texts =
     let one = one_decoded n m numbered.0 (keepable 0 m (omega arith)) (texts 0 (message_printed m) (omega arith)) in
-    let others = texts_decoded (n + 1) ms numbered.1 (λ k d lt. keepable (suc k) d (omega arith)) (λ k d lt. texts (suc k) d (omega arith)) in
+    let others = texts_decoded (n + 1) ms (numbered_same ms (suc n) (n + 1) (omega arith) numbered.1) (λ k d lt. keepable (suc k) d (omega arith)) (λ k d lt. texts (suc k) d (omega arith)) in
     ap (λ answer. then_others answer (delta_messages (n + 1) (map message_printed ms))) one ∙ ap (in_front (m ∷ [])) others
 
 -- the deltas of a range decode to that part of the order
@@ -109,7 +110,7 @@ range_first : (d : Pushed) (order : List Message) (content : Content) (s e from 
 range_first d order content s e from stands number le lt =
     let texts = kept_texts order content.deltas s (e - s) stands.deltas (omega (arith, stands.reached)) in
     let messages = take (e - s) (drop s order) in
-    let numbered : AreNumbered from messages = numbered_from messages (1 + s) from (omega arith) (numbered_take (drop s order) (1 + s) (e - s) (numbered_drop order 1 s stands.end.numbered)) in
+    let numbered : AreNumberedFrom from messages = numbered_same messages (1 + s) from (omega arith) (numbered_take (drop s order) (1 + s) (e - s) (numbered_drop order 1 s stands.end.numbered)) in
     ap (delta_messages from) texts
     ∙ texts_decoded from messages numbered
     (All-take IsKeepable (e - s) (drop s order) (All-drop IsKeepable s order stands.end.keepable))
@@ -132,7 +133,7 @@ range_slice d order content from to stands first ordered =
     (cases_lt s e) in
     let count : to - 1 - s ≡ to - from = omega arith in
     ap (λ answer. followed_by answer (held_between d s (to - 1))) deltas
-    ∙ ap (λ held. Ok (take (e - s) (drop s order) ++ held)) (held_between_of d order content s (to - 1) stands)
+    ∙ ap (λ held. Ok (take (e - s) (drop s order) ++ held)) (held_between_of d order s (to - 1) stands.end)
     ∙ ap Ok (join order s (to - 1) d.before (omega arith) ∙ ap (λ n. take n (drop s order)) count)
 
 -- so what was answered is that slice
@@ -145,13 +146,13 @@ answer_slice messages (Err Worn) answer ms is answered = answered
 
 -- ---- numbers over every keeper
 
-pub collected_numbers : (d : Pushed) (from to : ℕ) (first : List Message) → AreNumbered (d.before + 1) d.held → 0 < from → from ≤ to → to ≤ pushed d + 1
+pub collected_numbers : (d : Pushed) (from to : ℕ) (first : List Message) → AreNumberedFrom (d.before + 1) d.held → 0 < from → from ≤ to → to ≤ pushed d + 1
     → AreNumbersOf (from - 1 + 1) (max (from - 1) (min (to - 1) d.before) + 1) first → AreNumbersOf from to (first ++ held_between d (from - 1) (to - 1))
 collected_numbers d from to first held low ordered high numbers =
     let s = from - 1 in
     let e = to - 1 in
     let b = d.before in
-    let front : AreNumbered from first = numbered_from first (s + 1) from (omega arith) numbers.numbered in
+    let front : AreNumberedFrom from first = numbered_same first (s + 1) from (omega arith) numbers.numbered in
     ⊎_elim
     (λ (lt : b < e).
     let rest = drop (s - b) d.held in
@@ -159,7 +160,7 @@ collected_numbers d from to first held low ordered high numbers =
     let next : b + 1 + (s - b) ≡ from + length first = omega (arith, numbers.count) in
     record {
       numbered = numbered_append first (take (e - max s b) rest) from front
-          (numbered_from (take (e - max s b) rest) _ _ next (numbered_take rest (b + 1 + (s - b)) (e - max s b) (numbered_drop d.held (b + 1) (s - b) held)));
+          (numbered_same (take (e - max s b) rest) _ _ next (numbered_take rest (b + 1 + (s - b)) (e - max s b) (numbered_drop d.held (b + 1) (s - b) held)));
       count = omega (arith, numbers.count, size, length-append first (take (e - max s b) rest));
     })
     (λ (le : e ≤ b).
@@ -210,7 +211,7 @@ push_stands old new order content m before held next keepable stands = record {
 -- ---- no message in memory
 
 -- nothing in memory is the end of any order of so many messages
-pub none_end : (d : Pushed) (order : List Message) → d.held ≡ [] → length order ≡ d.before → AreNumbered 1 order → All IsKeepable order → AreEndOf d order
+pub none_end : (d : Pushed) (order : List Message) → d.held ≡ [] → length order ≡ d.before → AreFirst order → All IsKeepable order → AreEndOf d order
 none_end d order held count numbered keepable = record {
   first = order;
   splits = sym (append-nil order) ∙ ap (λ ms. order ++ ms) (sym held);
@@ -236,7 +237,7 @@ nothing_stands d content held before none = record {
 lacking_of : (d : Pushed) (order : List Message) (content : Content) → StandFor d order content → lacking d (length content.deltas) ≡ drop (length content.deltas) order
 lacking_of d order content stands =
     let at : d.before + (length content.deltas - d.before) ≡ length content.deltas = omega (arith, stands.reached) in
-    ap (drop (length content.deltas - d.before)) (held_of d order content stands)
+    ap (drop (length content.deltas - d.before)) (held_of d order stands.end)
     ∙ drop-drop (length content.deltas - d.before) d.before order
     ∙ ap (λ n. drop n order) at
 

@@ -1,10 +1,11 @@
 -- The messages of an order, as they are pushed one by one.
-use Rattle.std.specs.Prelude.{◌≡◌, ℕ, ◌+◌, ◌-◌, ◌≤◌, ⊤, List, [], ◌∷◌, ◌++◌, length, take, drop, map, All, Ok, refl}
+use Rattle.std.specs.Prelude.{◌≡◌, ℕ, ◌+◌, ◌-◌, ◌≤◌, List, ◌++◌, length, take, drop, map, All, Ok, refl}
 use Rattle.std.specs.Coded.{Coded, code_by, coded×, coded_ℕ, coded_list}
 use Rattle.fluid_types.specs.declared.messages.Message.{Message}
 use Rattle.fluid_types.specs.contracts.messages.Message as message
 use Rattle.fluid_types.specs.Printed.{message_printed}
 use Rattle.fluid_types.specs.Messages.{message_spelled}
+use Rattle.fluid_types.specs.Order.{AreNumberedFrom, AreFirst}
 use Rattle.fluid_log.specs.declared.keeper.TheConstants.{LONGEST_KEPT}
 use Rattle.fluid_log.specs.Keeping.{Content, IsText}
 
@@ -20,11 +21,6 @@ pub record Pushed : Type 0 where
 abbrev pub pushed : Pushed → ℕ
 pushed d = d.before + length d.held
 
--- the messages are numbered one by one, from this number on
-abbrev pub AreNumbered : ℕ → List Message → Type 0
-AreNumbered number [] = ⊤
-AreNumbered number (m ∷ ms) = (m.number ≡ number) × AreNumbered (number + 1) ms
-
 -- a message whose text a keeper takes, and which is read back from it as it was
 pub record IsKeepable (m : Message) : Type 0 where
   pub short : length (message_printed m) ≤ LONGEST_KEPT
@@ -32,7 +28,7 @@ pub record IsKeepable (m : Message) : Type 0 where
 
 -- what holds of the messages in memory, behind the first `before` and up to the number `last`
 pub record AreInOrder (before last : ℕ) (held : List Message) : Type 0 where
-  pub numbered : AreNumbered (before + 1) held
+  pub numbered : AreNumberedFrom (before + 1) held
   pub keepable : All IsKeepable held
   pub counted : last ≡ before + length held
 
@@ -55,7 +51,7 @@ pub record AreEndOf (d : Pushed) (order : List Message) : Type 0 where
   pub splits : order ≡ first ++ d.held
   pub before : length first ≡ d.before
   -- every message of the order can be kept, and they are numbered from 1
-  pub numbered : AreNumbered 1 order
+  pub numbered : AreFirst order
   pub keepable : All IsKeepable order
 
 -- the messages in memory and a keeper's deltas together are the order

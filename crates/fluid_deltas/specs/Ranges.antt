@@ -3,11 +3,12 @@
 use Rattle.std.specs.Prelude.{◌≡◌, ℕ, ◌+◌, ◌-◌, ◌<◌, ◌≤◌, ⊤, List, ◌++◌, length, take, drop, min, max, slice_get, Some, Result, Ok, Err}
 use Rattle.fluid_io.specs.Causes.{Rose}
 use Rattle.fluid_io.specs.declared.faults.FaultNote.{FaultNote}
+use Rattle.fluid_types.specs.Order.{AreNumberedFrom}
 use Rattle.fluid_types.specs.declared.messages.Message.{Message}
 use Rattle.fluid_log.specs.Keeping.{Content}
 use Rattle.fluid_deltas.specs.declared.fault.DeltaFault.{DeltaFault}
 use Rattle.fluid_deltas.specs.declared.fault.DeltaFault.TheVariants.{DeltaFailed, NoMemory, BadDelta, Worn}
-use Rattle.fluid_deltas.specs.Pushed.{Pushed, pushed, AreNumbered, slice}
+use Rattle.fluid_deltas.specs.Pushed.{Pushed, pushed, slice}
 use Rattle.fluid_deltas.specs.Stored.{delta_message, delta_messages}
 
 -- the messages in memory among those of the places from `start` up to `end`
@@ -96,7 +97,7 @@ IsNotBad Worn = ⊥
 
 -- the messages have the numbers of the range, in order
 pub record AreNumbersOf (from to : ℕ) (messages : List Message) : Type 0 where
-  pub numbered : AreNumbered from messages
+  pub numbered : AreNumberedFrom from messages
   pub count : from + length messages ≡ to
 
 -- a range of the whole order was answered: its slice, and no bad delta

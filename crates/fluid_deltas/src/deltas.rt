@@ -1,10 +1,11 @@
 //! The messages of an order in memory.
 ghost use Rattle.std.specs.Prelude.{◌≡◌, ℕ, ◌+◌, ◌-◌, ◌^◌, ◌<◌, ◌≤◌, ◌↔◌, List, [], ◌∷◌, ◌++◌, length, take, drop, IsSome, IfSome, IfOk, IfErr, OnOk, All};
 ghost use Rattle.fluid_io.specs.Causes.{Tells};
+ghost use Rattle.fluid_types.specs.Order.{AreNumberedFrom, AreFirst};
 ghost use Rattle.fluid_types.specs.declared.messages.Message.{Message};
 ghost use Rattle.fluid_log.specs.Keeping.{Content};
 ghost use Rattle.fluid_log.specs.Calls.{KeepsSame};
-ghost use Rattle.fluid_deltas.specs.Pushed.{pushed, AreNumbered, IsKeepable, AreDeltasOf, AreEndOf, StandFor, slice};
+ghost use Rattle.fluid_deltas.specs.Pushed.{pushed, IsKeepable, AreDeltasOf, AreEndOf, StandFor, slice};
 ghost use Rattle.fluid_deltas.specs.Ranges.{IsFaultOf, IsNotBad, IsBadIn, IsAnswer, IsHeldAnswer, IsSlice, AreHeld, AreNumbersOf, held_between, range_of};
 ghost use Rattle.fluid_deltas.specs.Flushes.{lacking, PutsAll, AreAll};
 
@@ -102,8 +103,8 @@ impl Deltas {
         ensures before { self.new.before ≡ count }
         ensures held { self.new.held ≡ [] }
         ensures spare { self.old.spare ≤ self.new.spare }
-        ensures end { (order : List Message) → length order ≡ count → AreNumbered 1 order → All IsKeepable order → AreEndOf self.new order }
-        ensures stands { (order : List Message) (content : Content) → length order ≡ count → AreNumbered 1 order → All IsKeepable order →
+        ensures end { (order : List Message) → length order ≡ count → AreFirst order → All IsKeepable order → AreEndOf self.new order }
+        ensures stands { (order : List Message) (content : Content) → length order ≡ count → AreFirst order → All IsKeepable order →
             AreDeltasOf order content.deltas → count ≤ length content.deltas → StandFor self.new order content }
     {
         self.held.clear();
@@ -115,7 +116,7 @@ impl Deltas {
     pub fn held(&self, from: u64, to: u64) -> Option<&[Message]>
         ensures known { IsSome result ↔ AreHeld self.now from to }
         ensures messages { IfSome result (λ messages. messages.now ≡ held_between self.now (from - 1) (to - 1)) }
-        ensures slice { (order : List Message) (content : Content) → StandFor self.now order content →
+        ensures slice { (order : List Message) → AreEndOf self.now order →
             IfSome result (λ messages. messages.now ≡ slice order from to) }
     {
         if to <= from {
@@ -143,7 +144,7 @@ impl Deltas {
     fn behind(&self, count: u64) -> &[Message]
         requires { self.now.before ≤ count }
         ensures messages { result.now ≡ lacking self.now count }
-        ensures numbered { AreNumbered (count + 1) result.now }
+        ensures numbered { AreNumberedFrom (count + 1) result.now }
         ensures keepable { All IsKeepable result.now }
     {
         let from = (count - self.before) as usize;

@@ -1,6 +1,7 @@
 //! How messages come into a keeper.
 ghost use Rattle.std.specs.Prelude.{◌≡◌, ◌+◌, ◌≤◌, IfErr, All};
-ghost use Rattle.fluid_deltas.specs.Pushed.{AreNumbered, IsKeepable};
+ghost use Rattle.fluid_types.specs.Order.{AreNumberedFrom};
+ghost use Rattle.fluid_deltas.specs.Pushed.{IsKeepable};
 ghost use Rattle.fluid_deltas.specs.Ranges.{IsNoted, IsFaultOf, IsNotBad};
 ghost use Rattle.fluid_deltas.specs.Flushes.{PutsOne, PutsAll};
 
@@ -47,7 +48,7 @@ pub(crate) fn put_all<K: Keeper>(
     keeper: &mut K,
     messages: &[Message],
 ) -> Result<(), DeltaFault>
-    requires next { AreNumbered ((K.seen keeper.old).deltas + 1) messages.now }
+    requires next { AreNumberedFrom ((K.seen keeper.old).deltas + 1) messages.now }
     requires keepable { All IsKeepable messages.now }
     ensures later { (K.seen keeper.old).faults ≤ (K.seen keeper.new).faults }
     ensures cause { IfErr result (IsFaultOf (K.seen keeper.old).faults (K.seen keeper.new).faults) }

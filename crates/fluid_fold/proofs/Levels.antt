@@ -5,12 +5,13 @@ use Rattle.fluid_types.specs.Fits.{Fits}
 use Rattle.fluid_types.specs.declared.entries.Raw.{Raw}
 use Rattle.fluid_types.specs.declared.messages.Message.{Message}
 use Rattle.fluid_types.specs.declared.verdicts.Verdict.{Verdict}
-use Rattle.fluid_types.specs.declared.verdicts.Verdict.TheVariants.{Sequenced, Nacked, Dropped}
+use Rattle.fluid_types.specs.declared.verdicts.Verdict.TheVariants.{Sequenced, Nacked, Dropped, Absorbed}
 use Rattle.fluid_types.specs.Ledger.{messages_of}
 use Rattle.fluid_rules.specs.Counted.{is_counted}
 use Rattle.fluid_log.specs.Keeping.{Content}
-use Rattle.fluid_deltas.specs.Pushed.{Pushed, AreNumbered, IsKeepable, StandFor}
-use Rattle.fluid_deltas.proofs.Numbering.{numbered_append, numbered_from}
+use Rattle.fluid_types.specs.Order.{AreNumberedFrom}
+use Rattle.fluid_types.proofs.Numbers.{numbered_append, numbered_same}
+use Rattle.fluid_deltas.specs.Pushed.{Pushed, IsKeepable, StandFor}
 use Rattle.fluid_core.specs.Entering.{State, verdict_in, after}
 use Rattle.fluid_core.specs.Entering as entering
 use Rattle.fluid_core.proofs.Entered.{parts_of}
@@ -30,19 +31,21 @@ one_message : (v : Verdict) → length (messages_of v) ≤ 1
 one_message (Sequenced m) = omega arith
 one_message (Nacked nack) = omega arith
 one_message Dropped = omega arith
+one_message Absorbed = omega arith
 
 pub listed : (v : Verdict) → option_to_list (message_of v) ≡ messages_of v
 listed (Sequenced m) = refl
 listed (Nacked nack) = refl
 listed Dropped = refl
+listed Absorbed = refl
 
 pub sequence_few : (f : Folding) → IsLevelled f → f.entered < most → f.state.sequencer.sequence < 2 ^ 53 - 1
 sequence_few f level few = omega (arith, level.sequenced, few)
 
 -- the message of the next verdict, where it has one, is numbered behind those in memory, and can be kept
-pub next-numbered : (f : Folding) (raw : Raw) → IsLevelled f → AreNumbered (f.before + length f.held + 1) (messages_of (verdict_in f.state raw))
+pub next-numbered : (f : Folding) (raw : Raw) → IsLevelled f → AreNumberedFrom (f.before + length f.held + 1) (messages_of (verdict_in f.state raw))
 next-numbered f raw level =
-    numbered_from (messages_of (verdict_in f.state raw)) (f.state.sequencer.sequence + 1) (f.before + length f.held + 1) (ap (λ n. n + 1) level.level) (messages-numbered f.state raw)
+    numbered_same (messages_of (verdict_in f.state raw)) (f.state.sequencer.sequence + 1) (f.before + length f.held + 1) (ap (λ n. n + 1) level.level) (messages-numbered f.state raw)
 
 pub next-keepable : (f : Folding) (raw : Raw) → IsLevelled f → f.entered < most → Fits raw → All IsKeepable (messages_of (verdict_in f.state raw))
 next-keepable f raw level few fits = messages-keepable f.state raw level.sound (sequence_few f level few) fits
@@ -58,7 +61,7 @@ levelled-taken f raw level few keepable =
       counts = omega (arith, level.counts, counts_one (is_counted raw));
       few = omega (arith, few);
       numbered = numbered_append f.held (messages_of v) (f.before + 1) level.numbered
-          (numbered_from (messages_of v) (f.before + length f.held + 1) (f.before + 1 + length f.held) (omega arith) (next-numbered f raw level));
+          (numbered_same (messages_of v) (f.before + length f.held + 1) (f.before + 1 + length f.held) (omega arith) (next-numbered f raw level));
       keepable = All-append IsKeepable f.held (messages_of v) level.keepable keepable;
       sound = sound-after f.state raw level.sound (sequence_few f level few);
     }

@@ -16,20 +16,21 @@ use Rattle.fluid_types.specs.declared.entries.Raw.TheVariants.{Join, Leave, Subm
 use Rattle.fluid_types.specs.declared.entries.Scopes.{Scopes}
 use Rattle.fluid_types.specs.declared.messages.Message.{Message}
 use Rattle.fluid_types.specs.declared.verdicts.Verdict.{Verdict}
-use Rattle.fluid_types.specs.declared.verdicts.Verdict.TheVariants.{Sequenced, Nacked, Dropped}
+use Rattle.fluid_types.specs.declared.verdicts.Verdict.TheVariants.{Sequenced, Nacked, Dropped, Absorbed}
 use Rattle.fluid_types.specs.Ledger.{messages_of}
-use Rattle.fluid_rules.specs.Past.{is_below, is_sequenced, count_of}
+use Rattle.fluid_rules.specs.Past.{is_below, is_sequenced, count_of, read_as}
 use Rattle.fluid_rules.specs.Rules.{unsettled}
 use Rattle.fluid_rules.specs.Scribe.{answer}
 use Rattle.fluid_clients.specs.declared.table.Row.{Row}
-use Rattle.fluid_clients.specs.Table.{Rows, byte_order, least}
+use Rattle.fluid_clients.specs.Table.{Rows, byte_order, change_row, least}
 use Rattle.fluid_clients.proofs.Laws.{byte_order_total, least-reached}
-use Rattle.fluid_fits.specs.Laws.{IsMessageOf}
-use Rattle.fluid_fits.proofs.Messages.{is_message_of, messages_of_are_read_back}
-use Rattle.fluid_deltas.specs.Pushed.{IsKeepable, AreNumbered}
+use Rattle.fluid_readback.specs.Laws.{IsMessageOf}
+use Rattle.fluid_readback.proofs.Messages.{is_message_of, messages_of_are_read_back}
+use Rattle.fluid_types.specs.Order.{AreNumberedFrom}
+use Rattle.fluid_deltas.specs.Pushed.{IsKeepable}
 use Rattle.fluid_ticket.specs.State as ticket
-use Rattle.fluid_ticket.specs.State.{IsSound, change_of, changed, change_row}
-use Rattle.fluid_ticket.specs.declared.ready.Change.TheVariants.{Nothing, Holds}
+use Rattle.fluid_ticket.specs.State.{IsSound, change_of, changed}
+use Rattle.fluid_ticket.specs.declared.ready.Change.TheVariants.{Holds, Hears}
 use Rattle.fluid_ticket.proofs.Ledgers as tickets
 use Rattle.fluid_ticket.proofs.Ledgers.{tied_back, get_changed}
 use Rattle.fluid_ticket.proofs.Commits.{is_message_in, number_in, minimum_sequenced, sound_after}
@@ -50,13 +51,14 @@ unfolding verdict_in
 verdict-number s raw m is = number_in s.sequencer (answer_for s.messages raw) raw m (is_message_in s.sequencer (answer_for s.messages raw) raw m is)
 
 -- the message of a verdict is the next one
-pub messages-numbered : (s : State) (raw : Raw) → AreNumbered (s.sequencer.sequence + 1) (messages_of (verdict_in s raw))
+pub messages-numbered : (s : State) (raw : Raw) → AreNumberedFrom (s.sequencer.sequence + 1) (messages_of (verdict_in s raw))
 messages-numbered s raw = next (verdict_in s raw) refl
   where
-    next : (v : Verdict) → verdict_in s raw ≡ v → AreNumbered (s.sequencer.sequence + 1) (messages_of v)
+    next : (v : Verdict) → verdict_in s raw ≡ v → AreNumberedFrom (s.sequencer.sequence + 1) (messages_of v)
     next (Sequenced m) is = (verdict-number s raw m is, tt)
     next (Nacked nack) is = tt
     next Dropped is = tt
+    next Absorbed is = tt
 
 -- ---- sound states
 
@@ -74,7 +76,7 @@ minimum_below s sound =
       | Some m ↦ λ is.
           let reached = least-reached s.rows m is in
           let row = sound.rows reached.id reached.row reached.there in
-          omega (arith, reached.is, row.reference)
+          omega (arith, reached.is, row)
     ] refl
 
 -- ---- messages
@@ -114,6 +116,7 @@ messages-keepable s raw sound few fits = each (verdict_in s raw) refl
     each (Sequenced m) is = All-cons IsKeepable m [] (verdict-keepable s raw m sound few fits is) (All-nil IsKeepable)
     each (Nacked nack) is = All-nil IsKeepable
     each Dropped is = All-nil IsKeepable
+    each Absorbed is = All-nil IsKeepable
 
 -- ---- joined ids
 
@@ -148,25 +151,33 @@ changed_at rows id q f is =
     (λ (old : IsSome (get rows q)). old)
     (pick (bytes_eq id q) (option_map f (get rows id)) (get rows q) (subst IsSome (get_changed rows id q f (get rows id) refl) is))
 
-held_or_not : (b : Bool) (id q : List ℕ) (number least : ℕ) (rows : Rows) → IsSome (get (changed (if b then Holds id number least else Nothing) rows) q) → IsSome (get rows q)
-held_or_not true id q number least rows is = changed_at rows id q (λ row. record row { last = number; reference = least; nacked = true }) is
-held_or_not false id q number least rows is = is
+held_or_not : (b : Bool) (id q : List ℕ) (number least moment : ℕ) (rows : Rows) → IsSome (get (changed (if b then Holds id number least moment else Hears id moment) rows) q) → IsSome (get rows q)
+held_or_not true id q number least moment rows is = changed_at rows id q (λ row. record row { last = number; reference = least; nacked = true; heard = moment }) is
+held_or_not false id q number least moment rows is = changed_at rows id q (λ row. record row { heard = moment }) is
+
+heard_of : (s : ticket.State) (id q : List ℕ) (moment : ℕ) → IsSome (get (changed (Hears id moment) s.rows) q) → IsSome (get s.rows q)
+heard_of s id q moment is = changed_at s.rows id q (λ row. record row { heard = moment }) is
 
 rows_changed : (s : ticket.State) (raw : Raw) (v : Verdict) (q : List ℕ) → IsSome (get (changed (change_of s raw v) s.rows) q) → IsSome (get s.rows q) ⊎ IsJoinOf q raw
 unfolding change_of
-rows_changed s (Join id scopes detail moment) (Sequenced m) q is = inserted s.rows id q (record { last = 0; reference = ticket.minimum s; nacked = false; scopes = scopes }) is
-rows_changed s (Join id scopes detail moment) (Nacked n) q is = inl is
-rows_changed s (Join id scopes detail moment) Dropped q is = inl is
+rows_changed s (Join id scopes detail moment) (Sequenced m) q is = inserted s.rows id q (record { last = 0; reference = ticket.minimum s; nacked = false; scopes = scopes; heard = moment }) is
+rows_changed s (Join id scopes detail moment) (Nacked n) q is = inl (heard_of s id q moment is)
+rows_changed s (Join id scopes detail moment) Dropped q is = inl (heard_of s id q moment is)
+rows_changed s (Join id scopes detail moment) Absorbed q is = inl (heard_of s id q moment is)
 rows_changed s (Leave id moment) (Sequenced m) q is = inl (removed s.rows id q is)
-rows_changed s (Leave id moment) (Nacked n) q is = inl is
-rows_changed s (Leave id moment) Dropped q is = inl is
+rows_changed s (Leave id moment) (Nacked n) q is = inl (heard_of s id q moment is)
+rows_changed s (Leave id moment) Dropped q is = inl (heard_of s id q moment is)
+rows_changed s (Leave id moment) Absorbed q is = inl (heard_of s id q moment is)
 rows_changed s (Submit id submission moment) (Sequenced m) q is =
-    inl (changed_at s.rows id q (λ row. record row { last = submission.client_number; reference = count_of m.reference }) is)
-rows_changed s (Submit id submission moment) (Nacked n) q is = inl (held_or_not (is_below n.rule) id q submission.client_number (count_of n.minimum) s.rows is)
-rows_changed s (Submit id submission moment) Dropped q is = inl is
+    inl (changed_at s.rows id q (λ row. record row { last = submission.client_number; reference = count_of m.reference; heard = moment }) is)
+rows_changed s (Submit id submission moment) (Nacked n) q is = inl (held_or_not (is_below n.rule) id q submission.client_number (count_of n.minimum) moment s.rows is)
+rows_changed s (Submit id submission moment) Dropped q is = inl (heard_of s id q moment is)
+rows_changed s (Submit id submission moment) Absorbed q is =
+    inl (changed_at s.rows id q (λ row. record row { last = submission.client_number; reference = read_as s.sequence submission.reference; heard = moment }) is)
 rows_changed s (Report summary found moment) (Sequenced m) q is = inl is
 rows_changed s (Report summary found moment) (Nacked n) q is = inl is
 rows_changed s (Report summary found moment) Dropped q is = inl is
+rows_changed s (Report summary found moment) Absorbed q is = inl is
 
 -- whoever is joined behind an entry was joined before it, or joins with it
 pub rows-after : (s : State) (raw : Raw) (id : List ℕ) → IsSome (get (after s raw (verdict_in s raw)).sequencer.rows id) → IsSome (get s.sequencer.rows id) ⊎ IsJoinOf id raw

@@ -9,9 +9,9 @@ use Rattle.fluid_types.specs.Fits.{Fits, longest_record}
 use Rattle.fluid_types.specs.Printed.{raw_printed}
 use Rattle.fluid_types.specs.Records.{raw_spelled}
 use Rattle.fluid_types.specs.declared.entries.Raw.{Raw}
-use Rattle.fluid_fits.specs.Laws.{longest_text}
-use Rattle.fluid_fits.proofs.Entries.{read_records_fit}
-use Rattle.fluid_fits.proofs.Fitting.{spelled_fit}
+use Rattle.fluid_readback.specs.Laws.{longest_text}
+use Rattle.fluid_readback.proofs.Entries.{read_records_fit}
+use Rattle.fluid_readback.proofs.Fitting.{spelled_fit}
 use Rattle.fluid_fold.specs.Loading.{record_in, fitting}
 
 -- a raw entry that a short text spells fits

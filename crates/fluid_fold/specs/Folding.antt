@@ -1,17 +1,17 @@
 -- What is kept in memory of a document's entries, entry by entry and of a whole ledger.
 use Rattle.std.specs.Prelude.{◌≡◌, ℕ, ◌+◌, ◌-◌, ◌^◌, ◌<◌, ◌≤◌, List, [], ◌++◌, length, drop, All, cond, Option, Some, None, refl}
 use Rattle.std.specs.Coded.{Coded, code_by, coded×, coded_ℕ, coded_list}
-use Rattle.std.specs.FinMap.{code}
 use Rattle.fluid_types.specs.declared.entries.Raw.{Raw}
 use Rattle.fluid_types.specs.declared.messages.Message.{Message}
 use Rattle.fluid_types.specs.declared.verdicts.Verdict.{Verdict}
-use Rattle.fluid_types.specs.declared.verdicts.Verdict.TheVariants.{Sequenced, Nacked, Dropped}
+use Rattle.fluid_types.specs.declared.verdicts.Verdict.TheVariants.{Sequenced, Nacked, Dropped, Absorbed}
 use Rattle.fluid_types.specs.contracts.messages.Message as messages
 use Rattle.fluid_types.specs.Ledger.{Ledger, order, messages_of}
 use Rattle.fluid_rules.specs.Counted.{is_counted, counted}
-use Rattle.fluid_clients.specs.Table.{Rows, row_code}
 use Rattle.fluid_log.specs.Keeping.{Content}
-use Rattle.fluid_deltas.specs.Pushed.{Pushed, IsKeepable, AreNumbered, StandFor}
+use Rattle.fluid_types.specs.Order.{AreNumberedFrom}
+use Rattle.fluid_deltas.specs.Pushed.{Pushed, IsKeepable, StandFor}
+use Rattle.fluid_ticket.specs.State as ticket
 use Rattle.fluid_ticket.specs.State.{IsSound}
 use Rattle.fluid_core.specs.Entering.{State, start, verdict_in, after, state_of}
 use Rattle.fluid_core.specs.Entering as entering
@@ -82,7 +82,7 @@ pub record IsLevelled (f : Folding) : Type 0 where
   pub counts : f.counted ≤ f.entered
   pub few : f.entered ≤ most
   -- these messages are numbered one by one, and can be kept
-  pub numbered : AreNumbered (f.before + 1) f.held
+  pub numbered : AreNumberedFrom (f.before + 1) f.held
   pub keepable : All IsKeepable f.held
   -- and no reference is ahead of the order
   pub sound : IsSound f.state.sequencer
@@ -90,21 +90,21 @@ pub record IsLevelled (f : Folding) : Type 0 where
 -- as a tuple of its parts
 abbrev pub folded_code : Coded Folded
 folded_code =
-    code_by (ℕ × (Rows × (List Message × (ℕ × (List Message × (ℕ × (ℕ × (ℕ × (ℕ × ℕ)))))))))
-    (coded× coded_ℕ (coded× (code (coded_list coded_ℕ) row_code) (coded× (coded_list messages.the_row.coded) (coded× coded_ℕ
-    (coded× (coded_list messages.the_row.coded) (coded× coded_ℕ (coded× coded_ℕ (coded× coded_ℕ (coded× coded_ℕ coded_ℕ)))))))))
-    (λ f. (f.folding.state.sequencer.sequence, (f.folding.state.sequencer.rows, (f.folding.state.messages, (f.folding.before, (f.folding.held, (f.folding.entered, (f.folding.counted, (f.clients, (f.notes, f.messages))))))))))
+    code_by (ticket.State × (List Message × (ℕ × (List Message × (ℕ × (ℕ × (ℕ × (ℕ × ℕ))))))))
+    (coded× ticket.state_code (coded× (coded_list messages.the_row.coded) (coded× coded_ℕ
+    (coded× (coded_list messages.the_row.coded) (coded× coded_ℕ (coded× coded_ℕ (coded× coded_ℕ (coded× coded_ℕ coded_ℕ))))))))
+    (λ f. (f.folding.state.sequencer, (f.folding.state.messages, (f.folding.before, (f.folding.held, (f.folding.entered, (f.folding.counted, (f.clients, (f.notes, f.messages)))))))))
     (λ p. record {
       folding = record {
-        state = record { sequencer = record { sequence = p.0; rows = p.1.0 }; messages = p.1.1.0 };
-        before = p.1.1.1.0;
-        held = p.1.1.1.1.0;
-        entered = p.1.1.1.1.1.0;
-        counted = p.1.1.1.1.1.1.0;
+        state = record { sequencer = p.0; messages = p.1.0 };
+        before = p.1.1.0;
+        held = p.1.1.1.0;
+        entered = p.1.1.1.1.0;
+        counted = p.1.1.1.1.1.0;
       };
-      clients = p.1.1.1.1.1.1.1.0;
-      notes = p.1.1.1.1.1.1.1.1.0;
-      messages = p.1.1.1.1.1.1.1.1.1;
+      clients = p.1.1.1.1.1.1.0;
+      notes = p.1.1.1.1.1.1.1.0;
+      messages = p.1.1.1.1.1.1.1.1;
     })
     (λ _. refl)
 
@@ -115,6 +115,7 @@ abbrev pub message_of : Verdict → Option Message
 message_of (Sequenced m) = Some m
 message_of (Nacked nack) = None
 message_of Dropped = None
+message_of Absorbed = None
 
 -- prepared as this raw entry, with the room that it may need
 pub record IsReadyIn (f : Folded) (raw : Raw) (p : Prepared) : Type 0 where
@@ -122,7 +123,7 @@ pub record IsReadyIn (f : Folded) (raw : Raw) (p : Prepared) : Type 0 where
   pub entry : p.entry ≡ entering.prepared f.folding.state raw
   pub message : p.message ≡ message_of (verdict_in f.folding.state raw)
   pub keepable : All IsKeepable (messages_of (verdict_in f.folding.state raw))
-  pub next : AreNumbered (f.folding.before + length f.folding.held + 1) (messages_of (verdict_in f.folding.state raw))
+  pub next : AreNumberedFrom (f.folding.before + length f.folding.held + 1) (messages_of (verdict_in f.folding.state raw))
   pub counts : p.counts ≡ counts raw
   pub few : f.folding.entered < most
   pub room : 0 < f.messages

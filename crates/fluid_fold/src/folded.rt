@@ -4,7 +4,8 @@ ghost use Rattle.fluid_types.specs.Fits.{Fits};
 ghost use Rattle.fluid_types.specs.declared.entries.Raw.{Raw as ARaw};
 ghost use Rattle.fluid_types.specs.declared.messages.Message.{Message as AMessage};
 ghost use Rattle.fluid_log.specs.Keeping.{Content};
-ghost use Rattle.fluid_deltas.specs.Pushed.{pushed, AreNumbered, IsKeepable, StandFor, slice};
+ghost use Rattle.fluid_types.specs.Order.{AreNumberedFrom};
+ghost use Rattle.fluid_deltas.specs.Pushed.{pushed, IsKeepable, StandFor, slice};
 ghost use Rattle.fluid_io.specs.Causes.{Tells};
 ghost use Rattle.fluid_log.specs.Calls.{KeepsSame};
 ghost use Rattle.fluid_deltas.specs.Ranges.{IsFaultOf, IsNotBad, IsBadIn, IsAnswer, IsHeldAnswer, IsSlice, AreHeld, AreNumbersOf, held_between, range_of};
@@ -213,7 +214,7 @@ impl Prepared {
 // Adds the message, where there is one.
 fn push(deltas: &mut Deltas, message: Option<Message>)
     requires room { 0 < deltas.old.spare }
-    requires next { AreNumbered (pushed deltas.old + 1) (option_to_list message) }
+    requires next { AreNumberedFrom (pushed deltas.old + 1) (option_to_list message) }
     requires keepable { All IsKeepable (option_to_list message) }
     ensures before { deltas.new.before ≡ deltas.old.before }
     ensures held { deltas.new.held ≡ deltas.old.held ++ option_to_list message }
@@ -234,7 +235,7 @@ fn message_of(alloc: Global, verdict: &Verdict) -> Result<Option<Message>, NoMem
             let copy = message.copy(alloc)?;
             Ok(Some(copy))
         }
-        Verdict::Nacked(_) | Verdict::Dropped => Ok(None),
+        Verdict::Nacked(_) | Verdict::Dropped | Verdict::Absorbed => Ok(None),
     }
 }
 

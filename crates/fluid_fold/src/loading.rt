@@ -17,14 +17,14 @@ use crate::folded::Folded;
 use fluid_checkpoint::{CheckpointFault, State};
 use fluid_codec::{print_raw, read_raw};
 use fluid_io::FaultNote;
-use fluid_json::{NoMemory, Text};
+use fluid_json::{LARGEST, NoMemory, Text};
 use fluid_log::{Keeper, KeeperFault};
 use fluid_types::{CodecFault, Raw};
 use std::alloc::Global;
 use std::str;
 
 /// The most entries and side steps of a document, 2^53 - 1.
-pub const MOST: u64 = 9_007_199_254_740_991;
+pub const MOST: u64 = LARGEST;
 
 /// The most bytes of a record in a log, 4 MiB.
 const LONGEST_RECORD: usize = 4_194_304;

@@ -5,9 +5,7 @@
 mod front;
 mod handler;
 mod spawner;
-#[cfg(test)]
-mod tests;
 
 pub use front::{Front, FrontFault, MemoryFront};
 pub use handler::{Gate, Handler, OpenGate};
-pub use spawner::{FrontEnd, HereSpawner, Spawner, ThreadSpawner};
+pub use spawner::{Ended, FrontEnd, HereSpawner, Spawner, ThreadSpawner};

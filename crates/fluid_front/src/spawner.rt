@@ -1,5 +1,5 @@
 //! How the wires of a front are served: one job for each.
-ghost use Rattle.std.specs.Prelude.{◌≡◌, ℕ, ◌+◌, ◌-◌, ◌*◌, ◌^◌, ◌<◌, ◌≤◌, Bool, false};
+ghost use Rattle.std.specs.Prelude.{◌≡◌, ℕ, ◌+◌, ◌-◌, ◌*◌, ◌^◌, ◌<◌, ◌≤◌, Bool, false, is_some};
 ghost use Rattle.fluid_front.specs.Serving.{MayEnd, Refuses, Serves};
 
 use crate::{Front, FrontFault, Gate, Handler};
@@ -20,6 +20,29 @@ pub enum FrontEnd {
     NoMemory,
 }
 
+/// How `serve_all` ended. Nothing else can make one, so that nothing else can tell a spawner of a refusal.
+#[derive(Drop)]
+pub struct Ended {
+    end: FrontEnd,
+}
+
+impl Model for Ended {
+    ghost use Rattle.fluid_front.specs.declared.spawner.FrontEnd.{FrontEnd};
+
+    ghost Value = { FrontEnd };
+
+    ghost view = { λ e. e.end };
+}
+
+impl Ended {
+    /// How it ended.
+    pub fn end(&self) -> FrontEnd
+        ensures { result ≡ self.now }
+    {
+        self.end
+    }
+}
+
 /// Serves wires in jobs: each at its place, or each in a thread.
 pub trait Spawner {
     /// How often a job couldn't be started.
@@ -28,14 +51,15 @@ pub trait Spawner {
     /// Whether jobs run in threads.
     ghost threads: { Self → Bool };
 
-    /// Whether jobs run in threads. A job that runs at its place is never refused.
-    fn in_threads(&self) -> bool
-        ensures { result ≡ threads self.now };
+    /// How many threads one call of `serve_all` starts at most, or `None` where jobs run at their place. A job that runs
+    /// at its place is never refused.
+    fn most_threads(&self) -> Option<u32>
+        ensures { is_some result ≡ threads self.now };
 
-    /// Counts a refusal, where the work on a front ended by one.
-    fn note_end(&mut self, end: FrontEnd)
-        requires { MayEnd (threads self.old) end }
-        ensures { Refuses (refusals self.old) (refusals self.new) end };
+    /// Counts a refusal, where the work on a front ended by one. `serve_all` calls it at its end.
+    fn note_end(&mut self, ended: &Ended)
+        requires { MayEnd (threads self.old) ended.now }
+        ensures { Refuses (refusals self.old) (refusals self.new) ended.now };
 
     /// Gives each wire that the front gives to a job of its own, numbered from 1 in that order: the job passes the
     /// gate, and then the handler works on the wire. At most `connections` wires are served. All jobs have ended
@@ -59,13 +83,13 @@ pub trait Spawner {
         ensures front { Serves connections (F.seen front) (F.seen result.1) result.0 }
         ensures refusals { Refuses (refusals self.old) (refusals self.new) result.0 }
     {
-        if !self.in_threads() {
+        let Some(most) = self.most_threads() else {
             let (end, front) = serve_here(rt, alloc, front, handler, gate, connections);
-            self.note_end(end);
+            self.note_end(&Ended { end });
             return (end, front);
-        }
-        let (end, front) = serve_in_threads(rt, alloc, front, handler, gate, connections);
-        self.note_end(end);
+        };
+        let (end, front) = serve_in_threads(rt, alloc, front, handler, gate, connections, most);
+        self.note_end(&Ended { end });
         (end, front)
     }
 }
@@ -81,16 +105,17 @@ impl Spawner for HereSpawner {
 
     ghost threads = { λ _. false };
 
-    fn in_threads(&self) -> bool {
-        false
+    fn most_threads(&self) -> Option<u32> {
+        None
     }
 
-    fn note_end(&mut self, _end: FrontEnd) {}
+    fn note_end(&mut self, _ended: &Ended) {}
 }
 
 /// Runs the jobs as threads of one scope.
 #[derive(Drop)]
 pub struct ThreadSpawner {
+    most: u32,
     refusals: u64,
 }
 
@@ -107,7 +132,17 @@ impl ThreadSpawner {
     pub fn new() -> ThreadSpawner
         ensures { result ≡ 0 }
     {
-        ThreadSpawner { refusals: 0 }
+        ThreadSpawner::at_most(u32::MAX)
+    }
+
+    /// No job was refused. A call of `serve_all` starts so many threads, and the job behind them is refused.
+    pub fn at_most(threads: u32) -> ThreadSpawner
+        ensures { result ≡ 0 }
+    {
+        ThreadSpawner {
+            most: threads,
+            refusals: 0,
+        }
     }
 }
 
@@ -118,12 +153,12 @@ impl Spawner for ThreadSpawner {
 
     ghost threads = { λ _. true };
 
-    fn in_threads(&self) -> bool {
-        true
+    fn most_threads(&self) -> Option<u32> {
+        Some(self.most)
     }
 
-    fn note_end(&mut self, end: FrontEnd) {
-        if let FrontEnd::SpawnRefused(_) = end {
+    fn note_end(&mut self, ended: &Ended) {
+        if let FrontEnd::SpawnRefused(_) = ended.end() {
             self.refusals = self.refusals.saturating_add(1);
         }
     }
@@ -159,7 +194,8 @@ where
     (FrontEnd::Done(u64::from(connections)), front)
 }
 
-// Serves the wires in threads of one scope, which owns the front and gives it back when all threads have ended.
+// Serves the wires in threads of one scope, at most so many, which owns the front and gives it back when all threads have
+// ended.
 fn serve_in_threads<R, F, H, G>(
     rt: &R,
     alloc: Global,
@@ -167,6 +203,7 @@ fn serve_in_threads<R, F, H, G>(
     handler: &H,
     gate: &G,
     connections: u32,
+    most: u32,
 ) -> (FrontEnd, F)
 where
     R: Threads + Wait + Sync,
@@ -187,6 +224,9 @@ where
                 let number = u64::from(served) + 1;
                 match front.accept(rt, alloc) {
                     Ok(Some(wire)) => {
+                        if served >= most {
+                            return (FrontEnd::SpawnRefused(number), front);
+                        }
                         if scope
                             .spawn(move || job(rt, handler, gate, number, wire))
                             .is_err()

@@ -1,5 +1,6 @@
 -- The plan by which an object in memory fails.
-use Rattle.std.specs.Prelude.{ℕ, ◌==◌, Bool, List, if◌then◌else◌}
+use Rattle.std.specs.Prelude.{ℕ, ◌==◌, Bool, List, if◌then◌else◌, refl}
+use Rattle.std.specs.Coded.{Coded, code_by, coded×, coded_ℕ, coded_list}
 use Rattle.std.specs.List.{list_any}
 use Rattle.fluid_io.specs.Causes.{one_more}
 
@@ -8,6 +9,12 @@ pub record Planned : Type 0 where
   pub failing : List ℕ
   pub calls : ℕ
   pub faults : ℕ
+
+-- a plan as the tuple of its parts
+abbrev pub plan_code : Coded Planned
+plan_code =
+    code_by (List ℕ × (ℕ × ℕ)) (coded× (coded_list coded_ℕ) (coded× coded_ℕ coded_ℕ)) (λ p. (p.failing, (p.calls, p.faults)))
+    (λ parts. record { failing = parts.0; calls = parts.1.0; faults = parts.1.1 }) (λ _. refl)
 
 -- whether the next call is one of those that are to fail; the first call has number 1
 abbrev pub next_fails : Planned → Bool

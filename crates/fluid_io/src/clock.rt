@@ -2,12 +2,13 @@
 ghost use Rattle.std.specs.Prelude.{◌≡◌, ℕ, ◌+◌, ◌-◌, ◌*◌, ◌^◌, ◌<◌, ◌≤◌, Option};
 ghost use Rattle.fluid_io.specs.Causes.{Tells};
 
+use fluid_json::LARGEST;
 use std::marker::Model;
 use std::time;
 use std::time::{SystemTime, UNIX_EPOCH};
 
-/// The last moment, 2^53 - 1: the greatest whole number that JSON's readers all keep.
-pub const LAST_MOMENT: u64 = (1 << 53) - 1;
+/// The last moment, since moments stand in JSON texts.
+pub const LAST_MOMENT: u64 = LARGEST;
 
 /// A clock. A moment is a whole number of milliseconds since the start of 1970, and at most `LAST_MOMENT`.
 /// A clock has no fault.

@@ -46,6 +46,14 @@ impl Items {
         Ok(Items { vec })
     }
 
+    /// The items of a list, in their order. Takes no memory.
+    pub fn of_vec(vec: Vec<Json>) -> Items
+        ensures { result ≡ vec.items }
+    {
+        are_canonical(vec.as_slice());
+        Items { vec }
+    }
+
     pub fn push(&mut self, item: Json) -> Result<(), NoMemory>
         ensures pushed { IfOk result (λ _. self.new ≡ self.old ++ item ∷ []) }
         ensures same { OnErr result (self.new ≡ self.old) }
@@ -130,5 +138,14 @@ impl Pairs {
     {
         let Pairs { vec } = self;
         vec
+    }
+}
+
+// Tells a proof what holds of every value among these. It does nothing else.
+fn are_canonical(items: &[Json])
+    ensures { AreCanonical (trees items.now) }
+{
+    for item in items {
+        item.canonical();
     }
 }

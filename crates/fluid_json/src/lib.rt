@@ -23,4 +23,4 @@ pub use memory::NoMemory;
 pub use owned::{Bytes, Text};
 pub use printing::{Printer, print};
 pub use reading::{read, read_stored};
-pub use value::Json;
+pub use value::{Json, LARGEST};

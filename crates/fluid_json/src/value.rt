@@ -6,6 +6,9 @@ use crate::collections::{Items, Pairs};
 use crate::owned::Text;
 use std::marker::Model;
 
+/// The largest whole number that all readers of JSON keep as it is, 2^53 - 1 (RFC 8259, section 6).
+pub const LARGEST: u64 = 9_007_199_254_740_991;
+
 /// A JSON value whose numbers are all whole. An object's members stand in byte order of their keys, each key once.
 #[cycle(json)]
 #[derive(Drop)]

@@ -10,9 +10,10 @@ use Rattle.fluid_types.specs.declared.verdicts.Verdict.{Verdict}
 use Rattle.fluid_types.specs.declared.verdicts.Verdict.TheVariants.{Dropped}
 use Rattle.fluid_types.specs.Ledger.{Ledger}
 use Rattle.fluid_log.specs.Keeping.{Content, Keeping, HasLengths, IsSized}
-use Rattle.fluid_log.specs.Calls.{KeepsSame, with_record, add_record}
+use Rattle.fluid_log.specs.Calls.{KeepsSame, with_record, add_record, with_records}
 use Rattle.fluid_log.proofs.Sameness.{same_itself}
-use Rattle.fluid_deltas.specs.Pushed.{AreNumbered, IsKeepable}
+use Rattle.fluid_types.specs.Order.{AreNumberedFrom}
+use Rattle.fluid_deltas.specs.Pushed.{IsKeepable}
 use Rattle.fluid_deltas.specs.Ranges.{IsNoted}
 use Rattle.fluid_deltas.proofs.Telling.{tells_along, tells_becomes, tells_from, tells_both, tells_each}
 use Rattle.fluid_core.specs.Entering.{state_of, verdict_in, after}
@@ -26,13 +27,14 @@ use Rattle.fluid_types.specs.Printed.{raw_printed}
 use Rattle.fluid_rules.specs.Rules.{verdict}
 use Rattle.fluid_core.proofs.Entered.{verdict-state_of}
 use Rattle.fluid_fold.proofs.Reloading.{loaded-first, loaded-any}
-use Rattle.fluid_lane.specs.declared.limits.Limits.{Limits}
+use Rattle.fluid_rules.specs.declared.limits.Limits.{Limits}
 use Rattle.fluid_lane.specs.Steps.{ledger, last_side, stored, AreNoted, steps}
 use Rattle.fluid_lane.specs.Standing.{Standing, IsFor, IsTold, LaneStands}
 use Rattle.fluid_lane.specs.Refusals.{IsNotBad, IsCausedBy}
-use Rattle.fluid_lane.specs.Starting.{run, leaves, takes, opening, with_records, HasLeft, HasTorn, LeavesAll, LeftSome, StartsBad, Starts, IsOpened, IsStartFault, LeavesBad, Grows, StopsAtLeave}
+use Rattle.fluid_lane.specs.Starting.{run, leaves, takes, opening, HasLeft, HasTorn, LeavesAll, LeftSome, StartsBad, Starts, IsOpened, IsStartFault, LeavesBad, Grows, StopsAtLeave}
 use Rattle.fluid_lane.proofs.Ids.{length-keys}
-use Rattle.fluid_lane.proofs.Recorded.{records-push, with_more, with_before, with_behind}
+use Rattle.fluid_log.proofs.Recording.{with_more, with_before, with_behind}
+use Rattle.fluid_lane.proofs.Recorded.{records-push}
 use Rattle.fluid_lane.proofs.Leaving.{told_map, logged}
 use Rattle.fluid_lane.proofs.Restarting.{told_too, same_ok, never_err}
 
@@ -71,7 +73,7 @@ for_begun f l c levelled is kept = record {
       first = [];
       splits = sym (ap (λ x. x.held) is);
       before = sym (ap (λ x. x.before) is);
-      numbered = subst (AreNumbered 1) (ap (λ x. x.held) is) (subst (λ b. AreNumbered (b + 1) f.held) (ap (λ x. x.before) is) levelled.numbered);
+      numbered = subst (AreNumberedFrom 1) (ap (λ x. x.held) is) (subst (λ b. AreNumberedFrom (b + 1) f.held) (ap (λ x. x.before) is) levelled.numbered);
       keepable = subst (λ ms. All IsKeepable ms) (ap (λ x. x.held) is) levelled.keepable;
     };
     deltas = kept.deltas;

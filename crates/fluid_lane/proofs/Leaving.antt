@@ -8,7 +8,7 @@ use Rattle.fluid_types.specs.declared.entries.Raw.{Raw}
 use Rattle.fluid_types.specs.declared.entries.Raw.TheVariants.{Leave}
 use Rattle.fluid_types.specs.Printed.{raw_printed}
 use Rattle.fluid_log.specs.Keeping.{Keeping}
-use Rattle.fluid_log.specs.Calls.{KeepsSame, add_record}
+use Rattle.fluid_log.specs.Calls.{KeepsSame, add_record, with_records}
 use Rattle.fluid_deltas.proofs.Telling.{tells_along, tells_becomes, tells_from}
 use Rattle.fluid_core.specs.Entering.{verdict_in, after}
 use Rattle.fluid_fold.specs.Folding.{Folding, most, taken_up}
@@ -18,9 +18,10 @@ use Rattle.fluid_deltas.specs.Ranges.{IsNoted}
 use Rattle.fluid_fold.specs.Kept.{records}
 use Rattle.fluid_lane.specs.Standing.{IsFor}
 use Rattle.fluid_lane.specs.Refusals.{IsCausedBy}
-use Rattle.fluid_lane.specs.Starting.{run, leaves, takes, with_records, LeavesFirst, FailsFirst, LeaveDoes, LeavesAll, HasLeft, HasTorn}
+use Rattle.fluid_lane.specs.Starting.{run, leaves, takes, LeavesFirst, FailsFirst, LeaveDoes, LeavesAll, HasLeft, HasTorn}
 use Rattle.fluid_lane.proofs.Ids.{length-keys}
-use Rattle.fluid_lane.proofs.Recorded.{length-records, records-push, with_none, with_more, with_behind}
+use Rattle.fluid_log.proofs.Recording.{with_none, with_more, with_behind}
+use Rattle.fluid_lane.proofs.Recorded.{length-records, records-push}
 use Rattle.fluid_lane.proofs.Removing.{keys-left}
 use Rattle.fluid_lane.proofs.Stands.{enters_for}
 

@@ -14,7 +14,7 @@ use Rattle.fluid_log.specs.Calls.{KeepsSame, add_record, keep_records, with_reco
 use Rattle.fluid_deltas.specs.Pushed.{StandFor}
 use Rattle.fluid_deltas.proofs.Standing.{same_stand}
 use Rattle.fluid_deltas.proofs.Telling.{tells_along, tells_becomes}
-use Rattle.fluid_lane.specs.declared.limits.Limits.{Limits}
+use Rattle.fluid_rules.specs.declared.limits.Limits.{Limits}
 use Rattle.fluid_lane.specs.declared.steps.Side.{Side}
 use Rattle.fluid_lane.specs.declared.steps.Side.TheVariants.{Failed}
 use Rattle.fluid_lane.specs.declared.steps.Step.{Step}

@@ -1,41 +1,24 @@
 -- A lane's standing as a tuple of its parts, for the proofs that tell values apart.
 use Rattle.std.specs.Prelude.{ℕ, Bool, List, Option, refl}
 use Rattle.std.specs.Coded.{Coded, code_by, coded×, coded_ℕ, coded_bool, coded_list, coded_option}
-use Rattle.std.specs.FinMap.{code}
 use Rattle.fluid_types.specs.declared.messages.Message.{Message}
 use Rattle.fluid_types.specs.contracts.messages.Message as messages
-use Rattle.fluid_clients.specs.Table.{Rows, row_code}
-use Rattle.fluid_log.specs.Keeping.{Content, Keeping}
+use Rattle.fluid_ticket.specs.State.{State, state_code}
+use Rattle.fluid_log.specs.Keeping.{Keeping}
+use Rattle.fluid_log.specs.Codes.{keeping_code}
 use Rattle.fluid_fold.specs.Folding.{Folding}
-use Rattle.fluid_lane.specs.declared.limits.Limits.{Limits}
-use Rattle.fluid_lane.specs.contracts.limits.Limits as limits
+use Rattle.fluid_rules.specs.declared.limits.Limits.{Limits}
+use Rattle.fluid_rules.specs.contracts.limits.Limits as limits
 use Rattle.fluid_lane.specs.declared.steps.Side.{Side}
 use Rattle.fluid_lane.specs.contracts.steps.Side as sides
 use Rattle.fluid_lane.specs.Standing.{Standing}
 
-abbrev Texts : Type 0
-Texts = List (List ℕ)
-
-abbrev texts_code : Coded Texts
-texts_code = coded_list (coded_list coded_ℕ)
-
-abbrev content_code : Coded Content
-content_code =
-    code_by (Texts × (Texts × Texts)) (coded× texts_code (coded× texts_code texts_code)) (λ c. (c.log, (c.deltas, c.checkpoints)))
-    (λ p. record { log = p.0; deltas = p.1.0; checkpoints = p.1.1 }) (λ _. refl)
-
-abbrev keeping_code : Coded Keeping
-keeping_code =
-    code_by (Option Content × (ℕ × (ℕ × (ℕ × (ℕ × ℕ))))) (coded× (coded_option content_code) (coded× coded_ℕ (coded× coded_ℕ (coded× coded_ℕ (coded× coded_ℕ coded_ℕ)))))
-    (λ k. (k.content, (k.records, (k.deltas, (k.checkpoints, (k.faults, k.reads))))))
-    (λ p. record { content = p.0; records = p.1.0; deltas = p.1.1.0; checkpoints = p.1.1.1.0; faults = p.1.1.1.1.0; reads = p.1.1.1.1.1 }) (λ _. refl)
-
 abbrev folding_code : Coded Folding
 folding_code =
-    code_by (ℕ × (Rows × (List Message × (ℕ × (List Message × (ℕ × ℕ))))))
-    (coded× coded_ℕ (coded× (code (coded_list coded_ℕ) row_code) (coded× (coded_list messages.the_row.coded) (coded× coded_ℕ (coded× (coded_list messages.the_row.coded) (coded× coded_ℕ coded_ℕ))))))
-    (λ f. (f.state.sequencer.sequence, (f.state.sequencer.rows, (f.state.messages, (f.before, (f.held, (f.entered, f.counted)))))))
-    (λ p. record { state = record { sequencer = record { sequence = p.0; rows = p.1.0 }; messages = p.1.1.0 }; before = p.1.1.1.0; held = p.1.1.1.1.0; entered = p.1.1.1.1.1.0; counted = p.1.1.1.1.1.1 })
+    code_by (State × (List Message × (ℕ × (List Message × (ℕ × ℕ)))))
+    (coded× state_code (coded× (coded_list messages.the_row.coded) (coded× coded_ℕ (coded× (coded_list messages.the_row.coded) (coded× coded_ℕ coded_ℕ)))))
+    (λ f. (f.state.sequencer, (f.state.messages, (f.before, (f.held, (f.entered, f.counted))))))
+    (λ p. record { state = record { sequencer = p.0; messages = p.1.0 }; before = p.1.1.0; held = p.1.1.1.0; entered = p.1.1.1.1.0; counted = p.1.1.1.1.1 })
     (λ _. refl)
 
 abbrev pub standing_code : Coded Standing

@@ -17,7 +17,7 @@ use Rattle.fluid_deltas.specs.Pushed.{StandFor}
 use Rattle.fluid_core.specs.Entering.{verdict_in, state_of}
 use Rattle.fluid_fold.specs.Folding.{Folding, most, taken_up, pushed_of}
 use Rattle.fluid_fold.specs.Kept.{IsKept}
-use Rattle.fluid_lane.specs.declared.limits.Limits.{Limits}
+use Rattle.fluid_rules.specs.declared.limits.Limits.{Limits}
 use Rattle.fluid_lane.specs.declared.steps.Side.{Side}
 use Rattle.fluid_lane.specs.declared.steps.Step.{Step}
 use Rattle.fluid_lane.specs.Steps.{ledger, last_side, stored, asides, AreNoted}

@@ -1,6 +1,5 @@
 -- How a lane begins: behind what is kept comes a leave of each client that is joined.
 use Rattle.std.specs.Prelude.{◌≡◌, ℕ, ◌+◌, ◌<◌, ◌≤◌, ⊤, ◌⊎◌, false, List, [], ◌∷◌, ◌++◌, length, map, Option, None, is_some, Result, Ok, Err}
-use Rattle.std.specs.Option.{option_map}
 use Rattle.std.specs.FinMap.{keys, len}
 use Rattle.fluid_io.specs.Causes.{Tells}
 use Rattle.fluid_io.specs.declared.faults.FaultNote.{FaultNote}
@@ -11,7 +10,7 @@ use Rattle.fluid_types.specs.declared.entries.Raw.TheVariants.{Leave}
 use Rattle.fluid_types.specs.declared.verdicts.Verdict.{Verdict}
 use Rattle.fluid_log.specs.Keeping.{Content, Keeping, IsText}
 use Rattle.fluid_types.specs.Printed.{raw_printed}
-use Rattle.fluid_log.specs.Calls.{KeepsSame, with_record}
+use Rattle.fluid_log.specs.Calls.{KeepsSame, with_record, with_records}
 use Rattle.fluid_core.specs.Entering.{State, verdict_in, after, state_of}
 use Rattle.fluid_fold.specs.declared.fault.LaneFault.{LaneFault}
 use Rattle.fluid_fold.specs.declared.fault.LaneFault.TheVariants.{LogFailed, Full, BadRecord, NoCheckpoint, CheckpointsFull, TooManyClients, DeltaFailed, NoMemory, BadCheckpoint, TooLarge, Worn}
@@ -19,7 +18,7 @@ use Rattle.fluid_fold.specs.Folding.{Folding, most, taken_up}
 use Rattle.fluid_fold.specs.Loading.{loaded, newest, ReadsBehind}
 use Rattle.fluid_fold.specs.Kept.{records, IsKept}
 use Rattle.fluid_fold.specs.Entry.{EntersOne, FailsOne}
-use Rattle.fluid_lane.specs.declared.limits.Limits.{Limits}
+use Rattle.fluid_rules.specs.declared.limits.Limits.{Limits}
 use Rattle.fluid_lane.specs.Steps.{steps}
 use Rattle.fluid_lane.specs.Standing.{Standing, IsFor, LaneStands}
 use Rattle.fluid_lane.specs.Refusals.{IsNotBad, IsLogFailed}
@@ -41,14 +40,6 @@ takes f (raw ∷ raws) = takes (taken_up f raw) raws
 -- the ledger with a leave of each client that is joined in it
 abbrev pub opening : ℕ → Ledger → Ledger
 opening moment l = l ++ run (state_of l) (leaves moment (state_of l))
-
--- these records more, at the end of the log
-abbrev pub add_records : List (List ℕ) → Content → Content
-add_records more c = record c { log = c.log ++ more }
-
--- the same of a keeper, whether it tells its content or not
-abbrev pub with_records : List (List ℕ) → Keeping → Keeping
-with_records more k = record k { content = option_map (add_records more) k.content; records = k.records + length more }
 
 -- ---- leave by leave, for private clauses
 

@@ -6,7 +6,6 @@ ghost use Rattle.fluid_types.specs.Fits.{Fits};
 ghost use Rattle.fluid_types.specs.Ledger.{order};
 ghost use Rattle.fluid_types.specs.Names.{entry_name};
 ghost use Rattle.fluid_rules.specs.Past.{is_sequenced};
-ghost use Rattle.fluid_rules.specs.Counted.{is_counted};
 ghost use Rattle.fluid_rules.specs.Scribe.{acks};
 ghost use Rattle.fluid_scribe.specs.Jobs.{job};
 ghost use Rattle.fluid_ticket.specs.State.{minimum};
@@ -24,7 +23,6 @@ ghost use Rattle.fluid_lane.specs.Refusals.{is_full, is_full_for, has_too_many, 
 ghost use Rattle.fluid_lane.specs.Restarts.{Restarts, Reloads};
 ghost use Rattle.fluid_lane.specs.Kept.{settled, missing, AddKept, EnterKept, FlushKept, StoreKept, RestartKept};
 
-use crate::limits::Limits;
 use crate::steps::Side;
 use fluid_checkpoint::State;
 use fluid_clients::Clients;
@@ -33,6 +31,7 @@ use fluid_fold::{Folded, LaneFault, MOST, bad_field, enter, load, note_of};
 use fluid_io::FaultNote;
 use fluid_json::{Bytes, Json, NoMemory};
 use fluid_log::{Keeper, KeeperFault};
+use fluid_rules::{Limits, is_counted};
 use fluid_scribe::{Job, SummaryRef};
 use fluid_types::{ClientId, Message, Raw, Scopes, Verdict};
 use std::alloc::Global;
@@ -582,13 +581,6 @@ impl<K: Keeper> Lane<K> {
     }
 }
 
-// Whether an entry counts towards the limit of entries.
-fn is_counted(raw: &Raw) -> bool
-    ensures { result ≡ is_counted raw.now }
-{
-    matches!(raw, Raw::Join { .. } | Raw::Submit { .. })
-}
-
 // The same ids, in byte order.
 fn have_same_ids(one: &Clients, other: &Clients) -> bool
     ensures { IsTrue result ↔ (keys one.now.rows ≡ keys other.now.rows) }
@@ -623,6 +615,6 @@ fn sequenced(verdict: Verdict) -> Message
 {
     match verdict {
         Verdict::Sequenced(message) => message,
-        Verdict::Nacked(_) | Verdict::Dropped => unreachable!(),
+        Verdict::Nacked(_) | Verdict::Dropped | Verdict::Absorbed => unreachable!(),
     }
 }

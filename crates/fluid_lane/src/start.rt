@@ -9,10 +9,10 @@ ghost use Rattle.fluid_lane.specs.Refusals.{IsCausedBy};
 ghost use Rattle.fluid_lane.specs.Starting.{LeaveDoes, LeavesAll, Starts, StartsPartly};
 
 use crate::lane::Lane;
-use crate::limits::Limits;
 use fluid_fold::{Folded, LaneFault, MOST, enter, load};
 use fluid_json::NoMemory;
 use fluid_log::Keeper;
+use fluid_rules::Limits;
 use fluid_types::{ClientId, Raw};
 use std::alloc::Global;
 

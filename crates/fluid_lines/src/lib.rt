@@ -4,8 +4,6 @@
 
 mod lined;
 mod memory;
-#[cfg(test)]
-mod tests;
 mod wire;
 
 pub use lined::LineWire;

@@ -13,7 +13,7 @@ use Rattle.fluid_log.specs.Keeping.{Keeping}
 use Rattle.fluid_log.specs.Memory.{MemoryKeeping, memory_seen}
 use Rattle.fluid_log.specs.Shelving.{byte_order, fresh, IsCovered, GivesKeeper, CountsSince, PutsBack}
 use Rattle.fluid_log.specs.Places.{Places, keeper_in, given_with, values_where, IsBelow, AreBelow, shelves_seen, keeper_at, faults_back}
-use Rattle.fluid_log.proofs.Rows.{byte_order_total}
+use Rattle.fluid_table.proofs.Places.{byte_order_total}
 use Rattle.fluid_log.proofs.Values.{get-values_where, values_where-insert, values_where-remove}
 
 -- ---- faults

@@ -5,7 +5,7 @@ use Rattle.std.specs.Ordering.{is_eq}
 use Rattle.std.specs.FinMap.{get, get-empty, get-insert}
 use Rattle.fluid_log.specs.Keeping.{Keeping}
 use Rattle.fluid_log.specs.Shelving.{Shelving, byte_order, IsIn, IsOut, AreWhole, GivesKeeper}
-use Rattle.fluid_log.proofs.Rows.{byte_order_total}
+use Rattle.fluid_table.proofs.Places.{byte_order_total}
 
 -- of whole shelves every keeper is in
 pub whole_in : (s : Shelving) (name : List ℕ) → AreWhole s → IsIn s name

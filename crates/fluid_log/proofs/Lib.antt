@@ -1,6 +1,5 @@
 mod Covering
-mod Finding
 pub mod Lending
-mod Rows
+pub mod Recording
 pub mod Sameness
 mod Values

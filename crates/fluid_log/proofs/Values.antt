@@ -9,8 +9,8 @@ use Rattle.std.specs.FinMap.Entries.{find, below_all, is_sorted}
 use Rattle.std.proofs.lemmas.Bool.{false≢true}
 use Rattle.fluid_log.specs.Shelving.{byte_order}
 use Rattle.fluid_log.specs.Places.{entries_where, values_where}
-use Rattle.fluid_log.proofs.Finding.{both, first, second, find_above}
-use Rattle.fluid_log.proofs.Rows.{byte_order_total, byte_order-IsAntisymmetric}
+use Rattle.fluid_table.proofs.Ordered.{both, first, second, find_above}
+use Rattle.fluid_table.proofs.Places.{byte_order_total, byte_order-IsAntisymmetric}
 
 -- names that tie are one
 pub tied_is : (x y : List ℕ) → eq_by_cmp byte_order x y ≡ true → x ≡ y

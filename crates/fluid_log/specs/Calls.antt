@@ -1,5 +1,5 @@
 -- What each call of a keeper does to what it keeps, by its answer.
-use Rattle.std.specs.Prelude.{◌≡◌, ℕ, ◌+◌, ◌≤◌, ◌⊎◌, ⊤, List, [], ◌∷◌, ◌++◌, take, slice_get, Some, Result, Ok, Err, IfErr}
+use Rattle.std.specs.Prelude.{◌≡◌, ℕ, ◌+◌, ◌≤◌, ◌⊎◌, ⊤, List, [], ◌∷◌, ◌++◌, length, take, slice_get, Some, Result, Ok, Err, IfErr}
 use Rattle.std.specs.Option.{option_map}
 use Rattle.fluid_io.specs.Causes.{Rose, Tells, one_more}
 use Rattle.fluid_io.specs.declared.faults.Failed.{Failed as Fault}
@@ -12,6 +12,10 @@ use Rattle.fluid_log.specs.Keeping.{Content, Keeping}
 -- one more record at the end of the log
 abbrev pub add_record : List ℕ → Content → Content
 add_record bytes c = record c { log = c.log ++ bytes ∷ [] }
+
+-- these records more, at the end of the log
+abbrev pub add_records : List (List ℕ) → Content → Content
+add_records more c = record c { log = c.log ++ more }
 
 -- the first n records of the log alone
 abbrev pub keep_records : ℕ → Content → Content
@@ -28,6 +32,9 @@ add_checkpoint bytes c = record c { checkpoints = c.checkpoints ++ bytes ∷ [] 
 -- the same of a keeper, whether it tells its content or not
 abbrev pub with_record : List ℕ → Keeping → Keeping
 with_record bytes k = record k { content = option_map (add_record bytes) k.content; records = k.records + 1 }
+
+abbrev pub with_records : List (List ℕ) → Keeping → Keeping
+with_records more k = record k { content = option_map (add_records more) k.content; records = k.records + length more }
 
 abbrev pub cut_to : ℕ → Keeping → Keeping
 cut_to n k = record k { content = option_map (keep_records n) k.content; records = n }

@@ -1,5 +1,5 @@
 pub mod Calls
-pub mod Entries
+pub mod Codes
 pub mod Keeping
 pub mod Memory
 pub mod Places

@@ -5,7 +5,7 @@ use Rattle.std.specs.FinMap.{FinMap, entries, from_sorted, get, code}
 use Rattle.std.specs.Coded.{Coded, code_by, coded×, coded_ℕ, coded_list}
 use Rattle.fluid_log.specs.contracts.place.Place as place
 use Rattle.fluid_io.specs.Causes.{one_more}
-use Rattle.fluid_io.specs.Plan.{Planned, called_by_plan}
+use Rattle.fluid_io.specs.Plan.{Planned, plan_code, called_by_plan}
 use Rattle.fluid_log.specs.declared.fault.KeeperFault.{KeeperFault}
 use Rattle.fluid_log.specs.declared.fault.KeeperFault.TheVariants.{Failed, NoMemory}
 use Rattle.fluid_log.specs.declared.place.Place.{Place}
@@ -49,11 +49,6 @@ entries_where value (entry ∷ entries) = option_to_list (option_map (λ y. (ent
 abbrev pub values_where : {X Y : Type 0} → (X → Option Y) → FinMap byte_order X → FinMap byte_order Y
 values_where value m = from_sorted (entries_where value (entries m))
 
-abbrev planned_code : Coded Planned
-planned_code =
-    code_by (List ℕ × (ℕ × ℕ)) (coded× (coded_list coded_ℕ) (coded× coded_ℕ coded_ℕ)) (λ p. (p.failing, (p.calls, p.faults)))
-    (λ parts. record { failing = parts.0; calls = parts.1.0; faults = parts.1.1 }) (λ _. refl)
-
 pub record MemoryShelving : Type 0 where
   pub places : Places
   -- the calls that are to fail
@@ -61,9 +56,9 @@ pub record MemoryShelving : Type 0 where
   -- how many faults were counted
   pub faults : ℕ
 
-abbrev pub shelving_code : Coded MemoryShelving
-shelving_code =
-    code_by (Places × (Planned × ℕ)) (coded× (code (coded_list coded_ℕ) place.the_row.coded) (coded× planned_code coded_ℕ)) (λ s. (s.places, (s.plan, s.faults)))
+abbrev pub memory_shelving_code : Coded MemoryShelving
+memory_shelving_code =
+    code_by (Places × (Planned × ℕ)) (coded× (code (coded_list coded_ℕ) place.the_row.coded) (coded× plan_code coded_ℕ)) (λ s. (s.places, (s.plan, s.faults)))
     (λ parts. record { places = parts.0; plan = parts.1.0; faults = parts.1.1 }) (λ _. refl)
 
 -- they tell their keepers

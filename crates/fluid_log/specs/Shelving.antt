@@ -1,17 +1,11 @@
 -- The keepers of many documents, by name: which are in and which are out, and what giving one and putting it back does.
 use Rattle.std.specs.Prelude.{◌≡◌, ℕ, ◌<◌, ◌≤◌, List, Option, Some, None, IfSome, Result, Ok, Err, IsSome, unwrap_or}
 use Rattle.std.specs.Option.{option_map}
-use Rattle.std.specs.Ordering.{nat_cmp}
-use Rattle.std.specs.Cmp.Lexicographic.{slice_cmp}
-use Rattle.std.specs.declared.cmp.Ordering.{Ordering}
 use Rattle.std.specs.FinMap.{FinMap, empty, get, insert, remove}
+pub use Rattle.fluid_table.specs.Table.{byte_order}
 use Rattle.fluid_io.specs.Causes.{Rose, Tells, one_more}
 use Rattle.fluid_log.specs.declared.fault.KeeperFault.{KeeperFault}
 use Rattle.fluid_log.specs.Keeping.{Keeping, nothing_kept}
-
--- names stand in the order of their bytes
-abbrev pub byte_order : List ℕ → List ℕ → Ordering
-byte_order = slice_cmp nat_cmp
 
 pub record Shelving : Type 0 where
   -- the keepers that are in, by the names of their documents, where the shelves tell them

@@ -92,3 +92,10 @@ pub trait Keeper {
         ensures same { KeepsSame (seen self.old) (seen self.new) }
         ensures gives { Gives (λ content. content.checkpoints) number (seen self.old) result };
 }
+
+/// Tells a proof that a keeper which tells its content has the lengths of it. It does nothing else.
+pub fn is_sized<K: Keeper>(keeper: &K)
+    ensures { IsSized (K.seen keeper.now) }
+{
+    let _ = keeper;
+}

@@ -14,7 +14,7 @@ mod shelves;
 mod table;
 
 pub use fault::KeeperFault;
-pub use keeper::{Keeper, LONGEST_KEPT};
+pub use keeper::{Keeper, LONGEST_KEPT, is_sized};
 pub use memory::MemoryKeeper;
 pub use memory_shelves::MemoryShelves;
 pub use place::Place;

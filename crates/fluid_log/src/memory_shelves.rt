@@ -26,11 +26,11 @@ pub struct MemoryShelves {
 }
 
 impl Model for MemoryShelves {
-    ghost use Rattle.fluid_log.specs.Places.{MemoryShelving, shelving_code, AreBelow};
+    ghost use Rattle.fluid_log.specs.Places.{MemoryShelving, memory_shelving_code, AreBelow};
 
     ghost Value = { MemoryShelving };
 
-    ghost coded = { shelving_code };
+    ghost coded = { memory_shelving_code };
 
     ghost view = { λ s. record { places = s.places; plan = s.plan; faults = s.faults } };
 

@@ -1,6 +1,7 @@
 -- Sorted entries are an object's members, and the other way round; what is printed for them is read back.
-use Rattle.std.proofs.Common.{◌≡◌, ℕ, zero, suc, ◌≤◌, ◌⊎◌, inl, inr, Bool, true, false, not, ◌&&◌, T, List, [], ◌∷◌, map, if◌then◌else◌, Some, None, Result, Ok, Err, is_ok, All, bytes_eq, IsUtf8, refl, sym, ap, subst, ◌∙◌, arith}
+use Rattle.std.proofs.Common.{◌≡◌, ℕ, zero, suc, ◌<◌, ◌≤◌, ◌⊎◌, inl, inr, Bool, true, false, not, ◌&&◌, T, List, [], ◌∷◌, ◌++◌, length, get_or, map, take, if◌then◌else◌, Some, None, Result, Ok, Err, is_ok, All, bytes_eq, IsUtf8, refl, sym, ap, subst, ◌∙◌, arith}
 use Rattle.std.specs.Ordering.{is_lt}
+use Rattle.std.proofs.Math.Seq.{take-suc}
 use Rattle.std.specs.FinMap.{empty, entries, insert, values, from_sorted, entries_sorted, entries-from_sorted, same_entries_map}
 use Rattle.std.specs.FinMap.Entries.{put, below_all, is_sorted}
 use Rattle.std.proofs.lemmas.Slice.Eq.{bytes_eq-Decides}
@@ -9,7 +10,7 @@ use Rattle.std.proofs.lemmas.Bool.{false≢true}
 use Rattle.std.proofs.lemmas.Option.{none-some, same_Some}
 use Rattle.std.specs.Str.{is_utf8}
 use Rattle.std.specs.Result.{result_ok}
-use Rattle.fluid_json.specs.Tree.{Tree, null, boolean, whole, text, list, object, as_members, Members, no_members, member, members, depth, members_depth, IsCanonical, HasCanonical, IsBelowAll}
+use Rattle.fluid_json.specs.Tree.{Tree, null, boolean, whole, text, list, object, as_members, Members, no_members, member, members, depth, members_depth, IsCanonical, HasCanonical, IsBelowAll, AreAscending}
 use Rattle.fluid_json.specs.Printed.{printed}
 use Rattle.fluid_json.specs.Spelled as json
 use Rattle.fluid_json.specs.Laws.{IsReadBack}
@@ -216,3 +217,37 @@ differs one other apart same = absurd (false≢true (sym apart ∙ (bytes_eq-Dec
 
 pub alike : (one other : List ℕ) → bytes_eq one other ≡ true → other ≡ one
 alike one other same = sym ((bytes_eq-Decides one other).0 same)
+
+-- ---- the object of entries, one more at a time
+
+-- the first entries of a list in order are in order
+below_take : (key : List ℕ) (n : ℕ) (es : Pairs) → IsBelowAll key (members es) → IsBelowAll key (members (take n es))
+below_take key zero es h = tt
+below_take key (suc n) [] h = tt
+below_take key (suc n) (e ∷ es) h = (h.0, below_take key n es h.1)
+
+ascending_take : (n : ℕ) (es : Pairs) → AreAscending (members es) → AreAscending (members (take n es))
+ascending_take zero es h = tt
+ascending_take (suc n) [] h = tt
+ascending_take (suc n) (e ∷ es) h = (below_take e.0 n es h.0, ascending_take n es h.1)
+
+ascending_entries : (es : Pairs) → T (is_sorted byte_order es) → AreAscending (members es)
+ascending_entries [] h = tt
+ascending_entries (e ∷ es) h = (below e.0 es (first _ _ h), ascending_entries es (second _ _ h))
+
+pub ascending_so_far : (m : Values) (n : ℕ) → AreAscending (members (take n (entries m)))
+ascending_so_far m n = ascending_take n (entries m) (ascending_entries (entries m) (entries_sorted m))
+
+pub entries_in_order : (m : Values) → AreInOrder (entries m)
+entries_in_order m = is_true _ (entries_sorted m)
+
+pub same_again : (m : Values) → from_sorted (entries m) ≡ m
+same_again m = values_of-entries m
+
+-- the first entries, and the next one's key and value
+pub ascending_pushed : (m : Values) (es so_far : Pairs) (n : ℕ) (pair : List ℕ × Tree) (key : List ℕ) (value : Tree) → es ≡ entries m → so_far ≡ take n es
+    → n < length es → pair ≡ get_or es n pair → key ≡ pair.0 → value ≡ pair.1 → AreAscending (members (so_far ++ (key, value) ∷ []))
+ascending_pushed m es so_far n pair key value all first_ones within is own said =
+    rw (first_ones, own, said)
+    (subst (λ l. AreAscending (members l)) (take-suc es n pair within ∙ ap (λ p. take n es ++ p ∷ []) (sym is))
+    (subst (λ l. AreAscending (members (take (suc n) l))) (sym all) (ascending_so_far m (suc n))))

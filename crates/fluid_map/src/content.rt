@@ -10,12 +10,12 @@ ghost use Rattle.fluid_types.specs.declared.fault.BlobFault.TheVariants.{NoMemor
 
 use fluid_json::laws::printed_is_read_back;
 use fluid_json::{Bytes, Json, JsonFault, NoMemory, Printer, Text};
-use fluid_table::Entries;
+use fluid_table::SortedMap;
 use fluid_types::{BlobFault, Field};
 use std::alloc::Global;
 
 /// The content of a map with these entries.
-pub(crate) fn print(alloc: Global, entries: &Entries<Json>) -> Result<Bytes, NoMemory>
+pub(crate) fn print(alloc: Global, entries: &SortedMap<Text, Json>) -> Result<Bytes, NoMemory>
     ensures content { IfOk result (λ blob. blob ≡ content entries.now.values) }
     ensures reads_back { IfOk result (λ blob. All (λ value. depth value ≤ 99) (values entries.now.values) →
         answer blob ≡ Ok (record { acknowledged = entries.now.values; pending = [] })) }
@@ -42,7 +42,7 @@ fn print_pairs(alloc: Global, pairs: &[(Text, Json)]) -> Result<Text, NoMemory>
 }
 
 /// The entries of the map whose content this is.
-pub(crate) fn read(alloc: Global, blob: &[u8]) -> Result<Entries<Json>, BlobFault>
+pub(crate) fn read(alloc: Global, blob: &[u8]) -> Result<SortedMap<Text, Json>, BlobFault>
     ensures entries { IfOk result (λ entries. (answer blob.now ≡ Ok (record { acknowledged = entries.values; pending = [] })) × (blob.now ≡ content entries.values)) }
     ensures fault { IfErr result (λ fault. IsUnless BlobFault.NoMemory (Err fault) (answer blob.now)) }
 {
@@ -61,7 +61,7 @@ pub(crate) fn read(alloc: Global, blob: &[u8]) -> Result<Entries<Json>, BlobFaul
         return Err(no_content(alloc));
     }
     match value.into_pairs() {
-        Some(pairs) => Ok(Entries::of_sorted(pairs.into_vec())),
+        Some(pairs) => Ok(SortedMap::of_sorted(pairs.into_vec())),
         None => Err(no_content(alloc)),
     }
 }

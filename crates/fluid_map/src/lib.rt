@@ -4,10 +4,11 @@
 //! changes are shown at once, over the rest, as if they were next in the order.
 //!
 //! - `operation`: `MapOp`. `shared`: `SharedMap`. `pending`: the client's own changes that are on their way.
-//! - `content`: the text of a map in a summary. `laws`, `examples`: what holds of the definitions.
+//! - `content`: the text of a map in a summary. `copying`: its keys and values once more. `laws`, `examples`: what holds of the definitions.
 #![tactic(auto)]
 
 mod content;
+mod copying;
 pub mod examples;
 pub mod laws;
 mod operation;

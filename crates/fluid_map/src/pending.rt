@@ -9,7 +9,7 @@ ghost use Rattle.fluid_map.specs.Laid.{count_of};
 
 use crate::operation::MapOp;
 use fluid_json::{Json, NoMemory, Text};
-use fluid_table::Entries;
+use fluid_table::SortedMap;
 use std::alloc::Global;
 use std::collections::VecDeque;
 use std::marker::Model;
@@ -27,7 +27,7 @@ pub(crate) struct Pending {
     changes: VecDeque<MapOp>,
     // How many of the oldest changes end with the last clear; 0 where there is none.
     cleared: usize,
-    latest: Entries<Latest>,
+    latest: SortedMap<Text, Latest>,
 }
 
 impl Model for Pending {
@@ -53,7 +53,7 @@ impl Pending {
         Pending {
             changes: VecDeque::new(alloc),
             cleared: 0,
-            latest: Entries::new(alloc),
+            latest: SortedMap::new(alloc),
         }
     }
 
@@ -115,7 +115,7 @@ impl Pending {
 }
 
 // Lays a change of a key over the earlier ones.
-fn lay(latest: &mut Entries<Latest>, key: Text, value: Option<Json>)
+fn lay(latest: &mut SortedMap<Text, Latest>, key: Text, value: Option<Json>)
     requires room { 0 < latest.old.spare }
     requires counted { count_of (get latest.old.values key) < 2 ^ 64 - 1 }
     ensures { latest.new.values ≡ insert latest.old.values key (record { value = value; changes = count_of (get latest.old.values key) + 1 }) }
@@ -128,7 +128,7 @@ fn lay(latest: &mut Entries<Latest>, key: Text, value: Option<Json>)
 }
 
 // Takes away the oldest of the changes of a key: the last one stays laid over until it is the only one.
-fn lift(latest: &mut Entries<Latest>, key: &str)
+fn lift(latest: &mut SortedMap<Text, Latest>, key: &str)
     ensures fewer { (last : Latest) → get latest.old.values key.now ≡ Some last → 1 < last.changes →
         latest.new.values ≡ insert latest.old.values key.now (record last { changes = last.changes - 1 }) }
     ensures gone { (last : Latest) → get latest.old.values key.now ≡ Some last → last.changes ≤ 1 →

@@ -9,14 +9,14 @@ ghost use Rattle.std.specs.FinMap.{empty, get, values};
 ghost use Rattle.fluid_json.specs.Tree.{depth};
 ghost use Rattle.fluid_json.specs.Unless.{IsUnless};
 ghost use Rattle.fluid_map.specs.Replay.{Values, StandsFor, after, replay, shown, value_behind};
-ghost use Rattle.fluid_map.specs.Content.{content, answer};
+ghost use Rattle.fluid_map.specs.Content.{content, answer, object_of};
 ghost use Rattle.fluid_map.specs.declared.operation.MapOp.{MapOp};
 
-use crate::content;
 use crate::operation::MapOp;
 use crate::pending::Pending;
-use fluid_json::{Bytes, Json, NoMemory};
-use fluid_table::Entries;
+use crate::{content, copying};
+use fluid_json::{Bytes, Json, NoMemory, Text};
+use fluid_table::SortedMap;
 use fluid_types::BlobFault;
 use std::alloc::Global;
 use std::marker::Model;
@@ -25,7 +25,7 @@ use std::marker::Model;
 /// changes that are on their way.
 #[derive(Drop)]
 pub struct SharedMap {
-    acknowledged: Entries<Json>,
+    acknowledged: SortedMap<Text, Json>,
     pending: Pending,
 }
 
@@ -50,7 +50,7 @@ impl SharedMap {
         ensures stands { StandsFor empty [] result }
     {
         SharedMap {
-            acknowledged: Entries::new(alloc),
+            acknowledged: SortedMap::new(alloc),
             pending: Pending::new(alloc),
         }
     }
@@ -147,10 +147,39 @@ impl SharedMap {
             pending: Pending::new(alloc),
         })
     }
+
+    /// Takes in an operation that is the next in the order, and keeps its key and its value: it copies nothing. After
+    /// `NoMemory` the map is as it was.
+    pub fn take_over(&mut self, op: MapOp) -> Result<(), NoMemory>
+        ensures applied { OnOk result (self.new ≡ record self.old { acknowledged = after self.old.acknowledged op }) }
+        ensures unchanged { OnErr result (self.new ≡ self.old) }
+    {
+        self.acknowledged.reserve(self.pending.len() + 1)?;
+        take_in(&mut self.acknowledged, op);
+        Ok(())
+    }
+
+    /// The acknowledged map once more, with its own memory and with nothing pending.
+    pub fn copy_acknowledged(&self, alloc: Global) -> Result<SharedMap, NoMemory>
+        ensures { IfOk result (λ copy. copy ≡ record { acknowledged = self.now.acknowledged; pending = [] }) }
+    {
+        let acknowledged = copying::copy_entries(alloc, &self.acknowledged)?;
+        Ok(SharedMap {
+            acknowledged,
+            pending: Pending::new(alloc),
+        })
+    }
+
+    /// The object of the keys and values of the acknowledged map, without the pending changes.
+    pub fn to_json(&self, alloc: Global) -> Result<Json, NoMemory>
+        ensures { IfOk result (λ json. json ≡ object_of self.now.acknowledged) }
+    {
+        copying::object(alloc, &self.acknowledged)
+    }
 }
 
 // Makes a change of a map, which has room for one more key.
-fn take_in(entries: &mut Entries<Json>, op: MapOp)
+fn take_in(entries: &mut SortedMap<Text, Json>, op: MapOp)
     requires { 0 < entries.old.spare }
     ensures values { entries.new.values ≡ after entries.old.values op }
     ensures spare { entries.old.spare ≤ entries.new.spare + 1 }

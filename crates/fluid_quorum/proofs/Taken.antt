@@ -1,7 +1,6 @@
 -- What a quorum keeps, behind one more message.
 use Rattle.std.proofs.Common.{◌≡◌, ℕ, zero, suc, ◌+◌, ◌<◌, ◌≤◌, arith, Bool, true, false, cond, not, List, [], ◌∷◌, ◌++◌, length, take, map, filter, fold, Option, Some, None, refl, sym, ap, subst, ◌∙◌, append-nil}
-use Rattle.std.specs.Prelude.{option_to_list, unwrap_or}
-use Rattle.std.specs.List.{last_or}
+use Rattle.std.specs.Prelude.{option_to_list}
 use Rattle.std.specs.FinMap.{empty}
 use Rattle.std.proofs.lemmas.List.{length-take-le, length-append}
 use Rattle.std.proofs.lemmas.List.Elements.{All-append, All-filter, filter-append}
@@ -11,8 +10,9 @@ use Rattle.fluid_types.specs.declared.messages.Message.{Message}
 use Rattle.fluid_types.specs.declared.quorum.Member.{Member}
 use Rattle.fluid_types.specs.declared.quorum.Proposal.{Proposal}
 use Rattle.fluid_types.specs.declared.quorum.Accepted.{Accepted}
-use Rattle.fluid_types.specs.Quorum.{Table, Quorum, at_last, quorum_of, members, pending, proposals, values, standing, latest, member_of, left_by, proposal_of}
-use Rattle.fluid_quorum.specs.Order.{AreNumberedFrom, AreFirst, StandsFor}
+use Rattle.fluid_types.specs.Quorum.{Table, Quorum, quorum_of, members, pending, proposals, values, standing, latest, member_of, left_by, proposal_of}
+use Rattle.fluid_types.proofs.Numbers.{numbered_more, last_number}
+use Rattle.fluid_quorum.specs.Order.{StandsFor}
 use Rattle.fluid_quorum.specs.After.{without, with_member, with_accepted, is_due, waiting, after}
 use Rattle.fluid_quorum.specs.Kept.{AreRising, AreUpTo}
 use Rattle.fluid_quorum.proofs.Approvals.{numbered}
@@ -77,22 +77,10 @@ pub taken : (q : Quorum) (m : Message) (its_members : Table Member) (its_pending
 unfolding after
 taken q m its_members its_pending its_values a b c = rw (a, b, c) refl
 
-last_of : (n : ℕ) (ms : List Message) → AreNumberedFrom (suc n) ms → unwrap_or (last_or (Some n) (map (λ m. m.number) ms)) 0 ≡ n + length ms
-last_of n [] order = omega arith
-last_of n (m ∷ ms) order = rw order.0 (last_of (suc n) ms order.1 ∙ omega arith)
-
-pub last_number : (ms : List Message) → AreFirst ms → at_last (λ m. m.number) ms ≡ length ms
-last_number [] order = refl
-last_number (m ∷ ms) order = rw order.0 (last_of 1 ms order.1 ∙ omega arith)
-
-one_numbered : (n : ℕ) (ms : List Message) (m : Message) → AreNumberedFrom n ms → m.number ≡ n + length ms → AreNumberedFrom n (ms ++ m ∷ [])
-one_numbered n [] m order is = (omega (arith, is), tt)
-one_numbered n (k ∷ ms) m order is = (order.0, one_numbered (suc n) ms m order.1 (omega (arith, is)))
-
 pub stands-after : (ms : List Message) (q : Quorum) (m : Message) → m.number ≡ q.number + 1 → StandsFor ms q → StandsFor (ms ++ m ∷ []) (after q m)
 unfolding quorum_of
 stands-after ms q m next stands = record {
-  order = one_numbered 1 ms m stands.order (omega (arith, next, ap (λ r. r.number) stands.quorum, last_number ms stands.order));
+  order = numbered_more ms m 1 stands.order (omega (arith, next, ap (λ r. r.number) stands.quorum, last_number ms stands.order));
   quorum = ap (λ r. after r m) stands.quorum ∙ sym (goes_on ms m stands.order);
 }
 

@@ -16,14 +16,11 @@ use crate::members::Members;
 use crate::quorum::Quorum;
 use crate::saying::{id_in, key_in};
 use crate::writing::{print_attributes, print_members, print_proposals, print_values};
-use fluid_json::{Json, JsonFault, NoMemory, Text, read_stored};
+use fluid_json::{Json, JsonFault, LARGEST, NoMemory, Text, read_stored};
 use fluid_table::is_in_order;
 use fluid_tree::Node;
 use fluid_types::{Accepted, BlobFault, Field, Member, Proposal, QuorumBlob, Word};
 use std::alloc::Global;
-
-/// The largest number of a message: the last up to which each whole number is a double.
-const LARGEST: u64 = 9_007_199_254_740_991;
 
 impl Quorum {
     /// The quorum that the blobs of a tree say.

@@ -10,13 +10,23 @@ pub(crate) fn told(alloc: Global, text: &str) -> Result<Text, NoMemory> {
     let mut clients = Clients::new(alloc);
     let mut told = String::new(alloc);
     for call in text.split("; ") {
-        let answer = answer(alloc, &mut clients, call)?;
-        if !told.is_empty() {
-            told.push_str("; ")?;
-        }
-        told.push_str(answer.as_str())?;
+        tell(alloc, &mut clients, call, &mut told)?;
     }
     Ok(Text::new(told))
+}
+
+fn tell(
+    alloc: Global,
+    clients: &mut Clients,
+    call: &str,
+    told: &mut String,
+) -> Result<(), NoMemory> {
+    let answer = answer(alloc, clients, call)?;
+    if !told.is_empty() {
+        told.push_str("; ")?;
+    }
+    told.push_str(answer.as_str())?;
+    Ok(())
 }
 
 fn answer(alloc: Global, clients: &mut Clients, call: &str) -> Result<Text, NoMemory> {
@@ -71,6 +81,7 @@ fn join(
             write: true,
             summary: false,
         },
+        heard: 0,
     };
     clients.join(id, row)?;
     Text::copied(alloc, "in")

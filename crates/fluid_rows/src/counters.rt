@@ -8,16 +8,14 @@ use std::alloc::Global;
 // What a client shows at first and behind each step, where it begins with this text of a counter. The steps stand behind a
 // semicolon each: an amount that it adds itself, an amount of another client in the order, or that its oldest is in the order.
 pub(crate) fn told(alloc: Global, text: &str) -> Result<Text, NoMemory> {
-    let mut parts = text.split("; ");
-    let blob = parts.next().unwrap_or("");
+    let mut steps = text.split("; ");
+    let blob = steps.next().unwrap_or("");
     match SharedCounter::from_blob(alloc, blob.as_bytes()) {
-        Ok(counter) => {
-            let mut counter = counter;
-            let mut told = shown(alloc, &counter)?;
-            for step in parts {
-                take(&mut counter, step)?;
-                told.push_str("; ")?;
-                told.push_str(shown(alloc, &counter)?.as_str())?;
+        Ok(mut counter) => {
+            let mut told = String::new(alloc);
+            show(alloc, &counter, &mut told)?;
+            for step in steps {
+                take_and_show(alloc, &mut counter, step, &mut told)?;
             }
             Ok(Text::new(told))
         }
@@ -25,10 +23,27 @@ pub(crate) fn told(alloc: Global, text: &str) -> Result<Text, NoMemory> {
     }
 }
 
+fn take_and_show(
+    alloc: Global,
+    counter: &mut SharedCounter,
+    step: &str,
+    told: &mut String,
+) -> Result<(), NoMemory> {
+    take(counter, step)?;
+    told.push_str("; ")?;
+    show(alloc, counter, told)
+}
+
+fn show(alloc: Global, counter: &SharedCounter, told: &mut String) -> Result<(), NoMemory> {
+    let shown = shown(alloc, counter)?;
+    told.push_str(shown.as_str())?;
+    Ok(())
+}
+
 // What bytes are read as that need not be text.
 pub(crate) fn bytes_told(alloc: Global, bytes: &[u8]) -> Result<Text, NoMemory> {
     match SharedCounter::from_blob(alloc, bytes) {
-        Ok(counter) => Ok(Text::new(shown(alloc, &counter)?)),
+        Ok(counter) => shown(alloc, &counter),
         Err(fault) => fault_told(alloc, &fault),
     }
 }
@@ -41,7 +56,7 @@ fn fault_told(alloc: Global, fault: &BlobFault) -> Result<Text, NoMemory> {
 }
 
 // How many of its own are on their way, what it shows, and the text of what is in the order.
-fn shown(alloc: Global, counter: &SharedCounter) -> Result<String, NoMemory> {
+fn shown(alloc: Global, counter: &SharedCounter) -> Result<Text, NoMemory> {
     let blob = counter.to_blob(alloc)?;
     let blob = text_of(alloc, blob.as_slice())?;
     let told = format!(in alloc;
@@ -50,7 +65,7 @@ fn shown(alloc: Global, counter: &SharedCounter) -> Result<String, NoMemory> {
         counter.value(),
         blob.as_str()
     )?;
-    Ok(told)
+    Ok(Text::new(told))
 }
 
 fn take(counter: &mut SharedCounter, step: &str) -> Result<(), NoMemory> {

@@ -8,16 +8,14 @@ use std::alloc::Global;
 // What a client shows at first and behind each step, where it begins with this text of a map. The steps stand behind a
 // semicolon each: a change that it makes itself, a change of another client in the order, or that its oldest is in the order.
 pub(crate) fn told(alloc: Global, text: &str) -> Result<Text, NoMemory> {
-    let mut parts = text.split("; ");
-    let blob = parts.next().unwrap_or("");
+    let mut steps = text.split("; ");
+    let blob = steps.next().unwrap_or("");
     match SharedMap::from_blob(alloc, blob.as_bytes()) {
-        Ok(map) => {
-            let mut map = map;
-            let mut told = shown(alloc, &map)?;
-            for step in parts {
-                take(alloc, &mut map, step)?;
-                told.push_str("; ")?;
-                told.push_str(shown(alloc, &map)?.as_str())?;
+        Ok(mut map) => {
+            let mut told = String::new(alloc);
+            show(alloc, &map, &mut told)?;
+            for step in steps {
+                take_and_show(alloc, &mut map, step, &mut told)?;
             }
             Ok(Text::new(told))
         }
@@ -25,10 +23,27 @@ pub(crate) fn told(alloc: Global, text: &str) -> Result<Text, NoMemory> {
     }
 }
 
+fn take_and_show(
+    alloc: Global,
+    map: &mut SharedMap,
+    step: &str,
+    told: &mut String,
+) -> Result<(), NoMemory> {
+    take(alloc, map, step)?;
+    told.push_str("; ")?;
+    show(alloc, map, told)
+}
+
+fn show(alloc: Global, map: &SharedMap, told: &mut String) -> Result<(), NoMemory> {
+    let shown = shown(alloc, map)?;
+    told.push_str(shown.as_str())?;
+    Ok(())
+}
+
 // What bytes are read as that need not be text.
 pub(crate) fn bytes_told(alloc: Global, bytes: &[u8]) -> Result<Text, NoMemory> {
     match SharedMap::from_blob(alloc, bytes) {
-        Ok(map) => Ok(Text::new(shown(alloc, &map)?)),
+        Ok(map) => shown(alloc, &map),
         Err(fault) => fault_told(alloc, &fault),
     }
 }
@@ -41,7 +56,7 @@ fn fault_told(alloc: Global, fault: &BlobFault) -> Result<Text, NoMemory> {
 }
 
 // How many of its own are on their way, what it shows under a, b and c, and the text of what is in the order.
-fn shown(alloc: Global, map: &SharedMap) -> Result<String, NoMemory> {
+fn shown(alloc: Global, map: &SharedMap) -> Result<Text, NoMemory> {
     let blob = map.to_blob(alloc)?;
     let blob = text_of(alloc, blob.as_slice())?;
     let a = shown_under(alloc, map, "a")?;
@@ -55,7 +70,7 @@ fn shown(alloc: Global, map: &SharedMap) -> Result<String, NoMemory> {
         c.as_str(),
         blob.as_str()
     )?;
-    Ok(told)
+    Ok(Text::new(told))
 }
 
 // The value under a key; a full stop where it has none.

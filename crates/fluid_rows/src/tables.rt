@@ -1,24 +1,34 @@
 // A table of numbers under texts.
 use crate::words::{number_of, split};
 use fluid_json::{NoMemory, Text};
-use fluid_table::Entries;
+use fluid_table::SortedMap;
 use std::alloc::Global;
 
 // What is answered to each of these calls on an empty table, which stand behind a semicolon each.
 pub(crate) fn told(alloc: Global, text: &str) -> Result<Text, NoMemory> {
-    let mut entries = Entries::new(alloc);
+    let mut entries = SortedMap::new(alloc);
     let mut told = String::new(alloc);
     for call in text.split("; ") {
-        let answer = answer(alloc, &mut entries, call)?;
-        if !told.is_empty() {
-            told.push_str("; ")?;
-        }
-        told.push_str(answer.as_str())?;
+        tell(alloc, &mut entries, call, &mut told)?;
     }
     Ok(Text::new(told))
 }
 
-fn answer(alloc: Global, entries: &mut Entries<u64>, call: &str) -> Result<Text, NoMemory> {
+fn tell(
+    alloc: Global,
+    entries: &mut SortedMap<Text, u64>,
+    call: &str,
+    told: &mut String,
+) -> Result<(), NoMemory> {
+    let answer = answer(alloc, entries, call)?;
+    if !told.is_empty() {
+        told.push_str("; ")?;
+    }
+    told.push_str(answer.as_str())?;
+    Ok(())
+}
+
+fn answer(alloc: Global, entries: &mut SortedMap<Text, u64>, call: &str) -> Result<Text, NoMemory> {
     let (word, rest) = split(call);
     let (key, number) = split(rest);
     match word {
@@ -40,7 +50,7 @@ fn answer(alloc: Global, entries: &mut Entries<u64>, call: &str) -> Result<Text,
 
 fn insert(
     alloc: Global,
-    entries: &mut Entries<u64>,
+    entries: &mut SortedMap<Text, u64>,
     key: &str,
     number: u64,
 ) -> Result<Text, NoMemory> {
@@ -51,11 +61,11 @@ fn insert(
 }
 
 // A table of one key.
-fn pair(alloc: Global, key: &str, number: u64) -> Result<Entries<u64>, NoMemory> {
+fn pair(alloc: Global, key: &str, number: u64) -> Result<SortedMap<Text, u64>, NoMemory> {
     let key = Text::copied(alloc, key)?;
     let mut pairs = Vec::new(alloc);
     pairs.push((key, number))?;
-    Ok(Entries::of_sorted(pairs))
+    Ok(SortedMap::of_sorted(pairs))
 }
 
 fn number_told(alloc: Global, number: Option<u64>) -> Result<Text, NoMemory> {
@@ -66,7 +76,7 @@ fn number_told(alloc: Global, number: Option<u64>) -> Result<Text, NoMemory> {
 }
 
 // The pairs in their order.
-fn pairs(alloc: Global, entries: &Entries<u64>) -> Result<Text, NoMemory> {
+fn pairs(alloc: Global, entries: &SortedMap<Text, u64>) -> Result<Text, NoMemory> {
     let mut told = String::from_str(alloc, "pairs")?;
     for (key, number) in entries.as_slice() {
         let pair = format!(in alloc; " {}={number}", key.as_str())?;

@@ -113,17 +113,25 @@ fn length(items: Option<Items>) -> usize {
 // Tokens behind a line.
 fn tokens(alloc: Global) -> Result<Text, NoMemory> {
     let mut out = Printer::behind(Vec::from_slice(alloc, b"line ")?);
-    let value = value(alloc)?;
+    push_tokens(alloc, &mut out)?;
+    let bytes = out.into_vec();
+    crate::words::text_of(alloc, &bytes)
+}
+
+fn push_tokens(alloc: Global, out: &mut Printer) -> Result<(), NoMemory> {
     out.begin_object()?;
     out.key("a")?;
-    numbers(&mut out)?;
+    numbers(out)?;
     out.key("b")?;
     out.text("\"")?;
     out.key("c")?;
-    out.value(&value)?;
-    out.end_object()?;
-    let bytes = out.into_vec();
-    crate::words::text_of(alloc, &bytes)
+    push_value(alloc, out)?;
+    out.end_object()
+}
+
+fn push_value(alloc: Global, out: &mut Printer) -> Result<(), NoMemory> {
+    let value = value(alloc)?;
+    out.value(&value)
 }
 
 fn numbers(out: &mut Printer) -> Result<(), NoMemory> {

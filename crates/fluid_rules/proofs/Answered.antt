@@ -13,7 +13,7 @@ use Rattle.fluid_types.specs.declared.messages.Kind.{Kind}
 use Rattle.fluid_types.specs.declared.messages.Kind.TheVariants as kind
 use Rattle.fluid_types.specs.declared.messages.Message.{Message}
 use Rattle.fluid_types.specs.declared.verdicts.Verdict.{Verdict}
-use Rattle.fluid_types.specs.declared.verdicts.Verdict.TheVariants.{Sequenced, Nacked, Dropped}
+use Rattle.fluid_types.specs.declared.verdicts.Verdict.TheVariants.{Sequenced, Nacked, Dropped, Absorbed}
 use Rattle.fluid_types.specs.Blobs.{blobs}
 use Rattle.fluid_types.specs.Ledger.{Ledger, messages_of, order, seq}
 use Rattle.fluid_types.proofs.Ledgers.{order-push}
@@ -295,6 +295,7 @@ in_turn-behind read_back ledger raw (Sequenced m) h is =
     (message_in_turn read_back ledger raw m (numbered-up_to 1 (length (order ledger)) (order ledger) h.numbered (omega arith)) its)
 in_turn-behind read_back ledger raw (Nacked nack) h is = rw (append-nil (order ledger)) h
 in_turn-behind read_back ledger raw Dropped h is = rw (append-nil (order ledger)) h
+in_turn-behind read_back ledger raw Absorbed h is = rw (append-nil (order ledger)) h
 
 begins_in_turn : AreInTurn (order [])
 unfolding order

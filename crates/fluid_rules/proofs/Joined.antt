@@ -3,7 +3,7 @@ use Rattle.std.proofs.Common.{◌≡◌, ℕ, ◌≤◌, min, Bool, true, false,
 use Rattle.std.specs.Option.{option_map}
 use Rattle.fluid_types.specs.declared.entries.Raw.TheVariants.{Join, Leave, Submit, Report}
 use Rattle.fluid_types.specs.declared.entries.Scopes.{Scopes}
-use Rattle.fluid_types.specs.declared.verdicts.Verdict.TheVariants.{Sequenced, Nacked, Dropped}
+use Rattle.fluid_types.specs.declared.verdicts.Verdict.TheVariants.{Sequenced, Nacked, Dropped, Absorbed}
 use Rattle.fluid_types.specs.Ledger.{order, seq}
 use Rattle.fluid_rules.specs.Past.{Past, Client, IsLeast, has_id, AreInOrder, least_or, membership, is_joined, ever_joined, joined, entered_at, minimum, reference, client}
 use Rattle.fluid_rules.proofs.Ids.{same_id, own_id, and_false, put_id-has, put_id-in_order, filter-has, filter-in_order}
@@ -40,16 +40,20 @@ ever_joined-has ((Join id scopes detail moment, Sequenced m) ∷ past) c is =
     join_at (bytes_eq id c) c id scopes detail moment m past refl (ever_joined-has past c) is
 ever_joined-has ((Join id scopes detail moment, Nacked n) ∷ past) c is = ever_joined-has past c is
 ever_joined-has ((Join id scopes detail moment, Dropped) ∷ past) c is = ever_joined-has past c is
+ever_joined-has ((Join id scopes detail moment, Absorbed) ∷ past) c is = ever_joined-has past c is
 ever_joined-has ((Leave id moment, Sequenced m) ∷ past) c is =
     leave_at (bytes_eq id c) c id moment m past refl (ever_joined-has past c) is
 ever_joined-has ((Leave id moment, Nacked n) ∷ past) c is = ever_joined-has past c is
 ever_joined-has ((Leave id moment, Dropped) ∷ past) c is = ever_joined-has past c is
+ever_joined-has ((Leave id moment, Absorbed) ∷ past) c is = ever_joined-has past c is
 ever_joined-has ((Submit id submission moment, Sequenced m) ∷ past) c is = ever_joined-has past c is
 ever_joined-has ((Submit id submission moment, Nacked n) ∷ past) c is = ever_joined-has past c is
 ever_joined-has ((Submit id submission moment, Dropped) ∷ past) c is = ever_joined-has past c is
+ever_joined-has ((Submit id submission moment, Absorbed) ∷ past) c is = ever_joined-has past c is
 ever_joined-has ((Report summary found moment, Sequenced m) ∷ past) c is = ever_joined-has past c is
 ever_joined-has ((Report summary found moment, Nacked n) ∷ past) c is = ever_joined-has past c is
 ever_joined-has ((Report summary found moment, Dropped) ∷ past) c is = ever_joined-has past c is
+ever_joined-has ((Report summary found moment, Absorbed) ∷ past) c is = ever_joined-has past c is
 
 joined_at : (b : Bool) (past : Past) (c : List ℕ) → is_joined past c ≡ b → (has_id c (ever_joined past) && is_joined past c) ≡ is_joined past c
 joined_at true past c h = rw (h, ever_joined-has past c h) refl
@@ -66,6 +70,7 @@ ever_joined-in_order [] = tt
 ever_joined-in_order ((Join id scopes detail moment, Sequenced m) ∷ past) = put_id-in_order id (ever_joined past) (ever_joined-in_order past)
 ever_joined-in_order ((Join id scopes detail moment, Nacked n) ∷ past) = ever_joined-in_order past
 ever_joined-in_order ((Join id scopes detail moment, Dropped) ∷ past) = ever_joined-in_order past
+ever_joined-in_order ((Join id scopes detail moment, Absorbed) ∷ past) = ever_joined-in_order past
 ever_joined-in_order ((Leave id moment, verdict) ∷ past) = ever_joined-in_order past
 ever_joined-in_order ((Submit id submission moment, verdict) ∷ past) = ever_joined-in_order past
 ever_joined-in_order ((Report summary found moment, verdict) ∷ past) = ever_joined-in_order past

@@ -4,7 +4,7 @@ use Rattle.fluid_types.specs.declared.entries.Raw.{Raw}
 use Rattle.fluid_types.specs.Ledger.{Ledger, raws}
 use Rattle.fluid_types.proofs.Ledgers.{raws-push}
 use Rattle.fluid_rules.specs.Past.{Entry}
-use Rattle.fluid_rules.specs.Rules.{verdict, IsLegalBehind, IsLegal, ledger_behind, ledger}
+use Rattle.fluid_rules.specs.Rules.{verdict, IsLegalBehind, IsLegal, ledger_behind, entries_behind, ledger}
 
 -- ---- legal ledgers
 
@@ -69,10 +69,23 @@ legal-append first second legal behind = grown IsLegal (λ l entry _ before h. l
 
 -- ---- the ledger of raw entries
 
-ledger_behind-append : (before : Ledger) (first second : List Raw) →
+pub ledger_behind-append : (before : Ledger) (first second : List Raw) →
     ledger_behind before (first ++ second) ≡ ledger_behind (ledger_behind before first) second
 ledger_behind-append before [] second = refl
 ledger_behind-append before (raw ∷ first) second = ledger_behind-append (before ++ (raw, verdict before raw) ∷ []) first second
+
+-- it is the ledger before them with these entries
+pub ledger_behind-entries : (before : Ledger) (entries : List Raw) → ledger_behind before entries ≡ before ++ entries_behind before entries
+ledger_behind-entries before [] = sym (append-nil before)
+ledger_behind-entries before (raw ∷ entries) =
+    ledger_behind-entries (before ++ (raw, verdict before raw) ∷ []) entries
+    ∙ append_assoc before ((raw, verdict before raw) ∷ []) (entries_behind (before ++ (raw, verdict before raw) ∷ []) entries)
+
+pub entries_behind-append : (before : Ledger) (first second : List Raw) →
+    entries_behind before (first ++ second) ≡ entries_behind before first ++ entries_behind (ledger_behind before first) second
+entries_behind-append before [] second = refl
+entries_behind-append before (raw ∷ first) second =
+    ap (λ rest. (raw, verdict before raw) ∷ rest) (entries_behind-append (before ++ (raw, verdict before raw) ∷ []) first second)
 
 -- one raw entry more gets its verdict over the ledger of those before it
 pub ledger-push : (entries : List Raw) (raw : Raw) → ledger (entries ++ raw ∷ []) ≡ ledger entries ++ (raw, verdict (ledger entries) raw) ∷ []

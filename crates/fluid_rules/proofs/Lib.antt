@@ -9,6 +9,8 @@ pub mod Joined
 pub mod Minimum
 pub mod Verdicts
 pub mod Growth
+pub mod Heard
+pub mod Taken
 pub mod Refusals
 pub mod Settled
 pub mod Summaries

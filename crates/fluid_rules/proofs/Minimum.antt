@@ -35,6 +35,11 @@ seq-reverse (entry ∷ ledger) =
     rw (reverse-cons entry ledger, seq-append (reverse ledger) (entry ∷ []), seq-reverse ledger)
     (add_comm (seq ledger) (seq (entry ∷ [])) ∙ sym (seq-append (entry ∷ []) ledger))
 
+-- a past has as many messages as its ledger
+pub seq-past_of : (ledger : Ledger) → seq (past_of ledger) ≡ seq ledger
+unfolding past_of
+seq-past_of ledger = seq-reverse ledger
+
 -- the minimum is the least reference of the joined clients, and the last sequence number where there is none
 pub minimum-is_least : (ledger : Ledger) → IsLeast (client ledger) (seq ledger) (minimum ledger)
 unfolding past_of client minimum

@@ -4,7 +4,7 @@ use Rattle.fluid_types.specs.declared.entries.Raw.TheVariants.{Join, Leave, Subm
 use Rattle.fluid_types.specs.declared.entries.Submission.{Submission}
 use Rattle.fluid_types.specs.declared.messages.Message.{Message}
 use Rattle.fluid_types.specs.declared.nacks.Nack.{Nack}
-use Rattle.fluid_types.specs.declared.verdicts.Verdict.TheVariants.{Sequenced, Nacked, Dropped}
+use Rattle.fluid_types.specs.declared.verdicts.Verdict.TheVariants.{Sequenced, Nacked, Dropped, Absorbed}
 use Rattle.fluid_types.specs.Ledger.{Ledger}
 use Rattle.fluid_rules.specs.Past as said
 use Rattle.fluid_rules.specs.Past.{Past, Entry, settles, refused, is_below, latest}
@@ -55,6 +55,11 @@ dropped_not : (same : Bool) (id c : List ℕ) (submission : Submission) (moment 
 dropped_not true id c submission moment k h at = let no : None ≡ Some k = rw h at at in cc
 dropped_not false id c submission moment k h at = let no : None ≡ Some k = rw h at at in cc
 
+absorbed_not : (same : Bool) (id c : List ℕ) (submission : Submission) (moment : ℕ) (k : ℕ) → bytes_eq id c ≡ same →
+    refused c (Submit id submission moment, Absorbed) ≡ Some k → ⊥
+absorbed_not true id c submission moment k h at = let no : None ≡ Some k = rw h at at in cc
+absorbed_not false id c submission moment k h at = let no : None ≡ Some k = rw h at at in cc
+
 nacked_own : (same below : Bool) (id c : List ℕ) (submission : Submission) (moment : ℕ) (n : Nack) (k : ℕ) → bytes_eq id c ≡ same → is_below n.rule ≡ below →
     refused c (Submit id submission moment, Nacked n) ≡ Some k → (id ≡ c) × (is_below n.rule ≡ true)
 nacked_own false below id c submission moment n k h under at = absurd (let no : None ≡ Some k = rw h at at in cc)
@@ -69,6 +74,7 @@ in_order ledger (Leave id moment, v) c k is h = absurd (cc)
 in_order ledger (Report summary found moment, v) c k is h = absurd (cc)
 in_order ledger (Submit id submission moment, Sequenced m) c k is h = absurd (sequenced_not (bytes_eq id c) id c submission moment m k refl h)
 in_order ledger (Submit id submission moment, Dropped) c k is h = absurd (dropped_not (bytes_eq id c) id c submission moment k refl h)
+in_order ledger (Submit id submission moment, Absorbed) c k is h = absurd (absorbed_not (bytes_eq id c) id c submission moment k refl h)
 in_order ledger (Submit id submission moment, Nacked n) c k is h =
     let own = nacked_own (bytes_eq id c) (is_below n.rule) id c submission moment n k refl refl h in
     let none = or_false (not (is_joined ledger id)) (is_nacked ledger id) ((nacked-was ledger id submission moment n is).was_in_order own.1) in

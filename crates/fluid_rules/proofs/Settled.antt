@@ -31,12 +31,12 @@ minimum-same first second same at =
     (least-same (client first) (client second) (seq first) (seq second) (minimum first) same at (minimum-is_least first))
     (minimum-is_least second)
 
-behind_same : (raw : Raw) (m : Message) (n least : ℕ) (c : List ℕ) (before : Option Client) →
-    client_behind (raw, Sequenced (record m { minimum = n })) least c before ≡ client_behind (raw, Sequenced m) least c before
-behind_same (Join id scopes detail moment) m n least c before = refl
-behind_same (Leave id moment) m n least c before = refl
-behind_same (Submit id submission moment) m n least c before = refl
-behind_same (Report summary found moment) m n least c before = refl
+behind_same : (raw : Raw) (m : Message) (n sequence least : ℕ) (c : List ℕ) (before : Option Client) →
+    client_behind (raw, Sequenced (record m { minimum = n })) sequence least c before ≡ client_behind (raw, Sequenced m) sequence least c before
+behind_same (Join id scopes detail moment) m n sequence least c before = refl
+behind_same (Leave id moment) m n sequence least c before = refl
+behind_same (Submit id submission moment) m n sequence least c before = refl
+behind_same (Report summary found moment) m n sequence least c before = refl
 
 -- the minimum in a message has no part in the minimum of a ledger
 pub minimum-settled : (ledger : Ledger) (raw : Raw) (m : Message) (n : ℕ) →
@@ -44,7 +44,7 @@ pub minimum-settled : (ledger : Ledger) (raw : Raw) (m : Message) (n : ℕ) →
 minimum-settled ledger raw m n =
     minimum-same (ledger ++ (raw, Sequenced (record m { minimum = n })) ∷ []) (ledger ++ (raw, Sequenced m) ∷ [])
     (λ c. client-push ledger (raw, Sequenced (record m { minimum = n })) c
-    ∙ behind_same raw m n (minimum ledger) c (client ledger c)
+    ∙ behind_same raw m n (seq ledger) (minimum ledger) c (client ledger c)
     ∙ sym (client-push ledger (raw, Sequenced m) c))
     (seq-push ledger (raw, Sequenced (record m { minimum = n })) ∙ sym (seq-push ledger (raw, Sequenced m)))
 

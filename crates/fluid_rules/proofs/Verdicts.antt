@@ -11,17 +11,18 @@ use Rattle.fluid_json.specs.Tree.{Tree}
 use Rattle.fluid_types.specs.declared.messages.Kind.{Kind}
 use Rattle.fluid_types.specs.declared.messages.Message.{Message}
 use Rattle.fluid_types.specs.declared.verdicts.Verdict.{Verdict}
-use Rattle.fluid_types.specs.declared.verdicts.Verdict.TheVariants.{Sequenced, Nacked, Dropped}
+use Rattle.fluid_types.specs.declared.verdicts.Verdict.TheVariants.{Sequenced, Nacked, Dropped, Absorbed}
 use Rattle.fluid_types.specs.Ledger.{Ledger, order, seq}
-use Rattle.fluid_rules.specs.Past.{is_below, count_of}
+use Rattle.fluid_rules.specs.Past.{is_below, count_of, read_as}
 use Rattle.fluid_rules.specs.Scribe.{answer, reported}
 use Rattle.fluid_rules.specs.declared.answers.Answer.{Answer}
-use Rattle.fluid_rules.specs.Rules.{first_case, leaves_reference, minimum, answer_message, unsettled, settled, message, sequenced, nack, is_duplicate, leaves_gap, is_nonexistent, is_below_minimum, is_ahead, lacks_scope, submission_verdict, is_joined, verdict}
+use Rattle.fluid_rules.specs.Rules.{first_case, leaves_reference, minimum, answer_message, unsettled, settled, message, sequenced, nack, is_duplicate, leaves_gap, is_nonexistent, is_below_minimum, is_ahead, lacks_scope, is_absorbed, submission_verdict, is_joined, verdict}
 
--- a sequenced submission: no case before the last fits
-abbrev Chain : Bool → Bool → Bool → Bool → Bool → Bool → Verdict → Verdict → Verdict → Verdict → Verdict → Verdict → Verdict
-Chain one two three four five six gap nonexistent below ahead scope last =
-    first_case ((one, Dropped) ∷ (two, gap) ∷ (three, nonexistent) ∷ (four, below) ∷ (five, ahead) ∷ (six, scope) ∷ []) last
+-- a submission that no rule refuses: none of the six cases before fits
+abbrev Chain : Bool → Bool → Bool → Bool → Bool → Bool → Bool → Verdict → Verdict → Verdict → Verdict → Verdict → Verdict → Verdict
+Chain one two three four five six seven gap nonexistent below ahead scope last =
+    first_case
+    ((one, Dropped) ∷ (two, gap) ∷ (three, nonexistent) ∷ (four, below) ∷ (five, ahead) ∷ (six, scope) ∷ (seven, Absorbed) ∷ []) last
 
 record NoCase (one two three four five six : Bool) : Type 0 where
   pub one_not : one ≡ false
@@ -30,6 +31,9 @@ record NoCase (one two three four five six : Bool) : Type 0 where
   pub four_not : four ≡ false
   pub five_not : five ≡ false
   pub six_not : six ≡ false
+
+no_case : NoCase false false false false false false
+no_case = record { one_not = refl; two_not = refl; three_not = refl; four_not = refl; five_not = refl; six_not = refl }
 
 pub some_message : (x m : Message) → Some x ≡ Some m → x ≡ m
 some_message x m h = cc
@@ -43,36 +47,65 @@ pub not_nacked : (o : Option Message) (n : Nack) → sequenced o ≡ Nacked n �
 not_nacked None n h = cc
 not_nacked (Some x) n h = cc
 
-sequenced_case : (one two three four five six : Bool) (gap nonexistent below ahead scope : Nack) (last : Option Message) (m : Message) →
-    Sequenced m ≡ Chain one two three four five six (Nacked gap) (Nacked nonexistent) (Nacked below) (Nacked ahead) (Nacked scope) (sequenced last) →
+pub not_absorbed : (o : Option Message) → sequenced o ≡ Absorbed → ⊥
+not_absorbed None h = cc
+not_absorbed (Some x) h = cc
+
+sequenced_case : (one two three four five six seven : Bool) (gap nonexistent below ahead scope : Nack) (last : Option Message) (m : Message) →
+    Sequenced m ≡ Chain one two three four five six seven (Nacked gap) (Nacked nonexistent) (Nacked below) (Nacked ahead) (Nacked scope) (sequenced last) →
     (last ≡ Some m) × NoCase one two three four five six
-sequenced_case true two three four five six gap nonexistent below ahead scope last m h = absurd (cc)
-sequenced_case false true three four five six gap nonexistent below ahead scope last m h = absurd (cc)
-sequenced_case false false true four five six gap nonexistent below ahead scope last m h = absurd (cc)
-sequenced_case false false false true five six gap nonexistent below ahead scope last m h = absurd (cc)
-sequenced_case false false false false true six gap nonexistent below ahead scope last m h = absurd (cc)
-sequenced_case false false false false false true gap nonexistent below ahead scope last m h = absurd (cc)
-sequenced_case false false false false false false gap nonexistent below ahead scope last m h =
-    (sequenced-some last m (sym h), record { one_not = refl; two_not = refl; three_not = refl; four_not = refl; five_not = refl; six_not = refl })
+sequenced_case true two three four five six seven gap nonexistent below ahead scope last m h = absurd (cc)
+sequenced_case false true three four five six seven gap nonexistent below ahead scope last m h = absurd (cc)
+sequenced_case false false true four five six seven gap nonexistent below ahead scope last m h = absurd (cc)
+sequenced_case false false false true five six seven gap nonexistent below ahead scope last m h = absurd (cc)
+sequenced_case false false false false true six seven gap nonexistent below ahead scope last m h = absurd (cc)
+sequenced_case false false false false false true seven gap nonexistent below ahead scope last m h = absurd (cc)
+sequenced_case false false false false false false true gap nonexistent below ahead scope last m h = absurd (cc)
+sequenced_case false false false false false false false gap nonexistent below ahead scope last m h = (sequenced-some last m (sym h), no_case)
+
+absorbed_case : (one two three four five six seven : Bool) (gap nonexistent below ahead scope : Nack) (last : Option Message) →
+    Absorbed ≡ Chain one two three four five six seven (Nacked gap) (Nacked nonexistent) (Nacked below) (Nacked ahead) (Nacked scope) (sequenced last) →
+    NoCase one two three four five six
+absorbed_case true two three four five six seven gap nonexistent below ahead scope last h = absurd (cc)
+absorbed_case false true three four five six seven gap nonexistent below ahead scope last h = absurd (cc)
+absorbed_case false false true four five six seven gap nonexistent below ahead scope last h = absurd (cc)
+absorbed_case false false false true five six seven gap nonexistent below ahead scope last h = absurd (cc)
+absorbed_case false false false false true six seven gap nonexistent below ahead scope last h = absurd (cc)
+absorbed_case false false false false false true seven gap nonexistent below ahead scope last h = absurd (cc)
+absorbed_case false false false false false false seven gap nonexistent below ahead scope last h = no_case
 
 -- a nack: one of the five, and where it is below the minimum, the three cases before don't fit
-nacked_case : (one two three four five six : Bool) (gap nonexistent below ahead scope : Nack) (last : Option Message) (n : Nack) →
-    Nacked n ≡ Chain one two three four five six (Nacked gap) (Nacked nonexistent) (Nacked below) (Nacked ahead) (Nacked scope) (sequenced last) →
+nacked_case : (one two three four five six seven : Bool) (gap nonexistent below ahead scope : Nack) (last : Option Message) (n : Nack) →
+    Nacked n ≡ Chain one two three four five six seven (Nacked gap) (Nacked nonexistent) (Nacked below) (Nacked ahead) (Nacked scope) (sequenced last) →
     (n ≡ gap) ⊎ ((n ≡ nonexistent) ⊎ (((n ≡ below) × (three ≡ false)) ⊎ ((n ≡ ahead) ⊎ (n ≡ scope))))
-nacked_case true two three four five six gap nonexistent below ahead scope last n h = absurd (cc)
-nacked_case false true three four five six gap nonexistent below ahead scope last n h = inl (cc)
-nacked_case false false true four five six gap nonexistent below ahead scope last n h = inr (inl (cc))
-nacked_case false false false true five six gap nonexistent below ahead scope last n h = inr (inr (inl (cc, refl)))
-nacked_case false false false false true six gap nonexistent below ahead scope last n h = inr (inr (inr (inl (cc))))
-nacked_case false false false false false true gap nonexistent below ahead scope last n h = inr (inr (inr (inr (cc))))
-nacked_case false false false false false false gap nonexistent below ahead scope last n h = absurd (not_nacked last n (sym h))
+nacked_case true two three four five six seven gap nonexistent below ahead scope last n h = absurd (cc)
+nacked_case false true three four five six seven gap nonexistent below ahead scope last n h = inl (cc)
+nacked_case false false true four five six seven gap nonexistent below ahead scope last n h = inr (inl (cc))
+nacked_case false false false true five six seven gap nonexistent below ahead scope last n h = inr (inr (inl (cc, refl)))
+nacked_case false false false false true six seven gap nonexistent below ahead scope last n h = inr (inr (inr (inl (cc))))
+nacked_case false false false false false true seven gap nonexistent below ahead scope last n h = inr (inr (inr (inr (cc))))
+nacked_case false false false false false false true gap nonexistent below ahead scope last n h = absurd (cc)
+nacked_case false false false false false false false gap nonexistent below ahead scope last n h = absurd (not_nacked last n (sym h))
 
 -- ---- the verdict on a submission
 
-pub record WasSequenced (ledger : Ledger) (c : List ℕ) (submission : Submission) (moment : ℕ) (m : Message) : Type 0 where
-  pub is_message : message ledger (Submit c submission moment) ≡ Some m
+-- no rule refuses it
+pub record Passes (ledger : Ledger) (c : List ℕ) (submission : Submission) : Type 0 where
+  pub no_duplicate : is_duplicate ledger c submission ≡ false
+  pub no_gap : leaves_gap ledger c submission ≡ false
+  pub in_order : is_nonexistent ledger c ≡ false
   pub not_below : is_below_minimum ledger submission ≡ false
   pub not_ahead : is_ahead ledger submission ≡ false
+
+passes : (ledger : Ledger) (c : List ℕ) (submission : Submission) →
+    NoCase (is_duplicate ledger c submission) (leaves_gap ledger c submission) (is_nonexistent ledger c) (is_below_minimum ledger submission) (is_ahead ledger submission) (lacks_scope ledger c submission) →
+    Passes ledger c submission
+passes ledger c submission none =
+    record { no_duplicate = none.one_not; no_gap = none.two_not; in_order = none.three_not; not_below = none.four_not; not_ahead = none.five_not }
+
+pub record WasSequenced (ledger : Ledger) (c : List ℕ) (submission : Submission) (moment : ℕ) (m : Message) : Type 0 where
+  pub is_message : message ledger (Submit c submission moment) ≡ Some m
+  pub passes : Passes ledger c submission
 
 pub sequenced-was : (ledger : Ledger) (c : List ℕ) (submission : Submission) (moment : ℕ) (m : Message) →
     Sequenced m ≡ submission_verdict ledger c submission moment → WasSequenced ledger c submission moment m
@@ -80,9 +113,18 @@ unfolding submission_verdict nack
 sequenced-was ledger c submission moment m h =
     let found =
     sequenced_case (is_duplicate ledger c submission) (leaves_gap ledger c submission) (is_nonexistent ledger c) (is_below_minimum ledger submission) (is_ahead ledger submission) (lacks_scope ledger c submission)
-    (nack ledger submission Gap) (nack ledger submission Nonexistent) (nack ledger submission Below) (nack ledger submission Ahead) (nack ledger submission Scope)
+    (is_absorbed ledger c submission) (nack ledger submission Gap) (nack ledger submission Nonexistent) (nack ledger submission Below) (nack ledger submission Ahead) (nack ledger submission Scope)
     (message ledger (Submit c submission moment)) m h in
-    record { is_message = found.0; not_below = found.1.four_not; not_ahead = found.1.five_not }
+    record { is_message = found.0; passes = passes ledger c submission found.1 }
+
+pub absorbed-was : (ledger : Ledger) (c : List ℕ) (submission : Submission) (moment : ℕ) →
+    Absorbed ≡ submission_verdict ledger c submission moment → Passes ledger c submission
+unfolding submission_verdict nack
+absorbed-was ledger c submission moment h =
+    passes ledger c submission
+    (absorbed_case (is_duplicate ledger c submission) (leaves_gap ledger c submission) (is_nonexistent ledger c) (is_below_minimum ledger submission) (is_ahead ledger submission) (lacks_scope ledger c submission)
+    (is_absorbed ledger c submission) (nack ledger submission Gap) (nack ledger submission Nonexistent) (nack ledger submission Below) (nack ledger submission Ahead) (nack ledger submission Scope)
+    (message ledger (Submit c submission moment)) h)
 
 joined_message : (b : Bool) (o : Option Message) (m : Message) → (if b then Dropped else sequenced o) ≡ Sequenced m → o ≡ Some m
 joined_message true o m is = absurd (cc)
@@ -142,7 +184,7 @@ unfolding submission_verdict nack
 nacked-was ledger c submission moment n h =
     elim
     (nacked_case (is_duplicate ledger c submission) (leaves_gap ledger c submission) (is_nonexistent ledger c) (is_below_minimum ledger submission) (is_ahead ledger submission) (lacks_scope ledger c submission)
-    (nack ledger submission Gap) (nack ledger submission Nonexistent) (nack ledger submission Below) (nack ledger submission Ahead) (nack ledger submission Scope)
+    (is_absorbed ledger c submission) (nack ledger submission Gap) (nack ledger submission Nonexistent) (nack ledger submission Below) (nack ledger submission Ahead) (nack ledger submission Scope)
     (message ledger (Submit c submission moment)) n h) [
       | inl gap ↦ nacked_of ledger c submission Gap n refl gap
       | inr more ↦ elim more [
@@ -175,5 +217,28 @@ pub reference-within : (ledger : Ledger) (c : List ℕ) (submission : Submission
     WasSequenced ledger c submission moment m → (minimum ledger ≤ count_of m.reference) × (count_of m.reference ≤ seq ledger + 1)
 unfolding message unsettled
 reference-within ledger c submission moment m h was =
-    let within = referenced submission.reference (minimum ledger) (seq ledger) (seq ledger + 1) h refl was.not_below was.not_ahead in
+    let within = referenced submission.reference (minimum ledger) (seq ledger) (seq ledger + 1) h refl was.passes.not_below was.passes.not_ahead in
     rw (sym (some_message _ m was.is_message)) within
+
+-- where -1 is read as the last sequence number, it is at most that
+read_within : (reference : ℤ) (least sequence : ℕ) → least ≤ sequence →
+    (not (leaves_reference reference) && int_lt reference (pos least)) ≡ false → int_lt (pos sequence) reference ≡ false →
+    (least ≤ read_as sequence reference) × (read_as sequence reference ≤ sequence)
+read_within (pos n) least sequence h below ahead = (ltb-false n least below, ltb-false sequence n ahead)
+read_within (negsuc zero) least sequence h below ahead = (h, omega arith)
+read_within (negsuc (suc n)) least sequence h below ahead = absurd (cc)
+
+pub read-within : (ledger : Ledger) (c : List ℕ) (submission : Submission) → minimum ledger ≤ seq ledger → Passes ledger c submission →
+    (minimum ledger ≤ read_as (seq ledger) submission.reference) × (read_as (seq ledger) submission.reference ≤ seq ledger)
+read-within ledger c submission h was = read_within submission.reference (minimum ledger) (seq ledger) h was.not_below was.not_ahead
+
+-- the message has the reference that the submission has, with -1 read as its own number
+referring : (number : ℕ) (reference : ℤ) → count_of (if leaves_reference reference then pos number else reference) ≡ read_as number reference
+referring number (pos n) = refl
+referring number (negsuc zero) = refl
+referring number (negsuc (suc n)) = refl
+
+pub message-reference : (ledger : Ledger) (c : List ℕ) (submission : Submission) (moment : ℕ) (m : Message) → message ledger (Submit c submission moment) ≡ Some m →
+    count_of m.reference ≡ read_as m.number submission.reference
+unfolding message unsettled
+message-reference ledger c submission moment m is = rw (sym (some_message _ m is)) (referring (seq ledger + 1) submission.reference)

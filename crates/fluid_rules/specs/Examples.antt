@@ -1,27 +1,30 @@
 -- Worked examples: the numbers and minima of small ledgers.
 use Rattle.std.specs.Prelude.{◌≡◌, ℕ, ℤ, pos, negsuc, true, false, List, [], ◌∷◌, ◌++◌, map, None, Some, codes}
-use Rattle.fluid_json.specs.Tree.{null}
+use Rattle.fluid_json.specs.Tree.{Tree, null, text}
 use Rattle.fluid_types.specs.declared.entries.Raw.{Raw}
 use Rattle.fluid_types.specs.declared.entries.Raw.TheVariants.{Join, Leave, Submit}
 use Rattle.fluid_types.specs.declared.entries.Scopes.{Scopes}
-use Rattle.fluid_types.specs.declared.entries.Offered.TheVariants.{Op, Summarize}
+use Rattle.fluid_types.specs.declared.entries.Submission.{Submission}
+use Rattle.fluid_types.specs.declared.entries.Offered.TheVariants.{Op, Noop, Summarize}
 use Rattle.fluid_types.specs.declared.verdicts.Verdict.{Verdict}
-use Rattle.fluid_types.specs.declared.verdicts.Verdict.TheVariants.{Sequenced, Nacked, Dropped}
+use Rattle.fluid_types.specs.declared.verdicts.Verdict.TheVariants.{Sequenced, Nacked, Dropped, Absorbed}
 use Rattle.fluid_types.specs.declared.nacks.NackRule.{NackRule}
 use Rattle.fluid_types.specs.declared.nacks.NackRule.TheVariants.{Gap, Nonexistent, Below, Ahead, Scope}
 use Rattle.fluid_types.specs.declared.messages.Kind.TheVariants as kind
-use Rattle.fluid_rules.specs.Rules.{message, ledger}
+use Rattle.fluid_rules.specs.Rules.{message, ledger, reference, minimum, last_minimum, lifted, heard}
 
 -- what a verdict shows: the number and the minimum of a message, or the rule and the minimum of a nack
 pub data Shown : Type 0 where
   at : ℕ → ℕ → Shown
   nacked : NackRule → ℤ → Shown
   dropped : Shown
+  absorbed : Shown
 
 abbrev pub shown : Verdict → Shown
 shown (Sequenced message) = at message.number message.minimum
 shown (Nacked nack) = nacked nack.rule nack.minimum
 shown Dropped = dropped
+shown Absorbed = absorbed
 
 abbrev pub verdicts : List Raw → List Shown
 verdicts raws = map (λ entry. shown entry.1) (ledger raws)
@@ -113,3 +116,53 @@ abbrev pub WithoutScope : Type 0
 WithoutScope =
     verdicts (join (codes "A") ∷ summarize (codes "A") 1 (pos 1) ∷ op (codes "A") 1 (pos 1) ∷ [])
     ≡ (at 1 0 ∷ nacked Scope (pos 0) ∷ at 2 1 ∷ [])
+
+-- ---- noops
+
+abbrev pub noop_with : Tree → ℕ → ℤ → Submission
+noop_with contents number reference = record { client_number = number; reference = reference; kind = Noop; contents = contents; metadata = None }
+
+-- a noop with null contents asks for no number; one with others does
+abbrev pub quiet : List ℕ → ℕ → ℤ → Raw
+quiet id number reference = Submit id (noop_with null number reference) 9
+
+abbrev pub loud : List ℕ → ℕ → ℤ → Raw
+loud id number reference = Submit id (noop_with (text (codes "x")) number reference) 10
+
+-- A's first noop is absorbed; B's lifts the minimum to 2 and is sequenced; its next lifts nothing
+abbrev pub two_noops : List Raw
+two_noops =
+    join (codes "A") ∷ join (codes "B") ∷ quiet (codes "A") 1 (pos 2) ∷ loud (codes "B") 1 (pos 2) ∷ loud (codes "B") 2 (pos 3) ∷ []
+
+-- a repeat of an absorbed one is dropped, one that leaves its reference to the service is absorbed, and an op of the next number is
+-- sequenced with the minimum 3
+abbrev pub noops : List Raw
+noops = two_noops ++ (quiet (codes "A") 1 (pos 2) ∷ quiet (codes "A") 2 (negsuc 0) ∷ op (codes "A") 3 (pos 3) ∷ [])
+
+abbrev pub Noops : Type 0
+Noops = verdicts noops ≡ (at 1 0 ∷ at 2 0 ∷ absorbed ∷ at 3 2 ∷ absorbed ∷ dropped ∷ absorbed ∷ at 4 3 ∷ [])
+
+-- the first two joins and A's noop: A is known to have seen 2 and B nothing, and B's noop would lift the minimum from 0 to 2
+pub record WhatIsLifted : Type 0 where
+  pub of_a : reference (ledger (join (codes "A") ∷ join (codes "B") ∷ quiet (codes "A") 1 (pos 2) ∷ [])) (codes "A") ≡ 2
+  pub by_b : lifted (ledger (join (codes "A") ∷ join (codes "B") ∷ quiet (codes "A") 1 (pos 2) ∷ [])) (codes "B") (noop_with null 1 (pos 2)) ≡ 2
+  -- its own old reference has no part in it, and that of the other has
+  pub by_a : lifted (ledger two_noops) (codes "A") (noop_with null 2 (negsuc 0)) ≡ 3
+  pub by_a_alone : lifted (ledger (join (codes "A") ∷ [])) (codes "A") (noop_with null 1 (negsuc 0)) ≡ 1
+  pub held_back : lifted (ledger (join (codes "A") ∷ join (codes "B") ∷ [])) (codes "A") (noop_with null 1 (pos 2)) ≡ 0
+
+-- an absorbed noop may lift the minimum above that of the last message
+pub record WhatTheLastSays : Type 0 where
+  pub at_first : last_minimum [] ≡ 0
+  pub of_message : last_minimum (ledger two_noops) ≡ 2
+  pub behind_it : minimum (ledger (two_noops ++ quiet (codes "A") 2 (negsuc 0) ∷ [])) ≡ 3
+  pub still : last_minimum (ledger (two_noops ++ quiet (codes "A") 2 (negsuc 0) ∷ [])) ≡ 2
+
+-- a join, a dropped join, a refused op, an absorbed noop and a dropped repeat move the moment of their client, and of no other
+pub record WhenHeard : Type 0 where
+  pub by_join : heard (ledger (join (codes "A") ∷ [])) (codes "A") ≡ 5
+  pub again : heard (ledger (join (codes "A") ∷ Join (codes "A") read_write null 6 ∷ [])) (codes "A") ≡ 6
+  pub by_refused : heard (ledger (join (codes "A") ∷ op (codes "A") 3 (pos 1) ∷ [])) (codes "A") ≡ 7
+  pub by_absorbed : heard (ledger (join (codes "A") ∷ quiet (codes "A") 1 (pos 1) ∷ [])) (codes "A") ≡ 9
+  pub repeated : heard (ledger (join (codes "A") ∷ quiet (codes "A") 1 (pos 1) ∷ op (codes "A") 1 (pos 1) ∷ [])) (codes "A") ≡ 7
+  pub another : heard (ledger (join (codes "A") ∷ Join (codes "B") read_write null 6 ∷ [])) (codes "A") ≡ 5

@@ -1,13 +1,15 @@
 -- The laws of the sequencing rules, each about every ledger.
-use Rattle.std.specs.Prelude.{◌≡◌, ◌+◌, ◌≤◌, ◌↔◌, ℕ, if◌then◌else◌, List, [], ◌∷◌, ◌++◌, Some, length}
+use Rattle.std.specs.Prelude.{◌≡◌, ◌+◌, ◌≤◌, ◌↔◌, ℕ, true, if◌then◌else◌, List, [], ◌∷◌, ◌++◌, Some, unwrap_or, length}
 use Rattle.fluid_types.specs.declared.entries.Raw.{Raw}
+use Rattle.fluid_types.specs.declared.entries.Raw.TheVariants.{Submit}
+use Rattle.fluid_types.specs.declared.entries.Submission.{Submission}
 use Rattle.fluid_types.specs.declared.messages.Message.{Message}
 use Rattle.fluid_types.specs.declared.nacks.Nack.{Nack}
-use Rattle.fluid_types.specs.declared.verdicts.Verdict.TheVariants.{Sequenced, Nacked}
+use Rattle.fluid_types.specs.declared.verdicts.Verdict.TheVariants.{Sequenced, Nacked, Absorbed}
 use Rattle.fluid_types.specs.Ledger.{Ledger, messages_of, order, raws, seq}
-use Rattle.fluid_rules.specs.Past.{Entry, Client, IsLeast, client_behind, has_id, AreInOrder}
+use Rattle.fluid_rules.specs.Past.{Entry, Client, IsLeast, client_behind, has_id, AreInOrder, read_as, speaking}
 use Rattle.fluid_rules.specs.Counted.{is_counted, counted}
-use Rattle.fluid_rules.specs.Rules.{is_joined, client, refusals, joined, minimum, message, verdict, IsLegal, IsLegalBehind, ledger}
+use Rattle.fluid_rules.specs.Rules.{is_joined, last_number, reference, heard, client, refusals, joined, minimum, last_minimum, last_minimum_behind, lifted, message, verdict, IsLegal, IsLegalBehind, ledger_behind, entries_behind, ledger}
 
 -- the minimum is the least reference of a joined client, and the last sequence number where nobody is joined
 abbrev pub MinimumIsLeast : Type 0
@@ -29,6 +31,40 @@ pub record LeavesOrder (before after : Ledger) : Type 0 where
 -- a nack changes neither the minimum nor the last sequence number
 abbrev pub NackLeavesOrder : Type 0
 NackLeavesOrder = (l : Ledger) (raw : Raw) (nack : Nack) → IsLegal (l ++ (raw, Nacked nack) ∷ []) → LeavesOrder l (l ++ (raw, Nacked nack) ∷ [])
+
+-- what an absorbed entry leaves as it is: each message and the last sequence number
+pub record KeepsOrder (before after : Ledger) : Type 0 where
+  pub same_order : order after ≡ order before
+  pub same_seq : seq after ≡ seq before
+  pub same_last_minimum : last_minimum after ≡ last_minimum before
+
+abbrev pub AbsorbedKeepsOrder : Type 0
+AbsorbedKeepsOrder = (l : Ledger) (raw : Raw) → KeepsOrder l (l ++ (raw, Absorbed) ∷ [])
+
+-- behind an absorbed noop the minimum is what it lifts it to
+abbrev pub AbsorbedLifts : Type 0
+AbsorbedLifts =
+    (l : Ledger) (c : List ℕ) (submission : Submission) (moment : ℕ) → verdict l (Submit c submission moment) ≡ Absorbed
+    → minimum (l ++ (Submit c submission moment, Absorbed) ∷ []) ≡ lifted l c submission
+
+-- a submission is taken: its client is joined, its number is the next one and is the last one from then on, and so is this reference
+pub record IsTaken (l after : Ledger) (c : List ℕ) (submission : Submission) (taken : ℕ) : Type 0 where
+  pub joined : is_joined l c ≡ true
+  pub next : submission.client_number ≡ last_number l c + 1
+  pub counted : last_number after c ≡ submission.client_number
+  pub reference_is : reference after c ≡ taken
+
+-- a reference of -1 is that of the message's own number where the submission is sequenced
+abbrev pub SequencedIsTaken : Type 0
+SequencedIsTaken =
+    (l : Ledger) (c : List ℕ) (submission : Submission) (moment : ℕ) (m : Message) → verdict l (Submit c submission moment) ≡ Sequenced m
+    → IsTaken l (l ++ (Submit c submission moment, Sequenced m) ∷ []) c submission (read_as m.number submission.reference)
+
+-- and the last sequence number where it is absorbed
+abbrev pub AbsorbedIsTaken : Type 0
+AbsorbedIsTaken =
+    (l : Ledger) (c : List ℕ) (submission : Submission) (moment : ℕ) → verdict l (Submit c submission moment) ≡ Absorbed
+    → IsTaken l (l ++ (Submit c submission moment, Absorbed) ∷ []) c submission (read_as (seq l) submission.reference)
 
 -- in a legal ledger a client is refused as below the minimum at most once since it joined
 abbrev pub RefusedOnce : Type 0
@@ -70,9 +106,17 @@ pub record Grows (l : Ledger) (entry : Entry) : Type 0 where
 abbrev pub ListsGrow : Type 0
 ListsGrow = (l : Ledger) (entry : Entry) → Grows l entry
 
--- in what it says of a client: `client_behind` is what follows from what it said before and the minimum
+-- in what it says of a client: `client_behind` is what follows from what it said before, the last sequence number and the minimum
 abbrev pub ClientGrows : Type 0
-ClientGrows = (l : Ledger) (entry : Entry) (c : List ℕ) → client (l ++ entry ∷ []) c ≡ client_behind entry (minimum l) c (client l c)
+ClientGrows = (l : Ledger) (entry : Entry) (c : List ℕ) → client (l ++ entry ∷ []) c ≡ client_behind entry (seq l) (minimum l) c (client l c)
+
+-- in when a client was heard of: an entry of its own moves that, whatever its verdict, and no other entry does
+abbrev pub HeardGrows : Type 0
+HeardGrows = (l : Ledger) (entry : Entry) (c : List ℕ) → heard (l ++ entry ∷ []) c ≡ unwrap_or (speaking c entry.0) (heard l c)
+
+-- in the minimum of the last message
+abbrev pub LastMinimumGrows : Type 0
+LastMinimumGrows = (l : Ledger) (entry : Entry) → last_minimum (l ++ entry ∷ []) ≡ last_minimum_behind (last_minimum l) entry.1
 
 -- it is legal exactly where it was and the entry has the verdict over it
 abbrev pub LegalGrows : Type 0
@@ -87,6 +131,14 @@ CountedGrows = (l : Ledger) (entry : Entry) → counted (l ++ entry ∷ []) ≡ 
 -- a ledger of two parts is legal exactly where the first is legal and the second is legal behind it
 abbrev pub LegalInParts : Type 0
 LegalInParts = (first second : Ledger) → IsLegal (first ++ second) ↔ (IsLegal first × IsLegalBehind first second)
+
+-- raw entries behind a ledger, and those of two lists behind it
+pub record AreBehind (before : Ledger) (first second : List Raw) : Type 0 where
+  pub ledger_is : ledger_behind before first ≡ before ++ entries_behind before first
+  pub onwards : entries_behind before (first ++ second) ≡ entries_behind before first ++ entries_behind (ledger_behind before first) second
+
+abbrev pub EntriesBehind : Type 0
+EntriesBehind = (before : Ledger) (first second : List Raw) → AreBehind before first second
 
 -- a verdict that is a message is the message of its entry
 abbrev pub VerdictIsMessage : Type 0

@@ -1,6 +1,6 @@
 -- What a ledger says of its clients. All of it is read backwards: a past is a ledger from its last entry
 -- back to its first.
-use Rattle.std.specs.Prelude.{◌≡◌, ◌≤◌, ◌⊎◌, ℕ, ℤ, pos, negsuc, Bool, true, false, ◌&&◌, ◌||◌, if◌then◌else◌, List, [], ◌∷◌, map, filter, min, Option, Some, None, is_some, unwrap_or, option_map, option_and_then, bytes_eq, filter_map, length}
+use Rattle.std.specs.Prelude.{◌≡◌, ◌≤◌, ◌⊎◌, ℕ, zero, suc, ℤ, pos, negsuc, Bool, true, false, ◌&&◌, ◌||◌, if◌then◌else◌, List, [], ◌∷◌, map, filter, min, Option, Some, None, is_some, unwrap_or, option_map, option_and_then, bytes_eq, filter_map, length}
 use Rattle.std.specs.List.{list_any, reduce}
 use Rattle.std.specs.Ordering.{nat_cmp}
 use Rattle.std.specs.Cmp.Lexicographic.{slice_cmp}
@@ -13,7 +13,7 @@ use Rattle.fluid_types.specs.declared.entries.Submission.{Submission}
 use Rattle.fluid_types.specs.declared.nacks.NackRule.{NackRule}
 use Rattle.fluid_types.specs.declared.nacks.NackRule.TheVariants.{Gap, Nonexistent, Below, Ahead, Scope, Unread, NotConnected, ForeignClient, ReadOnly, Full}
 use Rattle.fluid_types.specs.declared.verdicts.Verdict.{Verdict}
-use Rattle.fluid_types.specs.declared.verdicts.Verdict.TheVariants.{Sequenced, Nacked, Dropped}
+use Rattle.fluid_types.specs.declared.verdicts.Verdict.TheVariants.{Sequenced, Nacked, Dropped, Absorbed}
 use Rattle.fluid_types.specs.Ledger.{seq}
 
 -- one entry of a ledger: what was handed in, and its verdict
@@ -30,6 +30,7 @@ abbrev pub is_sequenced : Verdict → Bool
 is_sequenced (Sequenced message) = true
 is_sequenced (Nacked nack) = false
 is_sequenced Dropped = false
+is_sequenced Absorbed = false
 
 -- the rule that refuses a reference below the minimum
 abbrev pub is_below : NackRule → Bool
@@ -48,6 +49,16 @@ is_below Full = false
 abbrev pub count_of : ℤ → ℕ
 count_of (pos n) = n
 count_of (negsuc n) = 0
+
+-- -1: the client leaves its reference to the service
+abbrev pub leaves_reference : ℤ → Bool
+leaves_reference (pos n) = false
+leaves_reference (negsuc zero) = true
+leaves_reference (negsuc (suc n)) = false
+
+-- a reference as a count, with -1 read as this number
+abbrev pub read_as : ℕ → ℤ → ℕ
+read_as number reference = if leaves_reference reference then number else count_of reference
 
 -- the scopes of a join of this client
 abbrev pub joining : List ℕ → Raw → Option Scopes
@@ -70,6 +81,13 @@ submitting c (Leave id moment) = None
 submitting c (Submit id submission moment) = if bytes_eq id c then Some submission else None
 submitting c (Report summary found moment) = None
 
+-- the moment of an entry of this client: a join, a leave or a submission of it
+abbrev pub speaking : List ℕ → Raw → Option ℕ
+speaking c (Join id scopes detail moment) = if bytes_eq id c then Some moment else None
+speaking c (Leave id moment) = if bytes_eq id c then Some moment else None
+speaking c (Submit id submission moment) = if bytes_eq id c then Some moment else None
+speaking c (Report summary found moment) = None
+
 -- a sequenced join of this client, with its scopes
 abbrev pub joins : List ℕ → Entry → Option Scopes
 joins c entry = if is_sequenced entry.1 then joining c entry.0 else None
@@ -78,31 +96,35 @@ joins c entry = if is_sequenced entry.1 then joining c entry.0 else None
 abbrev pub settles : List ℕ → Entry → Bool
 settles c entry = is_sequenced entry.1 && (is_some (joining c entry.0) || is_leave c entry.0)
 
--- the verdict is a message: its reference
-abbrev pub taken_at : Verdict → Option ℕ
-taken_at (Sequenced message) = Some (count_of message.reference)
-taken_at (Nacked nack) = None
-taken_at Dropped = None
+-- the reference that a submission brings: where it was sequenced, that in its message; where it was absorbed, its own, with -1 read
+-- as the last sequence number before it
+abbrev pub taken_at : ℕ → Submission → Verdict → Option ℕ
+taken_at sequence submission (Sequenced message) = Some (count_of message.reference)
+taken_at sequence submission (Nacked nack) = None
+taken_at sequence submission Dropped = None
+taken_at sequence submission Absorbed = Some (read_as sequence submission.reference)
 
 -- the verdict is a nack for a reference below the minimum: the minimum that it names
 abbrev pub refused_at : Verdict → Option ℕ
 refused_at (Sequenced message) = None
 refused_at (Nacked nack) = if is_below nack.rule then Some (count_of nack.minimum) else None
 refused_at Dropped = None
+refused_at Absorbed = None
 
--- a verdict that uses up the client number of a submission: sequenced, or refused as below the minimum
+-- a verdict that uses up the client number of a submission: sequenced, absorbed, or refused as below the minimum
 abbrev pub counts : Verdict → Bool
 counts (Sequenced message) = true
 counts (Nacked nack) = is_below nack.rule
 counts Dropped = false
+counts Absorbed = true
 
--- of a submission of this client: its client number where it was sequenced or refused as below the minimum,
--- its reference where it was sequenced, and the minimum where it was refused as below it
+-- of a submission of this client: its client number where it was sequenced, absorbed or refused as below the minimum,
+-- the reference that it brings where it was sequenced or absorbed, and the minimum where it was refused as below it
 abbrev pub counted : List ℕ → Entry → Option ℕ
 counted c entry = option_and_then (λ submission. if counts entry.1 then Some submission.client_number else None) (submitting c entry.0)
 
-abbrev pub taken : List ℕ → Entry → Option ℕ
-taken c entry = if is_some (submitting c entry.0) then taken_at entry.1 else None
+abbrev pub taken : ℕ → List ℕ → Entry → Option ℕ
+taken sequence c entry = option_and_then (λ submission. taken_at sequence submission entry.1) (submitting c entry.0)
 
 abbrev pub refused : List ℕ → Entry → Option ℕ
 refused c entry = if is_some (submitting c entry.0) then refused_at entry.1 else None
@@ -139,10 +161,20 @@ is_nacked past c = is_some (latest (refused c) (tail past c))
 unfoldable pub refusals : Past → List ℕ → ℕ
 refusals past c = length (filter_map (refused c) (tail past c))
 
+-- the reference of its latest submission that was sequenced or absorbed
+unfoldable pub latest_taken : Past → List ℕ → Option ℕ
+latest_taken [] c = None
+latest_taken (entry ∷ past) c =
+    if settles c entry then None else (if is_some (taken (seq past) c entry) then taken (seq past) c entry else latest_taken past c)
+
 -- the reference of a client that entered at this one: the minimum of its latest refusal as below it, or else the
--- reference of its latest sequenced submission, or else the one at which it entered
+-- reference of its latest submission that was sequenced or absorbed, or else the one at which it entered
 unfoldable pub reference_from : ℕ → Past → List ℕ → ℕ
-reference_from entering past c = unwrap_or (latest (refused c) (tail past c)) (unwrap_or (latest (taken c) (tail past c)) entering)
+reference_from entering past c = unwrap_or (latest (refused c) (tail past c)) (unwrap_or (latest_taken past c) entering)
+
+-- the moment of a client's latest entry, whatever its verdict; that of a joined client is its join or one behind it
+unfoldable pub heard : Past → List ℕ → ℕ
+heard past c = unwrap_or (latest (λ entry. speaking c entry.0) past) 0
 
 -- the id is one of these
 abbrev pub has_id : List ℕ → List (List ℕ) → Bool
@@ -207,17 +239,26 @@ unfoldable pub reference : Past → List ℕ → ℕ
 reference past c = reference_from (entered_at past c) past c
 
 -- what a past says of a joined client: its last client number, its reference, whether it was refused as below the
--- minimum, and its scopes
+-- minimum, its scopes, and the moment at which it was last heard of
 pub record Client : Type 0 where
   pub last : ℕ
   pub reference : ℕ
   pub nacked : Bool
   pub scopes : Scopes
+  pub heard : ℕ
 
 -- nothing is said of a client that isn't joined
 unfoldable pub client : Past → List ℕ → Option Client
 client past c =
-    option_map (λ scopes. record { last = last_number past c; reference = reference past c; nacked = is_nacked past c; scopes = scopes }) (membership past c)
+    option_map
+    (λ scopes. record {
+      last = last_number past c;
+      reference = reference past c;
+      nacked = is_nacked past c;
+      scopes = scopes;
+      heard = heard past c;
+    })
+    (membership past c)
 
 -- a number is the least reference among the clients of whom something is said, and the last sequence number
 -- where nothing is said of anybody
@@ -229,24 +270,37 @@ pub record IsLeast (said : List ℕ → Option Client) (sequence least : ℕ) : 
 
 -- ---- one entry more
 
--- a submission of a joined client: one that was sequenced counts, and brings its reference unless the client was
--- refused as below the minimum; one that is so refused counts, and holds the client at the minimum
-abbrev pub client_submitting : Submission → Verdict → Client → Client
-client_submitting submission (Sequenced message) client =
-    record client { last = submission.client_number; reference = if client.nacked then client.reference else count_of message.reference }
-client_submitting submission (Nacked nack) client =
+-- a client that takes a number brings this reference with it, unless it was refused as below the minimum
+abbrev pub client_taking : ℕ → ℕ → Client → Client
+client_taking number reference client = record client { last = number; reference = if client.nacked then client.reference else reference }
+
+-- a submission of a joined client behind this last sequence number: one that was sequenced or absorbed counts, and brings its
+-- reference; one that is refused as below the minimum counts, and holds the client there
+abbrev pub client_submitting : ℕ → Submission → Verdict → Client → Client
+client_submitting sequence submission (Sequenced message) client = client_taking submission.client_number (count_of message.reference) client
+client_submitting sequence submission (Nacked nack) client =
     if is_below nack.rule
     then record client { last = submission.client_number; reference = count_of nack.minimum; nacked = true }
     else client
-client_submitting submission Dropped client = client
+client_submitting sequence submission Dropped client = client
+client_submitting sequence submission Absorbed client = client_taking submission.client_number (read_as sequence submission.reference) client
 
--- what is said of a client behind an entry, from the minimum and what was said of it before
-abbrev pub client_behind : Entry → ℕ → List ℕ → Option Client → Option Client
-client_behind (Join id scopes detail moment, verdict) minimum c client =
-    if is_sequenced verdict && bytes_eq id c
-    then Some (record { last = 0; reference = minimum; nacked = false; scopes = scopes })
+-- a client that was heard of at a moment
+abbrev pub client_heard : ℕ → Client → Client
+client_heard moment client = record client { heard = moment }
+
+-- what is said of a client behind an entry, from the last sequence number, the minimum and what was said of it before: its own
+-- entry is heard, whatever its verdict
+abbrev pub client_behind : Entry → ℕ → ℕ → List ℕ → Option Client → Option Client
+client_behind (Join id scopes detail moment, verdict) sequence minimum c client =
+    if bytes_eq id c
+    then
+    (if is_sequenced verdict
+    then Some (record { last = 0; reference = minimum; nacked = false; scopes = scopes; heard = moment })
+    else option_map (client_heard moment) client)
     else client
-client_behind (Leave id moment, verdict) minimum c client = if is_sequenced verdict && bytes_eq id c then None else client
-client_behind (Submit id submission moment, verdict) minimum c client =
-    if bytes_eq id c then option_map (client_submitting submission verdict) client else client
-client_behind (Report summary found moment, verdict) minimum c client = client
+client_behind (Leave id moment, verdict) sequence minimum c client =
+    if bytes_eq id c then (if is_sequenced verdict then None else option_map (client_heard moment) client) else client
+client_behind (Submit id submission moment, verdict) sequence minimum c client =
+    if bytes_eq id c then option_map (λ client. client_heard moment (client_submitting sequence submission verdict client)) client else client
+client_behind (Report summary found moment, verdict) sequence minimum c client = client

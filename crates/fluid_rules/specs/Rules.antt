@@ -1,6 +1,7 @@
 -- The sequencing rules. A ledger stands oldest first; each rule reads it from its end, as a past.
-use Rattle.std.specs.Prelude.{◌≡◌, ℕ, zero, suc, ◌+◌, ℤ, pos, negsuc, nat_lt, nat_le, int_lt, Bool, true, false, not, ◌&&◌, ◌||◌, if◌then◌else◌, List, [], ◌∷◌, ◌++◌, reverse, Option, Some, None, unwrap_or, option_map}
-use Rattle.fluid_json.specs.Tree.{Tree, null, text, object, members}
+use Rattle.std.specs.Prelude.{◌≡◌, ℕ, zero, suc, ◌+◌, ℤ, pos, negsuc, nat_lt, nat_le, int_lt, Bool, true, false, not, ◌&&◌, ◌||◌, if◌then◌else◌, List, [], ◌∷◌, ◌++◌, reverse, map, filter, min, fold, Option, Some, None, unwrap_or, option_map, bytes_eq}
+use Rattle.std.specs.List.{last_or}
+use Rattle.fluid_json.specs.Tree.{Tree, is_null, null, text, object, members}
 use Rattle.fluid_json.specs.Printed.{printed}
 use Rattle.fluid_types.specs.declared.entries.Raw.{Raw}
 use Rattle.fluid_types.specs.declared.entries.Raw.TheVariants.{Join, Leave, Submit, Report}
@@ -15,11 +16,12 @@ use Rattle.fluid_types.specs.declared.nacks.NackRule.{NackRule}
 use Rattle.fluid_types.specs.declared.nacks.NackRule.TheVariants.{Gap, Nonexistent, Below, Ahead, Scope}
 use Rattle.fluid_types.specs.declared.nacks.Nack.{Nack}
 use Rattle.fluid_types.specs.declared.verdicts.Verdict.{Verdict}
-use Rattle.fluid_types.specs.declared.verdicts.Verdict.TheVariants.{Sequenced, Nacked, Dropped}
+use Rattle.fluid_types.specs.declared.verdicts.Verdict.TheVariants.{Sequenced, Nacked, Dropped, Absorbed}
 use Rattle.fluid_types.specs.declared.fault.Field.TheVariants as field
 use Rattle.fluid_types.specs.Printed.{row}
 use Rattle.fluid_types.specs.Ledger.{Ledger, order, seq, raws}
 use Rattle.fluid_rules.specs.Past as past
+pub use Rattle.fluid_rules.specs.Past.{leaves_reference, read_as}
 pub use Rattle.fluid_rules.specs.Cases.{first_case}
 use Rattle.fluid_rules.specs.Scribe.{answer, reported}
 use Rattle.fluid_rules.specs.declared.answers.Answer.{Answer}
@@ -34,7 +36,7 @@ past_of ledger = reverse ledger
 unfoldable pub is_joined : Ledger → List ℕ → Bool
 is_joined ledger c = past.is_joined (past_of ledger) c
 
--- the client number of its latest submission since it joined that was sequenced, or refused as below the
+-- the client number of its latest submission since it joined that was sequenced, absorbed, or refused as below the
 -- minimum; 0 where there is none
 unfoldable pub last_number : Ledger → List ℕ → ℕ
 last_number ledger c = past.last_number (past_of ledger) c
@@ -43,14 +45,19 @@ last_number ledger c = past.last_number (past_of ledger) c
 unfoldable pub is_nacked : Ledger → List ℕ → Bool
 is_nacked ledger c = past.is_nacked (past_of ledger) c
 
--- since it joined: the minimum that its latest refusal as below the minimum names, or else the reference in
--- the message of its latest sequenced submission, or else the minimum of the entries before its join
+-- since it joined: the minimum that its latest refusal as below the minimum names, or else the reference of its latest
+-- submission that was sequenced or absorbed, or else the minimum of the entries before its join. The reference of one that was
+-- sequenced is that in its message; of one that was absorbed its own, with -1 read as the last sequence number before it
 unfoldable pub reference : Ledger → List ℕ → ℕ
 reference ledger c = past.reference (past_of ledger) c
 
 -- the scopes of the join by which it is in; none are held where it isn't joined
 unfoldable pub scopes : Ledger → List ℕ → Scopes
 scopes ledger c = unwrap_or (past.membership (past_of ledger) c) (record { read = false; write = false; summary = false })
+
+-- the moment of the latest entry of a joined client from its join on, whatever its verdict; 0 of one that never spoke
+unfoldable pub heard : Ledger → List ℕ → ℕ
+heard ledger c = past.heard (past_of ledger) c
 
 -- all of it together, of a joined client; nothing of another
 unfoldable pub client : Ledger → List ℕ → Option past.Client
@@ -70,6 +77,22 @@ joined ledger = past.joined (past_of ledger)
 unfoldable pub minimum : Ledger → ℕ
 minimum ledger = past.minimum (past_of ledger)
 
+-- the minimum in the last message of the order, and 0 where there is none
+unfoldable pub last_minimum : Ledger → ℕ
+last_minimum ledger = unwrap_or (option_map (λ m. m.minimum) (last_or None (order ledger))) 0
+
+-- behind an entry it is that of the entry's message, where it has one
+abbrev pub last_minimum_behind : ℕ → Verdict → ℕ
+last_minimum_behind before (Sequenced m) = m.minimum
+last_minimum_behind before (Nacked nack) = before
+last_minimum_behind before Dropped = before
+last_minimum_behind before Absorbed = before
+
+-- what the least reference would be, were the client's that of this submission, with -1 read as the last sequence number
+unfoldable pub lifted : Ledger → List ℕ → Submission → ℕ
+lifted ledger c submission =
+    fold min (read_as (seq ledger) submission.reference) (map (reference ledger) (filter (λ d. not (bytes_eq d c)) (joined ledger)))
+
 -- ---- the message of a sequenced entry
 
 -- the kind of a message of this submission
@@ -79,12 +102,6 @@ kind_of offered.Noop = kind.Noop
 kind_of offered.Propose = kind.Propose
 kind_of offered.Reject = kind.Reject
 kind_of offered.Summarize = kind.Summarize
-
--- -1: the client leaves its reference to the service
-abbrev pub leaves_reference : ℤ → Bool
-leaves_reference (pos n) = false
-leaves_reference (negsuc zero) = true
-leaves_reference (negsuc (suc n)) = false
 
 -- what a join says to the clients
 abbrev pub join_data : List ℕ → Tree → Tree
@@ -156,6 +173,13 @@ is_summarize offered.Propose = false
 is_summarize offered.Reject = false
 is_summarize offered.Summarize = true
 
+abbrev pub is_noop : Offered → Bool
+is_noop offered.Op = false
+is_noop offered.Noop = true
+is_noop offered.Propose = false
+is_noop offered.Reject = false
+is_noop offered.Summarize = false
+
 -- a nack carries the submission and the minimum
 unfoldable pub nack : Ledger → Submission → NackRule → Nack
 nack ledger submission rule = record { rule = rule; operation = Some submission; minimum = pos (minimum ledger) }
@@ -184,6 +208,11 @@ is_ahead ledger submission = int_lt (pos (seq ledger)) submission.reference
 abbrev pub lacks_scope : Ledger → List ℕ → Submission → Bool
 lacks_scope ledger c submission = is_summarize submission.kind && not (scopes ledger c).summary
 
+-- it is a noop that asks for no number, or that lifts the minimum to no more than the last message says
+abbrev pub is_absorbed : Ledger → List ℕ → Submission → Bool
+is_absorbed ledger c submission =
+    is_noop submission.kind && (is_null submission.contents || nat_le (lifted ledger c submission) (last_minimum ledger))
+
 -- the verdict on a submission is that of the first case that fits; where none does, it is sequenced
 unfoldable pub submission_verdict : Ledger → List ℕ → Submission → ℕ → Verdict
 submission_verdict ledger c submission moment =
@@ -194,6 +223,7 @@ submission_verdict ledger c submission moment =
     ∷ (is_below_minimum ledger submission, Nacked (nack ledger submission Below))
     ∷ (is_ahead ledger submission, Nacked (nack ledger submission Ahead))
     ∷ (lacks_scope ledger c submission, Nacked (nack ledger submission Scope))
+    ∷ (is_absorbed ledger c submission, Absorbed)
     ∷ [])
     (sequenced (message ledger (Submit c submission moment)))
 
@@ -221,6 +251,11 @@ IsLegal ledger = IsLegalBehind [] ledger
 abbrev pub ledger_behind : Ledger → List Raw → Ledger
 ledger_behind before [] = before
 ledger_behind before (raw ∷ raws) = ledger_behind (before ++ (raw, verdict before raw) ∷ []) raws
+
+-- these raw entries behind this ledger, each with its verdict over all before it
+abbrev pub entries_behind : Ledger → List Raw → Ledger
+entries_behind before [] = []
+entries_behind before (raw ∷ raws) = (raw, verdict before raw) ∷ entries_behind (before ++ (raw, verdict before raw) ∷ []) raws
 
 -- the ledger of these raw entries: the only legal one
 unfoldable pub ledger : List Raw → Ledger

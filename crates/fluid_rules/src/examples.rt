@@ -1,5 +1,5 @@
 // Worked examples of the rules, each computed from the definitions.
-ghost use Rattle.fluid_rules.specs.Examples.{OneJoin, FirstMessage, TwoJoins, TwoWriters, BelowMinimum, AfterRefusal, WholeStory, WithoutScope};
+ghost use Rattle.fluid_rules.specs.Examples.{OneJoin, FirstMessage, TwoJoins, TwoWriters, BelowMinimum, AfterRefusal, WholeStory, WithoutScope, Noops, WhatIsLifted, WhatTheLastSays, WhenHeard};
 ghost use Rattle.fluid_rules.specs.ScribeExamples.{VersionAtReference, OnThePending, AfterTheAck, StaleHeads, AskedAsText, SaidToReports, MalformedContents, OldReferences, LastAcks};
 ghost use Rattle.fluid_rules.specs.ReportExamples.{NotStored, Stored, BuiltOnAnother, OnOthers, NobodyJoined};
 
@@ -41,6 +41,26 @@ pub fn whole_story()
 /// A summarize of a client that may not write summaries.
 pub fn without_scope()
     ensures { WithoutScope }
+{}
+
+/// Noops that are absorbed, sequenced and dropped, and an op behind them.
+pub fn noops()
+    ensures { Noops }
+{}
+
+/// What the minimum would be with the reference of a noop.
+pub fn what_is_lifted()
+    ensures { WhatIsLifted }
+{}
+
+/// The minimum of the last message, and that which holds behind an absorbed noop.
+pub fn what_the_last_says()
+    ensures { WhatTheLastSays }
+{}
+
+/// When a client was last heard of.
+pub fn when_heard()
+    ensures { WhenHeard }
 {}
 
 /// The version of a summarize has the order's state at its reference.

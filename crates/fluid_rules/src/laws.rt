@@ -1,5 +1,5 @@
 // The laws of the rules. Each is the contract of a function that does nothing.
-ghost use Rattle.fluid_rules.specs.Laws.{MinimumIsLeast, MinimumIsBounded, MinimumNeverFalls, NackLeavesOrder, RefusedOnce, MessageHasMinimum, JoinedInOrder, LedgerIsOnlyLegal, LedgerGrows, ListsGrow, ClientGrows, LegalGrows, LegalInParts, VerdictIsMessage, MessageIsNext, SeqIsBounded, ReferencesAreBounded, CountedGrows, CountedIsBounded};
+ghost use Rattle.fluid_rules.specs.Laws.{MinimumIsLeast, MinimumIsBounded, MinimumNeverFalls, NackLeavesOrder, AbsorbedKeepsOrder, AbsorbedLifts, SequencedIsTaken, AbsorbedIsTaken, HeardGrows, LastMinimumGrows, EntriesBehind, RefusedOnce, MessageHasMinimum, JoinedInOrder, LedgerIsOnlyLegal, LedgerGrows, ListsGrow, ClientGrows, LegalGrows, LegalInParts, VerdictIsMessage, MessageIsNext, SeqIsBounded, ReferencesAreBounded, CountedGrows, CountedIsBounded};
 ghost use Rattle.fluid_rules.specs.ScribeLaws.{UnansweredGrows, AcksGrow, UnansweredByNone, PendingIsLeast, AcksAreSummaryAcks, OrdersAreAnsweredInTurn, AnswersSayWhatIsMeant};
 
 use fluid_tree::laws::ids_are_read_back;
@@ -22,6 +22,22 @@ pub fn minimum_never_falls()
 /// A nack changes neither the minimum nor the last sequence number.
 pub fn nack_leaves_order()
     ensures { NackLeavesOrder }
+{}
+
+/// An absorbed entry changes no message and no sequence number.
+pub fn absorbed_keeps_order()
+    ensures { AbsorbedKeepsOrder }
+{}
+
+/// Behind an absorbed noop the minimum is what it lifts it to.
+pub fn absorbed_lifts()
+    ensures { AbsorbedLifts }
+{}
+
+/// The numbers of a client's sequenced and absorbed submissions, taken together, rise by 1, and each brings its reference.
+pub fn numbers_rise()
+    ensures sequenced { SequencedIsTaken }
+    ensures absorbed { AbsorbedIsTaken }
 {}
 
 /// In a legal ledger a client is refused as below the minimum at most once since it joined.
@@ -57,6 +73,21 @@ pub fn lists_grow()
 /// One entry more changes what is said of a client only by itself and the minimum.
 pub fn client_grows()
     ensures { ClientGrows }
+{}
+
+/// One entry more moves the moment at which its own client was heard of.
+pub fn heard_grows()
+    ensures { HeardGrows }
+{}
+
+/// One entry more brings the minimum of its message, where it has one.
+pub fn last_minimum_grows()
+    ensures { LastMinimumGrows }
+{}
+
+/// Raw entries behind a ledger stand one after another.
+pub fn entries_behind()
+    ensures { EntriesBehind }
 {}
 
 /// One entry more leaves a ledger legal exactly where it has the verdict over it.

@@ -1,34 +1,21 @@
 -- The first messages of an order, and their quorum; the order of a legal ledger.
 use Rattle.std.proofs.Common.{◌≡◌, ℕ, zero, suc, ◌+◌, ◌<◌, List, [], ◌∷◌, ◌++◌, append-nil, length, take, Some, refl, sym, ◌∙◌, ap, subst, arith}
-use Rattle.std.specs.Prelude.{map, unwrap_or, slice_index_or}
-use Rattle.std.specs.List.{last_or}
+use Rattle.std.specs.Prelude.{slice_index_or}
 use Rattle.std.proofs.lemmas.List.{take_more, length-take}
 use Rattle.fluid_types.specs.declared.entries.Raw.{Raw}
 use Rattle.fluid_types.specs.declared.messages.Message.{Message}
 use Rattle.fluid_types.specs.declared.verdicts.Verdict.{Verdict}
-use Rattle.fluid_types.specs.declared.verdicts.Verdict.TheVariants.{Sequenced, Nacked, Dropped}
+use Rattle.fluid_types.specs.declared.verdicts.Verdict.TheVariants.{Sequenced, Nacked, Dropped, Absorbed}
 use Rattle.fluid_types.specs.Ledger.{Ledger, messages_of, order, seq}
-use Rattle.fluid_types.specs.Quorum.{Quorum, at_last, quorum_of}
+use Rattle.fluid_types.specs.Quorum.{Quorum, quorum_of}
 use Rattle.fluid_types.proofs.Ledgers.{order-push}
+use Rattle.fluid_types.proofs.Numbers.{numbered_more, last_number}
 use Rattle.fluid_rules.specs.Rules.{verdict, IsLegal}
 use Rattle.fluid_rules.proofs.Legal.{legal-induction}
 use Rattle.fluid_rules.proofs.Verdicts.{verdict-is_message, message-number}
 use Rattle.fluid_quorum.specs.Order.{AreNumberedFrom, AreFirst, StandsFor}
 use Rattle.fluid_scribe.specs.Scribing.{Scribing}
 use Rattle.fluid_scribe.specs.Ledger as scribes
-
-pub numbered-take : (n k : ℕ) (ms : List Message) → AreNumberedFrom n ms → AreNumberedFrom n (take k ms)
-numbered-take n zero ms h = tt
-numbered-take n (suc k) [] h = tt
-numbered-take n (suc k) (m ∷ ms) h = (h.0, numbered-take (suc n) k ms h.1)
-
-last_of : (n : ℕ) (ms : List Message) → AreNumberedFrom (suc n) ms → unwrap_or (last_or (Some n) (map (λ m. m.number) ms)) 0 ≡ n + length ms
-last_of n [] order = omega arith
-last_of n (m ∷ ms) order = rw order.0 (last_of (suc n) ms order.1 ∙ omega arith)
-
-last_number : (ms : List Message) → AreFirst ms → at_last (λ m. m.number) ms ≡ length ms
-last_number [] order = refl
-last_number (m ∷ ms) order = rw order.0 (last_of 1 ms order.1 ∙ omega arith)
 
 quorum_number : (ms : List Message) (q : Quorum) → StandsFor ms q → q.number ≡ length ms
 unfolding quorum_of
@@ -51,16 +38,13 @@ stands_more ms i q m stands lt at =
 
 -- ---- the order of a legal ledger
 
-numbered-push : (n : ℕ) (ms : List Message) (m : Message) → AreNumberedFrom n ms → m.number ≡ n + length ms → AreNumberedFrom n (ms ++ m ∷ [])
-numbered-push n [] m numbered next = (omega (arith, next), tt)
-numbered-push n (x ∷ ms) m numbered next = (numbered.0, numbered-push (suc n) ms m numbered.1 (omega (arith, next)))
-
 first-behind : (ledger : Ledger) (raw : Raw) (v : Verdict) → AreFirst (order ledger) → verdict ledger raw ≡ v → AreFirst (order ledger ++ messages_of v)
 unfolding seq
 first-behind ledger raw (Sequenced m) first is =
-    let next = message-number ledger raw m (verdict-is_message ledger raw m is) in numbered-push 1 (order ledger) m first (omega (arith, next))
+    let next = message-number ledger raw m (verdict-is_message ledger raw m is) in numbered_more (order ledger) m 1 first (omega (arith, next))
 first-behind ledger raw (Nacked nack) first is = rw (append-nil (order ledger)) first
 first-behind ledger raw Dropped first is = rw (append-nil (order ledger)) first
+first-behind ledger raw Absorbed first is = rw (append-nil (order ledger)) first
 
 begins_first : AreFirst (order [])
 unfolding order

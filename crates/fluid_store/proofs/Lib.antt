@@ -5,6 +5,7 @@ mod Lists
 mod Distinct
 mod Stood
 mod Stops
+mod Putting
 mod Fetched
 mod Looked
 mod Stays

@@ -1,12 +1,7 @@
 -- What a store holds: a finite map from ids to bytes.
 use Rattle.std.specs.Prelude.{◌≡◌, ℕ, List, Some}
-use Rattle.std.specs.Ordering.{nat_cmp}
-use Rattle.std.specs.Cmp.Lexicographic.{slice_cmp}
 use Rattle.std.specs.FinMap.{FinMap, get}
-use Rattle.std.specs.declared.cmp.Ordering.{Ordering}
-
-abbrev pub byte_order : List ℕ → List ℕ → Ordering
-byte_order = slice_cmp nat_cmp
+pub use Rattle.fluid_table.specs.Table.{byte_order}
 
 abbrev pub Held : Type 0
 Held = FinMap byte_order (List ℕ)

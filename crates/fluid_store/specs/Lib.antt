@@ -4,6 +4,7 @@ pub mod Memory
 pub mod Standing
 pub mod Listed
 pub mod Keeping
+pub mod Putting
 pub mod Fetching
 pub mod Complete
 pub mod Laws

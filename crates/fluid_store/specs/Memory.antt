@@ -3,7 +3,7 @@ use Rattle.std.specs.Prelude.{◌≡◌, ℕ, List, Option, Some, Result, Ok, Er
 use Rattle.std.specs.Coded.{Coded, code_by, coded×, coded_ℕ, coded_list}
 use Rattle.std.specs.FinMap.{code, get}
 use Rattle.fluid_io.specs.Causes.{one_more}
-use Rattle.fluid_io.specs.Plan.{Planned, next_fails, called_by_plan}
+use Rattle.fluid_io.specs.Plan.{Planned, plan_code, next_fails, called_by_plan}
 use Rattle.fluid_json.specs.Unless.{IsUnless}
 use Rattle.fluid_store.specs.Held.{Held}
 use Rattle.fluid_store.specs.Storing.{Storing}
@@ -18,11 +18,6 @@ pub record MemoryStoring : Type 0 where
 
 abbrev pub held_code : Coded Held
 held_code = code (coded_list coded_ℕ) (coded_list coded_ℕ)
-
-abbrev pub plan_code : Coded Planned
-plan_code =
-    code_by (List ℕ × (ℕ × ℕ)) (coded× (coded_list coded_ℕ) (coded× coded_ℕ coded_ℕ)) (λ p. (p.failing, (p.calls, p.faults)))
-    (λ parts. record { failing = parts.0; calls = parts.1.0; faults = parts.1.1 }) (λ _. refl)
 
 abbrev pub memory_code : Coded MemoryStoring
 memory_code =

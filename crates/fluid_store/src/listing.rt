@@ -17,8 +17,8 @@ pub struct StoredObject {
 }
 
 impl StoredObject {
-    // The object with these bytes.
-    fn of(bytes: Vec<u8>) -> StoredObject
+    /// The object with these bytes, under the id that they have. Takes no memory.
+    pub fn of(bytes: Vec<u8>) -> StoredObject
         ensures { result ≡ object_of bytes.items }
     {
         let id = Id::of(bytes.as_slice());

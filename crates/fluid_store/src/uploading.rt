@@ -1,6 +1,8 @@
-//! Puts a whole summary tree.
+//! Puts objects one after the other, and a whole summary tree.
 ghost use Rattle.std.specs.Prelude.{◌≡◌};
+ghost use Rattle.fluid_io.specs.Causes.{Tells};
 ghost use Rattle.fluid_store.specs.Keeping.{Counts, Stores, Uploads, refusal};
+ghost use Rattle.fluid_store.specs.Putting.{putting, IsPutting};
 
 use crate::keeping::keep;
 use crate::listing::{StoredObject, list_node};
@@ -26,18 +28,21 @@ pub fn upload<O: Objects>(
         Err(fault) => return Err(refusal(fault)),
     };
     let listed = list_node(alloc, node)?;
-    keep_all(alloc, objects, listed.objects.as_slice())?;
+    store_objects(alloc, objects, listed.objects.as_slice())?;
     Ok(id)
 }
 
-// Puts these objects, one after the other.
-fn keep_all<O: Objects>(
+/// Puts these objects, one after the other, each under its id, or finds it there, and ends at the first fault. An object that is
+/// held is never changed: where other bytes are held under an id, that is a `Clash`. Those before it stay.
+pub fn store_objects<O: Objects>(
     alloc: Global,
     objects: &mut O,
     list: &[StoredObject],
 ) -> Result<(), StoreFault>
     ensures counts { Counts (O.seen objects.old) (O.seen objects.new) }
     ensures does { Stores list.now (O.seen objects.old) (O.seen objects.new) result }
+    ensures puts { Tells (O.seen objects.old).content (λ held.
+        IsPutting (putting held list.now) (O.seen objects.new).content result) }
 {
     for object in list {
         keep(alloc, objects, &object.id, object.bytes.as_slice())?;

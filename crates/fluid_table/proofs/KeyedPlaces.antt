@@ -4,31 +4,16 @@ use Rattle.std.proofs.lemmas.List.{length-map}
 use Rattle.std.specs.List.{insert, remove, AllWithin}
 use Rattle.std.specs.List.Sorted.{IsSearchInRange, IsBinarySearchResult, IsSortedBy}
 use Rattle.std.specs.Ordering.{is_lt, eq_by_cmp}
-use Rattle.std.specs.Cmp.{IsTotalOrder}
-use Rattle.std.specs.Cmp.Lexicographic.{nat_list_cmp_total}
 use Rattle.std.specs.declared.cmp.Ordering.TheVariants.{Less, Greater}
 use Rattle.std.specs.FinMap as finite
-use Rattle.std.specs.FinMap.{IsAntisymmetric, nat_cmp-IsAntisymmetric, slice_cmp-IsAntisymmetric, get-from_sorted, from_sorted}
+use Rattle.std.specs.FinMap.{get-from_sorted, from_sorted}
 use Rattle.std.specs.FinMap.Entries.{put, where_key, is_sorted, is_sorted-put, is_sorted-where_key}
 use Rattle.std.proofs.lemmas.List.Sorted.{searchable_from_sorted}
 use Rattle.fluid_table.specs.Table.{byte_order}
 use Rattle.fluid_table.specs.Keyed.{pairs_of, IsInOrder, table_of, IsAt, IsGap}
 use Rattle.fluid_table.proofs.Ordered.{rises, turned, find_at, find_gap, put_at, put_gap, where_at, where_none, Parts}
+use Rattle.fluid_table.proofs.Places.{byte_order_total, byte_order-IsAntisymmetric, holds, is_true}
 use Rattle.fluid_table.proofs.Maps.{insert-from_sorted, remove-from_sorted}
-
-pub byte_order_total : IsTotalOrder byte_order
-byte_order_total = nat_list_cmp_total
-
-pub byte_order-IsAntisymmetric : IsAntisymmetric byte_order
-byte_order-IsAntisymmetric = slice_cmp-IsAntisymmetric nat_cmp-IsAntisymmetric
-
--- the two ways to say that a test holds
-holds : (b : Bool) → IsTrue b → T b
-holds b is = subst T (sym is) tt
-
-is_true : (b : Bool) → T b → IsTrue b
-is_true true p = refl
-is_true false p = absurd p
 
 -- ---- a list and the list of what a function makes of each element
 
@@ -103,6 +88,13 @@ module _ {E X : Type 0} (key : E → List ℕ) (value : E → X) where
       pub get_there : (d : E) → finite.get (table_of key value es) wanted ≡ Some (value (get_or es at d))
       get_there d =
           get-from_sorted byte_order (pairs_of key value es) wanted h ∙ find_at byte_order_total wanted (pairs_of key value es) at (pair d) h inside (has_key d) ∙ ap (λ p. Some p.1) (read d)
+
+      -- what was read there has the key, and its value is the one under the key
+      pub key_read : (e : E) → e ≡ get_or es at e → key e ≡ wanted
+      key_read e read = ap key read ∙ is.has_key e
+
+      pub value_read : (e : E) → e ≡ get_or es at e → finite.get (table_of key value es) wanted ≡ Some (value e)
+      value_read e read = get_there e ∙ ap (λ d. Some (value d)) (sym read)
 
       set_there : (e : E) → key e ≡ wanted → put byte_order wanted (value e) (pairs_of key value es) ≡ pairs_of key value (set es at e)
       set_there e same =

@@ -1,5 +1,5 @@
-pub mod Ordered
 pub mod Maps
+pub mod Neighbours
+pub mod Ordered
 pub mod Places
 pub mod KeyedPlaces
-pub mod Neighbours

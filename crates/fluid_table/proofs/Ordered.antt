@@ -55,7 +55,7 @@ module _ {K X : Type 0} {R : K → K → Ordering} (o : IsTotalOrder R) where
   where_above k (e ∷ es) h = rw (less (R k e.0) (first _ _ h)) (ap (λ rest. e ∷ rest) (where_above k es (second _ _ h)))
 
   -- a key below all entries isn't found
-  find_above : (k : K) (es : List (K × X)) → T (below_all R k es) → find R k es ≡ None
+  pub find_above : (k : K) (es : List (K × X)) → T (below_all R k es) → find R k es ≡ None
   find_above k [] h = refl
   find_above k (e ∷ es) h = rw (less (R k e.0) (first _ _ h)) (find_above k es (second _ _ h))
 

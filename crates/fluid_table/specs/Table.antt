@@ -1,9 +1,9 @@
--- A table of values under texts as keys: a finite map, with the room that it has.
+-- A table of values under keys, which are seen as their texts: a finite map, with the room that it has.
 use Rattle.std.specs.Prelude.{ℕ, List, refl}
 use Rattle.std.specs.Ordering.{nat_cmp}
 use Rattle.std.specs.Cmp.Lexicographic.{slice_cmp}
 use Rattle.std.specs.declared.cmp.Ordering.{Ordering}
-use Rattle.std.specs.FinMap.{FinMap, code}
+use Rattle.std.specs.FinMap.{FinMap, insert, code}
 use Rattle.std.specs.Coded.{Coded, code_by, coded×, coded_ℕ, coded_list}
 
 -- keys stand in the order of their bytes
@@ -18,6 +18,10 @@ Values V = FinMap byte_order V
 pub record Table (V : Type 0) : Type 0 where
   pub values : Values V
   pub spare : ℕ
+
+-- another value under the key
+abbrev pub with_value : {V : Type 0} → Table V → List ℕ → V → Table V
+with_value table key value = record table { values = insert table.values key value }
 
 -- a table as the pair of its parts
 abbrev pub values_code : (V : Type 0) → Coded V → Coded (Values V)

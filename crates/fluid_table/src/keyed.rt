@@ -66,7 +66,7 @@ pub fn is_in_order<T: Entry>(entries: &[T]) -> bool
 }
 
 // Where a key stands, or where it would stand.
-fn place<T: Entry>(entries: &[T], key: &str) -> Result<usize, usize>
+pub(crate) fn place<T: Entry>(entries: &[T], key: &str) -> Result<usize, usize>
     requires { IsInOrder T.key_of T.value_of entries.now }
     ensures found { IfOk result (IsAt T.key_of entries.now key.now) }
     ensures absent { IfErr result (IsGap T.key_of entries.now key.now) }

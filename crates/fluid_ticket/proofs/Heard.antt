@@ -8,7 +8,7 @@ use Rattle.fluid_types.specs.declared.entries.Raw.{Raw}
 use Rattle.fluid_types.specs.declared.entries.Raw.TheVariants.{Join, Leave, Submit, Report}
 use Rattle.fluid_types.specs.declared.messages.Message.{Message}
 use Rattle.fluid_types.specs.declared.verdicts.Verdict.{Verdict}
-use Rattle.fluid_types.specs.declared.verdicts.Verdict.TheVariants.{Sequenced, Nacked, Dropped}
+use Rattle.fluid_types.specs.declared.verdicts.Verdict.TheVariants.{Sequenced, Nacked, Dropped, Absorbed}
 use Rattle.fluid_types.specs.Ledger.{Ledger, messages_of, order, seq}
 use Rattle.fluid_types.proofs.Ledgers.{order-push, seq-push}
 use Rattle.fluid_rules.specs.Rules.{verdict, IsLegal}
@@ -35,6 +35,7 @@ up_behind l raw (Sequenced m) h is =
     (All-cons (λ m. m.number ≤ seq l + 1) m [] (omega (arith, next)) (All-nil (λ m. m.number ≤ seq l + 1)))
 up_behind l raw (Nacked nack) h is = rw (append-nil (order l)) (up_more (seq l) (seq l + 0) (order l) (omega arith) h)
 up_behind l raw Dropped h is = rw (append-nil (order l)) (up_more (seq l) (seq l + 0) (order l) (omega arith) h)
+up_behind l raw Absorbed h is = rw (append-nil (order l)) (up_more (seq l) (seq l + 0) (order l) (omega arith) h)
 
 begins_up : All (λ m. m.number ≤ seq []) (order [])
 unfolding order

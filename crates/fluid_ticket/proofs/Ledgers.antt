@@ -5,8 +5,9 @@ use Rattle.fluid_json.specs.declared.memory.NoMemory.{NoMemory}
 use Rattle.std.specs.Option.{unwrap_or, option_map}
 use Rattle.std.specs.Ordering.{eq_by_cmp}
 use Rattle.std.specs.Cmp.{eq_by_cmp_equiv}
-use Rattle.std.specs.FinMap.{get, get-from_entries, get-insert, get-remove, same_map}
+use Rattle.std.specs.FinMap.{get, insert, get-from_entries, get-insert, get-remove, same_map}
 use Rattle.std.specs.FinMap.Entries.{find}
+use Rattle.std.proofs.lemmas.Bool.{false≢true}
 use Rattle.std.proofs.lemmas.Option.{none-some, same_Some}
 use Rattle.std.proofs.lemmas.Map.Text.{is_eq-slice_cmp}
 use Rattle.fluid_types.specs.declared.entries.Raw.{Raw}
@@ -17,26 +18,28 @@ use Rattle.fluid_types.specs.declared.messages.Message.{Message}
 use Rattle.fluid_types.specs.declared.nacks.Nack.{Nack}
 use Rattle.fluid_types.specs.declared.nacks.NackRule.TheVariants.{Gap, Nonexistent, Below, Ahead, Scope}
 use Rattle.fluid_types.specs.declared.verdicts.Verdict.{Verdict}
-use Rattle.fluid_types.specs.declared.verdicts.Verdict.TheVariants.{Sequenced, Nacked, Dropped}
+use Rattle.fluid_types.specs.declared.verdicts.Verdict.TheVariants.{Sequenced, Nacked, Dropped, Absorbed}
 use Rattle.fluid_types.specs.Ledger.{Ledger, messages_of, order, seq}
 use Rattle.fluid_types.proofs.Ledgers.{seq-push}
 use Rattle.fluid_rules.specs.Past as past
-use Rattle.fluid_rules.specs.Past.{Client, IsLeast, has_id, is_below, count_of, client_behind, client_submitting}
+use Rattle.fluid_rules.specs.Past.{Client, IsLeast, has_id, is_below, count_of, read_as, client_behind, client_submitting, client_heard}
 use Rattle.fluid_rules.specs.Rules as rules
-use Rattle.fluid_rules.specs.Rules.{past_of, is_joined, last_number, is_nacked, reference, scopes, client, joined, answer_message, submission_message, unsettled, settled, sequenced, first_case}
+use Rattle.fluid_rules.specs.Rules.{past_of, is_joined, last_number, is_nacked, reference, scopes, heard, client, joined, last_minimum, last_minimum_behind, answer_message, submission_message, unsettled, settled, sequenced, first_case}
 use Rattle.fluid_rules.specs.Scribe as scribe
 use Rattle.fluid_rules.specs.Scribe.{reported}
 use Rattle.fluid_rules.specs.declared.answers.Answer.{Answer}
-use Rattle.fluid_rules.proofs.Ids.{same_id}
+use Rattle.fluid_rules.proofs.Ids.{same_id, own_id}
 use Rattle.fluid_rules.proofs.Minimum.{joined-has, is_joined-client, minimum-is_least, least-unique}
 use Rattle.fluid_rules.proofs.Pushed.{client-push}
+use Rattle.fluid_rules.proofs.Heard.{last_minimum-push}
+use Rattle.fluid_rules.proofs.Taken.{lifted-least}
 use Rattle.fluid_clients.specs.declared.table.Row.{Row}
-use Rattle.fluid_clients.specs.Table.{Rows, byte_order, least}
-use Rattle.fluid_clients.proofs.Laws.{byte_order_total, byte_order-IsAntisymmetric, least-reached, least-none}
-use Rattle.fluid_ticket.specs.declared.ready.Change.TheVariants.{Nothing, Holds}
+use Rattle.fluid_clients.specs.Table.{Rows, byte_order, change_row, least, least_with}
+use Rattle.fluid_clients.proofs.Laws.{byte_order_total, byte_order-IsAntisymmetric, least-reached, least-none, insert-again, change-there}
+use Rattle.fluid_ticket.specs.declared.ready.Change.TheVariants.{Nothing, Holds, Hears}
 use Rattle.fluid_ticket.specs.declared.outcome.Outcome.TheVariants.{Duplicate, Refused, Admitted}
 use Rattle.fluid_ticket.specs.State as state
-use Rattle.fluid_ticket.specs.State.{State, start, change_of, change_row, changed, after, settled_in, message_in, first_fit, outcome_by, outcome_at, outcome, verdict_of, verdict_in, Prepared, prepared}
+use Rattle.fluid_ticket.specs.State.{State, start, change_of, changed, after, settled_in, message_in, first_fit, outcome_by, outcome_at, outcome, verdict_of, verdict_in, is_absorbed, Prepared, prepared}
 use Rattle.fluid_ticket.specs.Ledger.{row_of, state_of, StandsFor, IsAnswered}
 use Rattle.fluid_ticket.proofs.Sound.{minimum-le-reference}
 
@@ -44,7 +47,7 @@ use Rattle.fluid_ticket.proofs.Sound.{minimum-le-reference}
 
 -- a row with what is said of its client
 abbrev pub rowed : Client → Row
-rowed c = record { last = c.last; reference = c.reference; nacked = c.nacked; scopes = c.scopes }
+rowed c = record { last = c.last; reference = c.reference; nacked = c.nacked; scopes = c.scopes; heard = c.heard }
 
 -- ids that tie are equal
 ties : (q id : List ℕ) → eq_by_cmp byte_order q id ≡ bytes_eq q id
@@ -61,7 +64,7 @@ found_in f q (id ∷ ids) = rw (ties q id) (found_at f q id (bytes_eq q id) _ (h
 
 said_at : (ledger : Ledger) (q : List ℕ) (held : Option Scopes) → past.membership (past_of ledger) q ≡ held →
     cond (is_joined ledger q) (Some (row_of ledger q)) None ≡ option_map rowed (client ledger q)
-unfolding is_joined last_number is_nacked reference scopes client past.client
+unfolding is_joined last_number is_nacked reference scopes heard client past.client
 said_at ledger q None h = rw h
 said_at ledger q (Some held) h = rw h
 
@@ -78,6 +81,10 @@ sequence-state_of : (ledger : Ledger) → (state_of ledger).sequence ≡ seq led
 unfolding state_of
 sequence-state_of ledger = refl
 
+last_minimum-state_of : (ledger : Ledger) → (state_of ledger).last_minimum ≡ last_minimum ledger
+unfolding state_of
+last_minimum-state_of ledger = refl
+
 -- ---- the minimum
 
 record SaidOf (o : Option Client) (row : Row) : Type 0 where
@@ -93,21 +100,26 @@ nothing_of : (o : Option Client) → option_map rowed o ≡ None → o ≡ None
 nothing_of None is = refl
 nothing_of (Some c) is = absurd (none-some _ (sym is))
 
-reached : (ledger : Ledger) (o : Option ℕ) → least (state_of ledger).rows ≡ o →
-    ((c : List ℕ) × ((said : Client) × ((client ledger c ≡ Some said) × (unwrap_or o (seq ledger) ≡ said.reference))))
-    ⊎ (((c : List ℕ) → client ledger c ≡ None) × (unwrap_or o (seq ledger) ≡ seq ledger))
-reached ledger None is = inr (λ c. nothing_of _ (sym (get-state_of ledger c) ∙ least-none (state_of ledger).rows c is), refl)
-reached ledger (Some m) is =
-    let found = least-reached (state_of ledger).rows m is in
-    let said = said_of (client ledger found.id) found.row (sym (get-state_of ledger found.id) ∙ found.there) in
-    inl (found.id, (said.said, (said.is, found.is ∙ ap (λ (row : Row). row.reference) (sym said.has))))
+-- rows that have what is said of each client have the least reference that is said
+module _ (rows : Rows) (said : List ℕ → Option Client) (sequence : ℕ) (told : (c : List ℕ) → get rows c ≡ option_map rowed (said c)) where
+  reached : (o : Option ℕ) → least rows ≡ o →
+      ((c : List ℕ) × ((client : Client) × ((said c ≡ Some client) × (unwrap_or o sequence ≡ client.reference))))
+      ⊎ (((c : List ℕ) → said c ≡ None) × (unwrap_or o sequence ≡ sequence))
+  reached None is = inr (λ c. nothing_of _ (sym (told c) ∙ least-none rows c is), refl)
+  reached (Some m) is =
+      let found = least-reached rows m is in
+      let there = said_of (said found.id) found.row (sym (told found.id) ∙ found.there) in
+      inl (found.id, (there.said, (there.is, found.is ∙ ap (λ (row : Row). row.reference) (sym there.has))))
+
+  rows_least : IsLeast said sequence (unwrap_or (least rows) sequence)
+  rows_least = record {
+    below = λ c client is. minimum-le-reference (record { sequence = sequence; last_minimum = 0; rows = rows }) c (rowed client) (told c ∙ ap (option_map rowed) is);
+    reached = reached (least rows) refl;
+  }
 
 state_least : (ledger : Ledger) → IsLeast (client ledger) (seq ledger) (state.minimum (state_of ledger))
 unfolding state_of
-state_least ledger = record {
-  below = λ c said is. minimum-le-reference (state_of ledger) c (rowed said) (get-state_of ledger c ∙ ap (option_map rowed) is);
-  reached = reached ledger (least (state_of ledger).rows) refl;
-}
+state_least ledger = rows_least (state_of ledger).rows (client ledger) (seq ledger) (get-state_of ledger)
 
 -- the minimum of its state is that of the ledger
 pub minimum-state_of : (ledger : Ledger) → state.minimum (state_of ledger) ≡ rules.minimum ledger
@@ -115,9 +127,10 @@ minimum-state_of ledger = least-unique (client ledger) (seq ledger) _ _ (state_l
 
 -- ---- one entry more
 
--- a submission that is sequenced is one of a client in order
+-- a submission that is sequenced or absorbed is one of a client in order
 abbrev pub IsFollowed : State → Raw → Verdict → Type 0
 IsFollowed s (Submit id submission moment) (Sequenced message) = (row : Row) → get s.rows id ≡ Some row → row.nacked ≡ false
+IsFollowed s (Submit id submission moment) Absorbed = (row : Row) → get s.rows id ≡ Some row → row.nacked ≡ false
 IsFollowed s raw verdict = Unit {0}
 
 pub tied_back : (q id : List ℕ) → eq_by_cmp byte_order q id ≡ bytes_eq id q
@@ -132,6 +145,23 @@ pub get_changed : (rows : Rows) (id q : List ℕ) (f : Row → Row) (o : Option 
     get (change_row id f rows) q ≡ cond (bytes_eq id q) (option_map f o) (get rows q)
 get_changed rows id q f None is = rw is (nothing_at rows id q (bytes_eq id q) refl is)
 get_changed rows id q f (Some row) is = rw is (get-insert byte_order_total rows id (f row) q ∙ ap (λ b. cond b (Some (f row)) (get rows q)) (tied_back q id))
+
+-- two changes of one row are one change
+pub changed_twice : (rows mid new : Rows) (id : List ℕ) (f g : Row → Row) → is_some (get rows id) ≡ true → ((row : Row) → get rows id ≡ Some row → mid ≡ insert rows id (f row)) →
+    new ≡ change_row id g mid → new ≡ change_row id (λ row. g (f row)) rows
+changed_twice rows mid new id f g joined first second =
+    elim (get rows id) as (λ o. get rows id ≡ o → new ≡ change_row id (λ row. g (f row)) rows) [
+      | None ↦ λ none. absurd (false≢true (sym (ap is_some none) ∙ joined))
+      | Some row ↦ λ there.
+          let made : mid ≡ insert rows id (f row) = first row there in
+          let found : get mid id ≡ Some (f row) =
+          ap (λ m. get m id) made ∙ get-insert byte_order_total rows id (f row) id ∙ ap (λ b. cond b (Some (f row)) (get rows id)) (ties id id ∙ own_id id) in
+          second
+          ∙ change-there mid id g (f row) found
+          ∙ ap (λ m. insert m id (g (f row))) made
+          ∙ insert-again rows id (f row) (g (f row))
+          ∙ sym (change-there rows id (λ row. g (f row)) row there)
+    ] refl
 
 -- a choice between what is said is the choice between the rows
 chosen : (b : Bool) (said other : Option Client) (o : Option Row) → o ≡ option_map rowed other → cond b (option_map rowed said) o ≡ option_map rowed (cond b said other)
@@ -148,67 +178,91 @@ changed_at rows id q f g (Some c) true h is agree =
     let there : get rows id ≡ Some (rowed c) = ap (get rows) (same_id id q h) ∙ is in
     ap (option_map f) there ∙ ap Some (agree c there)
 
--- what stays is said as before
-same_said : (b : Bool) (g : Client → Client) (k : Option Client) → ((c : Client) → g c ≡ c) → cond b (option_map g k) k ≡ k
-same_said false g k same = refl
-same_said true g None same = refl
-same_said true g (Some c) same = ap Some (same c)
+-- a client that is heard of, and nothing else
+heard_get : (s : State) (id : List ℕ) (moment : ℕ) (q : List ℕ) (k : Option Client) → get s.rows q ≡ option_map rowed k →
+    get (changed (Hears id moment) s.rows) q ≡ option_map rowed (cond (bytes_eq id q) (option_map (client_heard moment) k) k)
+heard_get s id moment q k is =
+    get_changed s.rows id q (λ row. record row { heard = moment }) (get s.rows id) refl
+    ∙ changed_at s.rows id q _ (client_heard moment) k (bytes_eq id q) refl is (λ c there. refl)
 
-unheld : (submission : Submission) (nack : Nack) (c : Client) → is_below nack.rule ≡ false → client_submitting submission (Nacked nack) c ≡ c
-unheld submission nack c h = rw h
+-- what a submission with this verdict makes of its client
+abbrev submitting : State → Submission → ℕ → Verdict → Client → Client
+submitting s submission moment verdict c = client_heard moment (client_submitting s.sequence submission verdict c)
 
-held : (submission : Submission) (nack : Nack) (c : Client) → is_below nack.rule ≡ true →
-    rowed (client_submitting submission (Nacked nack) c) ≡ record (rowed c) { last = submission.client_number; reference = count_of nack.minimum; nacked = true }
-held submission nack c h = rw h
+unheld : (s : State) (submission : Submission) (moment : ℕ) (nack : Nack) (c : Client) → is_below nack.rule ≡ false →
+    record (rowed c) { heard = moment } ≡ rowed (submitting s submission moment (Nacked nack) c)
+unheld s submission moment nack c h = rw h
 
-nacked_get : (s : State) (id : List ℕ) (submission : Submission) (nack : Nack) (q : List ℕ) (k : Option Client) (below : Bool) → is_below nack.rule ≡ below → get s.rows q ≡ option_map rowed k →
-    get (changed (cond below (Holds id submission.client_number (count_of nack.minimum)) Nothing) s.rows) q
-    ≡ option_map rowed (cond (bytes_eq id q) (option_map (client_submitting submission (Nacked nack)) k) k)
-nacked_get s id submission nack q k true h is =
-    get_changed s.rows id q (λ row. record row { last = submission.client_number; reference = count_of nack.minimum; nacked = true }) (get s.rows id) refl
-    ∙ changed_at s.rows id q _ (client_submitting submission (Nacked nack)) k (bytes_eq id q) refl is (λ c there. sym (held submission nack c h))
-nacked_get s id submission nack q k false h is =
-    is ∙ ap (option_map rowed) (sym (same_said (bytes_eq id q) (client_submitting submission (Nacked nack)) k (λ c. unheld submission nack c h)))
+held : (s : State) (submission : Submission) (moment : ℕ) (nack : Nack) (c : Client) → is_below nack.rule ≡ true →
+    record (rowed c) { last = submission.client_number; reference = count_of nack.minimum; nacked = true; heard = moment }
+    ≡ rowed (submitting s submission moment (Nacked nack) c)
+held s submission moment nack c h = rw h
 
-in_order : (submission : Submission) (message : Message) (c : Client) → c.nacked ≡ false →
-    record (rowed c) { last = submission.client_number; reference = count_of message.reference } ≡ rowed (client_submitting submission (Sequenced message) c)
-in_order submission message c h = rw h
+nacked_get : (s : State) (id : List ℕ) (submission : Submission) (moment : ℕ) (nack : Nack) (q : List ℕ) (k : Option Client) (below : Bool) → is_below nack.rule ≡ below → get s.rows q ≡ option_map rowed k →
+    get (changed (cond below (Holds id submission.client_number (count_of nack.minimum) moment) (Hears id moment)) s.rows) q
+    ≡ option_map rowed (cond (bytes_eq id q) (option_map (submitting s submission moment (Nacked nack)) k) k)
+nacked_get s id submission moment nack q k true h is =
+    get_changed s.rows id q (λ row. record row { last = submission.client_number; reference = count_of nack.minimum; nacked = true; heard = moment }) (get s.rows id) refl
+    ∙ changed_at s.rows id q _ (submitting s submission moment (Nacked nack)) k (bytes_eq id q) refl is (λ c there. held s submission moment nack c h)
+nacked_get s id submission moment nack q k false h is =
+    get_changed s.rows id q (λ row. record row { heard = moment }) (get s.rows id) refl
+    ∙ changed_at s.rows id q _ (submitting s submission moment (Nacked nack)) k (bytes_eq id q) refl is (λ c there. unheld s submission moment nack c h)
+
+in_order : (s : State) (submission : Submission) (moment : ℕ) (message : Message) (c : Client) → c.nacked ≡ false →
+    record (rowed c) { last = submission.client_number; reference = count_of message.reference; heard = moment }
+    ≡ rowed (submitting s submission moment (Sequenced message) c)
+in_order s submission moment message c h = rw h
+
+absorbed_in_order : (s : State) (submission : Submission) (moment : ℕ) (c : Client) → c.nacked ≡ false →
+    record (rowed c) { last = submission.client_number; reference = read_as s.sequence submission.reference; heard = moment }
+    ≡ rowed (submitting s submission moment Absorbed c)
+absorbed_in_order s submission moment c h = rw h
 
 -- the rows behind an entry have what is then said of each client
 after_get : (s : State) (raw : Raw) (verdict : Verdict) (q : List ℕ) (k : Option Client) → get s.rows q ≡ option_map rowed k → IsFollowed s raw verdict →
-    get (after s raw verdict).rows q ≡ option_map rowed (client_behind (raw, verdict) (state.minimum s) q k)
+    get (after s raw verdict).rows q ≡ option_map rowed (client_behind (raw, verdict) s.sequence (state.minimum s) q k)
 unfolding after change_of
 after_get s (Join id scopes detail moment) (Sequenced message) q k is followed =
-    let row : Row = record { last = 0; reference = state.minimum s; nacked = false; scopes = scopes } in
+    let row : Row = record { last = 0; reference = state.minimum s; nacked = false; scopes = scopes; heard = moment } in
     get-insert byte_order_total s.rows id row q
     ∙ ap (λ b. cond b (Some row) (get s.rows q)) (tied_back q id)
-    ∙ chosen (bytes_eq id q) (Some (record { last = 0; reference = state.minimum s; nacked = false; scopes = scopes })) k (get s.rows q) is
-after_get s (Join id scopes detail moment) (Nacked nack) q k is followed = is
-after_get s (Join id scopes detail moment) Dropped q k is followed = is
+    ∙ chosen (bytes_eq id q) (Some (record { last = 0; reference = state.minimum s; nacked = false; scopes = scopes; heard = moment })) k (get s.rows q) is
+after_get s (Join id scopes detail moment) (Nacked nack) q k is followed = heard_get s id moment q k is
+after_get s (Join id scopes detail moment) Dropped q k is followed = heard_get s id moment q k is
+after_get s (Join id scopes detail moment) Absorbed q k is followed = heard_get s id moment q k is
 after_get s (Leave id moment) (Sequenced message) q k is followed =
     get-remove byte_order_total s.rows id q
     ∙ ap (λ b. cond b None (get s.rows q)) (tied_back q id)
     ∙ chosen (bytes_eq id q) None k (get s.rows q) is
-after_get s (Leave id moment) (Nacked nack) q k is followed = is
-after_get s (Leave id moment) Dropped q k is followed = is
+after_get s (Leave id moment) (Nacked nack) q k is followed = heard_get s id moment q k is
+after_get s (Leave id moment) Dropped q k is followed = heard_get s id moment q k is
+after_get s (Leave id moment) Absorbed q k is followed = heard_get s id moment q k is
 after_get s (Submit id submission moment) (Sequenced message) q k is followed =
-    get_changed s.rows id q (λ row. record row { last = submission.client_number; reference = count_of message.reference }) (get s.rows id) refl
-    ∙ changed_at s.rows id q _ (client_submitting submission (Sequenced message)) k (bytes_eq id q) refl is
-    (λ c there. in_order submission message c (followed (rowed c) there))
-after_get s (Submit id submission moment) (Nacked nack) q k is followed = nacked_get s id submission nack q k (is_below nack.rule) refl is
-after_get s (Submit id submission moment) Dropped q k is followed =
-    is ∙ ap (option_map rowed) (sym (same_said (bytes_eq id q) (client_submitting submission Dropped) k (λ c. refl)))
+    get_changed s.rows id q (λ row. record row { last = submission.client_number; reference = count_of message.reference; heard = moment }) (get s.rows id) refl
+    ∙ changed_at s.rows id q _ (submitting s submission moment (Sequenced message)) k (bytes_eq id q) refl is
+    (λ c there. in_order s submission moment message c (followed (rowed c) there))
+after_get s (Submit id submission moment) (Nacked nack) q k is followed = nacked_get s id submission moment nack q k (is_below nack.rule) refl is
+after_get s (Submit id submission moment) Dropped q k is followed = heard_get s id moment q k is
+after_get s (Submit id submission moment) Absorbed q k is followed =
+    get_changed s.rows id q (λ row. record row { last = submission.client_number; reference = read_as s.sequence submission.reference; heard = moment }) (get s.rows id) refl
+    ∙ changed_at s.rows id q _ (submitting s submission moment Absorbed) k (bytes_eq id q) refl is
+    (λ c there. absorbed_in_order s submission moment c (followed (rowed c) there))
 after_get s (Report summary found moment) (Sequenced message) q k is followed = is
 after_get s (Report summary found moment) (Nacked nack) q k is followed = is
 after_get s (Report summary found moment) Dropped q k is followed = is
+after_get s (Report summary found moment) Absorbed q k is followed = is
 
 -- an entry brings one number at most
 pub after-sequence : (s : State) (raw : Raw) (verdict : Verdict) → (after s raw verdict).sequence ≡ s.sequence + length (messages_of verdict)
 unfolding after
 after-sequence s raw verdict = refl
 
-same_state : (s t : State) → s.sequence ≡ t.sequence → s.rows ≡ t.rows → s ≡ t
-same_state s t sequence rows = λ i. record { sequence = sequence i; rows = rows i }
+pub after-last_minimum : (s : State) (raw : Raw) (verdict : Verdict) → (after s raw verdict).last_minimum ≡ last_minimum_behind s.last_minimum verdict
+unfolding after
+after-last_minimum s raw verdict = refl
+
+pub same_state : (s t : State) → s.sequence ≡ t.sequence → s.last_minimum ≡ t.last_minimum → s.rows ≡ t.rows → s ≡ t
+same_state s t sequence last_minimum rows = λ i. record { sequence = sequence i; last_minimum = last_minimum i; rows = rows i }
 
 -- the state of a ledger with one entry more
 pub state_of-push : (ledger : Ledger) (raw : Raw) (verdict : Verdict) → IsFollowed (state_of ledger) raw verdict →
@@ -216,10 +270,15 @@ pub state_of-push : (ledger : Ledger) (raw : Raw) (verdict : Verdict) → IsFoll
 state_of-push ledger raw verdict followed =
     same_state _ _
     (sequence-state_of (ledger ++ (raw, verdict) ∷ []) ∙ seq-push ledger (raw, verdict) ∙ ap (λ n. n + length (messages_of verdict)) (sym (sequence-state_of ledger)) ∙ sym (after-sequence (state_of ledger) raw verdict))
+    (last_minimum-state_of (ledger ++ (raw, verdict) ∷ [])
+    ∙ last_minimum-push ledger (raw, verdict)
+    ∙ ap (λ n. last_minimum_behind n verdict) (sym (last_minimum-state_of ledger))
+    ∙ sym (after-last_minimum (state_of ledger) raw verdict))
     (same_map byte_order_total byte_order-IsAntisymmetric _ _ (λ q.
     get-state_of (ledger ++ (raw, verdict) ∷ []) q
     ∙ ap (option_map rowed) (client-push ledger (raw, verdict) q)
-    ∙ ap (λ m. option_map rowed (client_behind (raw, verdict) m q (client ledger q))) (sym (minimum-state_of ledger))
+    ∙ ap (λ n. option_map rowed (client_behind (raw, verdict) n (rules.minimum ledger) q (client ledger q))) (sym (sequence-state_of ledger))
+    ∙ ap (λ m. option_map rowed (client_behind (raw, verdict) (state_of ledger).sequence m q (client ledger q))) (sym (minimum-state_of ledger))
     ∙ sym (after_get (state_of ledger) raw verdict q (client ledger q) (get-state_of ledger q) followed)))
 
 -- ---- the verdict
@@ -292,12 +351,34 @@ parts_of ledger c said (Some held) h is =
       scopes = rw h (ap (λ (r : Client). r.scopes) same);
     }
 
+-- the rows with another reference of a client have the least reference that would be said then
+lifted-state_of : (ledger : Ledger) (c : List ℕ) (submission : Submission) (said : Client) → client ledger c ≡ Some said →
+    state.lifted (state_of ledger) c submission ≡ rules.lifted ledger c submission
+unfolding state_of
+lifted-state_of ledger c submission said is =
+    let taken : ℕ = read_as (seq ledger) submission.reference in
+    let other : Client = record said { reference = taken } in
+    let referring : Row → Row = λ row. record row { reference = taken } in
+    let there : get (state_of ledger).rows c ≡ Some (rowed said) = get-state_of ledger c ∙ ap (option_map rowed) is in
+    let told : (d : List ℕ) → get (change_row c referring (state_of ledger).rows) d ≡ option_map rowed (cond (bytes_eq c d) (Some other) (client ledger d)) =
+    λ d. get_changed (state_of ledger).rows c d referring (Some (rowed said)) there ∙ chosen (bytes_eq c d) (Some other) (client ledger d) (get (state_of ledger).rows d) (get-state_of ledger d) in
+    least-unique (λ d. cond (bytes_eq c d) (Some other) (client ledger d)) (seq ledger) _ _
+    (rows_least (change_row c referring (state_of ledger).rows) (λ d. cond (bytes_eq c d) (Some other) (client ledger d)) (seq ledger) told)
+    (lifted-least ledger c submission other refl)
+
+-- a noop of a joined client is absorbed in the state of a ledger where the rules absorb it
+absorbed-state_of : (ledger : Ledger) (c : List ℕ) (submission : Submission) (said : Client) → client ledger c ≡ Some said →
+    is_absorbed (state_of ledger) c submission ≡ rules.is_absorbed ledger c submission
+absorbed-state_of ledger c submission said is =
+    rw (lifted-state_of ledger c submission said is, last_minimum-state_of ledger)
+
 module _ (ledger : Ledger) (c : List ℕ) (submission : Submission) (moment : ℕ) where
   -- the two tables, test by test
   abbrev taken : Verdict
   taken = Sequenced (settled_in (state_of ledger) (Submit c submission moment) (submission_message ((state_of ledger).sequence + 1) c submission moment))
 
   same_case : (a b n l h x : Bool) → (n ≡ false → taken ≡ sequenced (rules.message ledger (Submit c submission moment))) →
+      is_absorbed (state_of ledger) c submission ≡ rules.is_absorbed ledger c submission →
       verdict_of (state_of ledger) c submission moment
       (first_fit ((a, Duplicate) ∷ (b, Refused Gap) ∷ (n, Refused Nonexistent) ∷ (l, Refused Below) ∷ (h, Refused Ahead) ∷ (x, Refused Scope) ∷ []) Admitted)
       ≡ first_case
@@ -307,15 +388,17 @@ module _ (ledger : Ledger) (c : List ℕ) (submission : Submission) (moment : �
       ∷ (l, Nacked (rules.nack ledger submission Below))
       ∷ (h, Nacked (rules.nack ledger submission Ahead))
       ∷ (x, Nacked (rules.nack ledger submission Scope))
+      ∷ (rules.is_absorbed ledger c submission, Absorbed)
       ∷ [])
       (sequenced (rules.message ledger (Submit c submission moment)))
-  same_case true b n l h x message = refl
-  same_case false true n l h x message = nack-state_of ledger submission Gap
-  same_case false false true l h x message = nack-state_of ledger submission Nonexistent
-  same_case false false false true h x message = nack-state_of ledger submission Below
-  same_case false false false false true x message = nack-state_of ledger submission Ahead
-  same_case false false false false false true message = nack-state_of ledger submission Scope
-  same_case false false false false false false message = message refl
+  same_case true b n l h x message absorbs = refl
+  same_case false true n l h x message absorbs = nack-state_of ledger submission Gap
+  same_case false false true l h x message absorbs = nack-state_of ledger submission Nonexistent
+  same_case false false false true h x message absorbs = nack-state_of ledger submission Below
+  same_case false false false false true x message absorbs = nack-state_of ledger submission Ahead
+  same_case false false false false false true message absorbs = nack-state_of ledger submission Scope
+  same_case false false false false false false message absorbs =
+      ap (λ b. cond b Absorbed taken) absorbs ∙ ap (λ v. cond (rules.is_absorbed ledger c submission) Absorbed v) (message refl)
 
   by_table : (said : Client) → client ledger c ≡ Some said → HasParts ledger c said →
       verdict_of (state_of ledger) c submission moment (outcome_by (seq ledger) (rules.minimum ledger) (rowed said) submission) ≡ rules.submission_verdict ledger c submission moment
@@ -324,7 +407,8 @@ module _ (ledger : Ledger) (c : List ℕ) (submission : Submission) (moment : �
       rw (parts.joined, parts.last, parts.nacked, parts.scopes)
       (same_case _ _ said.nacked _ _ _ (λ in_order.
       submitted-state_of ledger c submission moment (λ row there.
-      ap (λ (r : Row). r.nacked) (same_Some _ _ (sym there ∙ get-state_of ledger c ∙ ap (option_map rowed) is)) ∙ in_order)))
+      ap (λ (r : Row). r.nacked) (same_Some _ _ (sym there ∙ get-state_of ledger c ∙ ap (option_map rowed) is)) ∙ in_order))
+      (absorbed-state_of ledger c submission said is))
 
   of_joined : (said : Client) → client ledger c ≡ Some said →
       verdict_of (state_of ledger) c submission moment (outcome (state_of ledger) c submission) ≡ rules.submission_verdict ledger c submission moment
@@ -385,5 +469,5 @@ pub minimum_of : (s : State) (ledger : Ledger) → StandsFor s ledger → state.
 minimum_of s ledger stands = ap state.minimum stands.is ∙ minimum-state_of ledger
 
 pub start-stands : StandsFor start []
-unfolding state_of seq order joined past_of past.joined past.ever_joined
+unfolding state_of seq order joined last_minimum past_of past.joined past.ever_joined
 start-stands = record { is = refl }

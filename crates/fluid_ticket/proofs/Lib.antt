@@ -3,5 +3,6 @@ mod Sound
 mod Members
 mod Prepares
 pub mod Ledgers
+pub mod JoinedRows
 pub mod Heard
 pub mod Commits

@@ -14,7 +14,7 @@ minimum-le-sequence s sound =
       | Some m ↦ λ is.
           let reached = least-reached s.rows m is in
           let row = sound.rows reached.id reached.row reached.there in
-          omega (arith, reached.is, row.reference)
+          omega (arith, reached.is, row)
     ] refl
 
 -- the minimum is not above the reference of a joined client

@@ -1,37 +1,45 @@
 -- What is kept of the entries so far, the verdict of the next one in it, and what that verdict makes of it.
-use Rattle.std.specs.Prelude.{◌≡◌, ℕ, ◌+◌, ◌-◌, ◌^◌, ◌<◌, ◌≤◌, ℤ, pos, negsuc, nat_lt, nat_le, int_lt, Bool, true, false, not, ◌&&◌, if◌then◌else◌, List, [], ◌∷◌, length, Option, Some, None, is_some, IsSome, unwrap_or, option_map, refl}
-use Rattle.std.specs.Option.{option_map_or}
+use Rattle.std.specs.Prelude.{◌≡◌, ℕ, ◌+◌, ◌-◌, ◌^◌, ◌<◌, ◌≤◌, ℤ, pos, negsuc, nat_lt, nat_le, int_lt, Bool, true, false, not, ◌&&◌, ◌||◌, if◌then◌else◌, List, [], ◌∷◌, length, Option, Some, None, is_some, IsSome, unwrap_or, option_map, refl}
 use Rattle.std.specs.Coded.{Coded, code_by, coded×, coded_ℕ, coded_list}
 use Rattle.std.specs.FinMap.{empty, get, insert, remove, code}
 use Rattle.fluid_types.specs.declared.entries.Raw.{Raw}
 use Rattle.fluid_types.specs.declared.entries.Raw.TheVariants.{Join, Leave, Submit, Report}
 use Rattle.fluid_types.specs.declared.entries.Submission.{Submission}
-use Rattle.fluid_json.specs.Tree.{Tree}
+use Rattle.fluid_json.specs.Tree.{Tree, is_null}
 use Rattle.fluid_types.specs.declared.messages.Kind.{Kind}
 use Rattle.fluid_types.specs.declared.messages.Message.{Message}
 use Rattle.fluid_types.specs.declared.nacks.NackRule.TheVariants.{Gap, Nonexistent, Below, Ahead, Scope}
 use Rattle.fluid_types.specs.declared.verdicts.Verdict.{Verdict}
-use Rattle.fluid_types.specs.declared.verdicts.Verdict.TheVariants.{Sequenced, Nacked, Dropped}
+use Rattle.fluid_types.specs.declared.verdicts.Verdict.TheVariants.{Sequenced, Nacked, Dropped, Absorbed}
 use Rattle.fluid_types.specs.Ledger.{messages_of}
 use Rattle.fluid_rules.specs.Past.{is_below, count_of}
-use Rattle.fluid_rules.specs.Rules.{leaves_reference, is_summarize, submission_message, answer_message, unsettled, sequenced}
+use Rattle.fluid_rules.specs.Rules.{leaves_reference, read_as, is_summarize, is_noop, last_minimum_behind, submission_message, answer_message, unsettled, sequenced}
 use Rattle.fluid_rules.specs.declared.answers.Answer.{Answer}
 use Rattle.fluid_rules.specs.declared.answers.Answer.TheVariants.{Dropped as unanswered}
 use Rattle.fluid_clients.specs.declared.table.Row.{Row}
-use Rattle.fluid_clients.specs.Table.{Rows, Table, least, row_code}
+use Rattle.fluid_clients.specs.Table.{Rows, Table, change_row, least, least_with, row_code}
 use Rattle.fluid_ticket.specs.declared.ready.Change.{Change}
-use Rattle.fluid_ticket.specs.declared.ready.Change.TheVariants.{Nothing, Joins, Leaves, Accepts, Holds}
+use Rattle.fluid_ticket.specs.declared.ready.Change.TheVariants.{Nothing, Joins, Leaves, Accepts, Holds, Hears}
 use Rattle.fluid_ticket.specs.declared.outcome.Outcome.{Outcome}
 use Rattle.fluid_ticket.specs.declared.outcome.Outcome.TheVariants.{Duplicate, Refused, Admitted}
 
--- the last sequence number, and the row of each joined client under its id
+-- the last sequence number, the minimum of the last message, and the row of each joined client under its id
 pub record State : Type 0 where
   pub sequence : ℕ
+  pub last_minimum : ℕ
   pub rows : Rows
+
+-- as a tuple of its parts
+abbrev pub state_code : Coded State
+state_code =
+    code_by (ℕ × (ℕ × Rows)) (coded× coded_ℕ (coded× coded_ℕ (code (coded_list coded_ℕ) row_code)))
+    (λ s. (s.sequence, (s.last_minimum, s.rows)))
+    (λ parts. record { sequence = parts.0; last_minimum = parts.1.0; rows = parts.1.1 })
+    (λ _. refl)
 
 -- nothing was sequenced and nobody is joined
 abbrev pub start : State
-start = record { sequence = 0; rows = empty }
+start = record { sequence = 0; last_minimum = 0; rows = empty }
 
 -- the least reference of the joined clients, and the last sequence number where nobody is joined
 abbrev pub minimum : State → ℕ
@@ -39,32 +47,37 @@ minimum s = unwrap_or (least s.rows) s.sequence
 
 -- ---- what an entry with its verdict changes
 
--- a client that joins enters with number 0 at the minimum; a submission that was sequenced brings its number and
--- its reference; one that was refused as below the minimum brings its number and holds its client at the minimum
+-- a client that joins enters with number 0 at the minimum; a submission that was sequenced or absorbed brings its number and
+-- its reference; one that was refused as below the minimum brings its number and holds its client at the minimum; and every
+-- entry of a client is heard
 unfoldable pub change_of : State → Raw → Verdict → Change
 change_of s (Join id scopes detail moment) (Sequenced message) =
-    Joins id (record { last = 0; reference = minimum s; nacked = false; scopes = scopes })
+    Joins id (record { last = 0; reference = minimum s; nacked = false; scopes = scopes; heard = moment })
 change_of s (Leave id moment) (Sequenced message) = Leaves id
-change_of s (Submit id submission moment) (Sequenced message) = Accepts id submission.client_number (count_of message.reference)
+change_of s (Submit id submission moment) (Sequenced message) = Accepts id submission.client_number (count_of message.reference) moment
 change_of s (Submit id submission moment) (Nacked nack) =
-    if is_below nack.rule then Holds id submission.client_number (count_of nack.minimum) else Nothing
-change_of s raw verdict = Nothing
-
--- the rows with the one under an id changed; as they are where there is none
-abbrev pub change_row : List ℕ → (Row → Row) → Rows → Rows
-change_row id f rows = option_map_or (λ row. insert rows id (f row)) (get rows id) rows
+    if is_below nack.rule then Holds id submission.client_number (count_of nack.minimum) moment else Hears id moment
+change_of s (Submit id submission moment) Absorbed = Accepts id submission.client_number (read_as s.sequence submission.reference) moment
+change_of s (Submit id submission moment) Dropped = Hears id moment
+change_of s (Join id scopes detail moment) verdict = Hears id moment
+change_of s (Leave id moment) verdict = Hears id moment
+change_of s (Report summary found moment) verdict = Nothing
 
 abbrev pub changed : Change → Rows → Rows
 changed Nothing rows = rows
 changed (Joins id row) rows = insert rows id row
 changed (Leaves id) rows = remove rows id
-changed (Accepts id number reference) rows = change_row id (λ row. record row { last = number; reference = reference }) rows
-changed (Holds id number minimum) rows = change_row id (λ row. record row { last = number; reference = minimum; nacked = true }) rows
+changed (Accepts id number reference moment) rows =
+    change_row id (λ row. record row { last = number; reference = reference; heard = moment }) rows
+changed (Holds id number minimum moment) rows =
+    change_row id (λ row. record row { last = number; reference = minimum; nacked = true; heard = moment }) rows
+changed (Hears id moment) rows = change_row id (λ row. record row { heard = moment }) rows
 
 -- the state behind an entry that got this verdict
 unfoldable pub after : State → Raw → Verdict → State
 after s raw verdict = record {
   sequence = s.sequence + length (messages_of verdict);
+  last_minimum = last_minimum_behind s.last_minimum verdict;
   rows = changed (change_of s raw verdict) s.rows;
 }
 
@@ -119,11 +132,22 @@ outcome_at s (Some row) submission = outcome_by s.sequence (minimum s) row submi
 abbrev pub outcome : State → List ℕ → Submission → Outcome
 outcome s id submission = outcome_at s (get s.rows id) submission
 
+-- what the least reference would be, were the client's that of this submission, with -1 read as the last sequence number
+abbrev pub lifted : State → List ℕ → Submission → ℕ
+lifted s id submission = unwrap_or (least_with s.rows id (read_as s.sequence submission.reference)) s.sequence
+
+-- a noop that asks for no number, or that lifts the minimum to no more than the last message says
+abbrev pub is_absorbed : State → List ℕ → Submission → Bool
+is_absorbed s id submission = is_noop submission.kind && (is_null submission.contents || nat_le (lifted s id submission) s.last_minimum)
+
 -- a nack carries the submission and the minimum
 abbrev pub verdict_of : State → List ℕ → Submission → ℕ → Outcome → Verdict
 verdict_of s id submission moment Duplicate = Dropped
 verdict_of s id submission moment (Refused rule) = Nacked (record { rule = rule; operation = Some submission; minimum = pos (minimum s) })
-verdict_of s id submission moment Admitted = Sequenced (settled_in s (Submit id submission moment) (submission_message (s.sequence + 1) id submission moment))
+verdict_of s id submission moment Admitted =
+    if is_absorbed s id submission
+    then Absorbed
+    else Sequenced (settled_in s (Submit id submission moment) (submission_message (s.sequence + 1) id submission moment))
 
 -- a join of a joined client and a leave of one that isn't joined are dropped, and so is a report that isn't answered. The
 -- answer is looked at only for a report
@@ -146,6 +170,7 @@ abbrev pub HasMinimumUpTo : ℕ → Verdict → Type 0
 HasMinimumUpTo number (Sequenced m) = m.minimum ≤ number
 HasMinimumUpTo number (Nacked nack) = Unit {0}
 HasMinimumUpTo number Dropped = Unit {0}
+HasMinimumUpTo number Absorbed = Unit {0}
 
 -- ---- an entry that is prepared
 
@@ -173,8 +198,7 @@ pub record Sequencing : Type 0 where
 
 abbrev pub sequencing_code : Coded Sequencing
 sequencing_code =
-    code_by (ℕ × (Rows × ℕ)) (coded× coded_ℕ (coded× (code (coded_list coded_ℕ) row_code) coded_ℕ)) (λ q. (q.state.sequence, (q.state.rows, q.spare)))
-    (λ parts. record { state = record { sequence = parts.0; rows = parts.1.0 }; spare = parts.1.1 }) (λ _. refl)
+    code_by (State × ℕ) (coded× state_code coded_ℕ) (λ q. (q.state, q.spare)) (λ parts. record { state = parts.0; spare = parts.1 }) (λ _. refl)
 
 -- the ready is that of an entry in the state that the sequencer is in, with the room that it may need
 pub record IsPreparedIn (q : Sequencing) (ready : Prepared) : Type 0 where
@@ -189,19 +213,16 @@ abbrev pub CanApply : Change → Table → Type 0
 CanApply Nothing table = Unit {0}
 CanApply (Joins id row) table = (get table.rows id ≡ None) × (0 < table.spare)
 CanApply (Leaves id) table = Unit {0}
-CanApply (Accepts id number reference) table = IsSome (get table.rows id) × (0 < table.spare)
-CanApply (Holds id number minimum) table = IsSome (get table.rows id) × (0 < table.spare)
+CanApply (Accepts id number reference moment) table = IsSome (get table.rows id) × (0 < table.spare)
+CanApply (Holds id number minimum moment) table = IsSome (get table.rows id) × (0 < table.spare)
+CanApply (Hears id moment) table = Unit {0}
 
 -- ---- what holds of every sequencer
 
--- no reference is ahead of the order, and neither is the number of a client that is in order
-pub record IsSoundRow (sequence : ℕ) (row : Row) : Type 0 where
-  pub reference : row.reference ≤ sequence
-  pub last : row.nacked ≡ false → row.last ≤ sequence
-
+-- no reference is ahead of the order
 pub record IsSound (s : State) : Type 0 where
   pub few : s.sequence ≤ 2 ^ 53 - 1
-  pub rows : (id : List ℕ) (row : Row) → get s.rows id ≡ Some row → IsSoundRow s.sequence row
+  pub rows : (id : List ℕ) (row : Row) → get s.rows id ≡ Some row → row.reference ≤ s.sequence
 
 -- a sound state with its minimum
 pub record IsKept (s : State) (least : ℕ) : Type 0 where

@@ -9,15 +9,18 @@
 //! - `sequencer`: `Sequencer`.
 //! - `ready`: a prepared entry, `Ready`, and what it changes.
 //! - `outcome`: what becomes of a submission.
+//! - `laws`: that the rows are those of the joined clients.
 //! - `messages`: the messages of entries. `answers`: what the answers to a summary say.
 #![tactic(auto)]
 
 mod answers;
+mod laws;
 mod messages;
 mod outcome;
 mod ready;
 mod sequencer;
 
+pub use laws::rows_are_joined;
 pub use outcome::Outcome;
 pub use ready::{Change, Ready};
 pub use sequencer::Sequencer;

@@ -12,6 +12,7 @@ pub enum Outcome {
     /// It was counted already and is dropped.
     Duplicate,
     Refused(NackRule),
+    /// No rule refuses it: it is sequenced, or absorbed where it is a noop that moves nothing.
     Admitted,
 }
 

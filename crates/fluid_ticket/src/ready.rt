@@ -16,17 +16,24 @@ pub enum Change {
     Leaves {
         id: ClientId,
     },
-    /// A submission was sequenced.
+    /// A submission was sequenced or absorbed.
     Accepts {
         id: ClientId,
         number: u64,
         reference: u64,
+        moment: u64,
     },
     /// A submission was refused as below the minimum, which holds its client there.
     Holds {
         id: ClientId,
         number: u64,
         minimum: u64,
+        moment: u64,
+    },
+    /// A client that may be joined was heard of, and nothing else.
+    Hears {
+        id: ClientId,
+        moment: u64,
     },
 }
 

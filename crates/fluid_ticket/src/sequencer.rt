@@ -1,10 +1,12 @@
 // The sequencer.
-ghost use Rattle.std.specs.Prelude.{◌≡◌, ◌+◌, ◌-◌, ◌^◌, ◌<◌, ◌≤◌, ◌++◌, ◌∷◌, [], Bool, IfOk, if◌then◌else◌};
+ghost use Rattle.std.specs.Prelude.{◌≡◌, ◌+◌, ◌-◌, ◌^◌, ◌<◌, ◌≤◌, ◌++◌, ◌∷◌, [], Bool, true, false, IfOk, if◌then◌else◌};
 ghost use Rattle.fluid_rules.specs.Past.{is_below};
+ghost use Rattle.fluid_types.specs.Fits.{IsInRange};
+ghost use Rattle.fluid_types.specs.Forms.{largest};
 ghost use Rattle.fluid_types.specs.Ledger.{Ledger, seq as last_sequence};
 ghost use Rattle.fluid_rules.specs.Rules.{minimum as minimum_by_rules, verdict as verdict_by_rules, IsLegal};
 ghost use Rattle.fluid_rules.specs.Scribe.{ack_contents, refusal_contents};
-ghost use Rattle.fluid_ticket.specs.State.{start, minimum, outcome, after, changed, heard, HasMinimumUpTo, prepared, answered, IsPreparedIn, CanApply};
+ghost use Rattle.fluid_ticket.specs.State.{start, minimum, outcome, is_absorbed, lifted, after, changed, heard, HasMinimumUpTo, prepared, answered, IsPreparedIn, CanApply};
 ghost use Rattle.fluid_ticket.specs.Ledger.{StandsFor, IsAnswered};
 
 use crate::answers::{ack_contents, refusal_contents};
@@ -17,7 +19,7 @@ use fluid_clients::{Clients, Row};
 use fluid_json::{Json, NoMemory};
 use fluid_rules::{Answer, SummaryRule};
 use fluid_tree::Id;
-use fluid_types::{ClientId, Kind, NackRule, Raw, Scopes, Submission, Verdict};
+use fluid_types::{ClientId, Kind, NackRule, Offered, Raw, Scopes, Submission, Verdict};
 use std::alloc::Global;
 use std::marker::Model;
 
@@ -26,6 +28,8 @@ use std::marker::Model;
 pub struct Sequencer {
     sequence: u64,
     minimum: u64,
+    // The minimum of the last message. That of an absorbed noop is in no message.
+    last_minimum: u64,
     clients: Clients,
 }
 
@@ -37,9 +41,12 @@ impl Model for Sequencer {
 
     ghost coded = { sequencing_code };
 
-    ghost view = { λ s. record { state = record { sequence = s.sequence; rows = s.clients.rows }; spare = s.clients.spare } };
+    ghost view = { λ s. record {
+      state = record { sequence = s.sequence; last_minimum = s.last_minimum; rows = s.clients.rows };
+      spare = s.clients.spare;
+    } };
 
-    ghost invariant = { λ s. IsKept (record { sequence = s.sequence; rows = s.clients.rows }) s.minimum };
+    ghost invariant = { λ s. IsKept (record { sequence = s.sequence; last_minimum = s.last_minimum; rows = s.clients.rows }) s.minimum };
 }
 
 impl Sequencer {
@@ -51,6 +58,7 @@ impl Sequencer {
         Sequencer {
             sequence: 0,
             minimum: 0,
+            last_minimum: 0,
             clients: Clients::new(alloc),
         }
     }
@@ -58,12 +66,13 @@ impl Sequencer {
     /// The last sequence number, 0 before the first message.
     pub fn seq(&self) -> u64
         ensures is { result ≡ self.now.state.sequence }
+        ensures few { result ≤ 2 ^ 53 - 1 }
         ensures stands { (ledger : Ledger) → StandsFor self.now.state ledger → result ≡ last_sequence ledger }
     {
         self.sequence
     }
 
-    /// The minimum sequence number.
+    /// The minimum sequence number. An absorbed noop may have raised it above that of the last message.
     pub fn min(&self) -> u64
         ensures is { result ≡ minimum self.now.state }
         ensures stands { (ledger : Ledger) → StandsFor self.now.state ledger → result ≡ minimum_by_rules ledger }
@@ -82,7 +91,8 @@ impl Sequencer {
     /// The scribe's answer is looked at only for a report, and only for one on a number that a message of the order has: any other
     /// report is dropped.
     pub fn prepare(&mut self, alloc: Global, raw: &Raw, answer: &Answer) -> Result<Ready, NoMemory>
-        requires { self.old.state.sequence < 2 ^ 53 - 1 }
+        requires few { self.old.state.sequence < 2 ^ 53 - 1 }
+        requires in_range { IsInRange raw.now }
         ensures same { self.new.state ≡ self.old.state }
         ensures spare { self.old.spare ≤ self.new.spare }
         ensures ready { IfOk result (λ ready. ready ≡ prepared self.old.state (heard self.old.state raw.now answer.now) raw.now) }
@@ -127,9 +137,15 @@ impl Sequencer {
     {
         let (verdict, change) = ready.into_parts();
         apply(&mut self.clients, change);
-        if let Verdict::Sequenced(message) = &verdict {
-            self.sequence = message.number;
-            self.minimum = message.minimum;
+        match &verdict {
+            Verdict::Sequenced(message) => {
+                self.sequence = message.number;
+                self.minimum = message.minimum;
+                self.last_minimum = message.minimum;
+            }
+            Verdict::Absorbed => self.minimum = self.clients.min().unwrap_or(self.sequence),
+            // A nack and a dropped entry leave number and minimum.
+            _ => {}
         }
         verdict
     }
@@ -146,7 +162,7 @@ impl Sequencer {
         ensures { (answer : Answer) → IfOk result (λ ready. ready ≡ prepared self.now.state answer (Raw.Join id.now scopes detail.now moment)) }
     {
         if self.clients.row(id).is_some() {
-            return Ok(Ready::new(Verdict::Dropped, Change::Nothing));
+            return dropped(alloc, id, moment);
         }
         let data = join_data(alloc, id, detail)?;
         // Who joins at the minimum doesn't change it.
@@ -157,6 +173,7 @@ impl Sequencer {
             reference: self.minimum,
             nacked: false,
             scopes,
+            heard: moment,
         };
         Ok(Ready::new(Verdict::Sequenced(message), Change::Joins { id, row }))
     }
@@ -166,7 +183,7 @@ impl Sequencer {
         ensures { (answer : Answer) → IfOk result (λ ready. ready ≡ prepared self.now.state answer (Raw.Leave id.now moment)) }
     {
         if self.clients.row(id).is_none() {
-            return Ok(Ready::new(Verdict::Dropped, Change::Nothing));
+            return dropped(alloc, id, moment);
         }
         let data = leave_data(alloc, id)?;
         let number = self.sequence + 1;
@@ -183,13 +200,20 @@ impl Sequencer {
         submission: &Submission,
         moment: u64,
     ) -> Result<Ready, NoMemory>
-        requires { self.now.state.sequence < 2 ^ 53 - 1 }
+        requires few { self.now.state.sequence < 2 ^ 53 - 1 }
+        requires in_range { IsInRange (Raw.Submit id.now submission.now moment) }
         ensures { (answer : Answer) → IfOk result (λ ready. ready ≡ prepared self.now.state answer (Raw.Submit id.now submission.now moment)) }
     {
         match self.outcome(id, submission) {
-            Outcome::Duplicate => Ok(Ready::new(Verdict::Dropped, Change::Nothing)),
+            Outcome::Duplicate => dropped(alloc, id, moment),
             Outcome::Refused(rule) => self.refuse(alloc, rule, id, submission, moment),
-            Outcome::Admitted => self.admit(alloc, id, submission, moment),
+            Outcome::Admitted => {
+                if self.absorbs(id, submission) {
+                    self.absorb(alloc, id, submission, moment)
+                } else {
+                    self.admit(alloc, id, submission, moment)
+                }
+            }
         }
     }
 
@@ -276,8 +300,51 @@ impl Sequencer {
     {
         let operation = submission.copy(alloc)?;
         let refusal = nack(rule, operation, self.minimum);
-        let change = change_refused(alloc, rule, id, submission.client_number, self.minimum)?;
+        let number = submission.client_number;
+        let change = change_refused(alloc, rule, id, number, self.minimum, moment)?;
         Ok(Ready::new(Verdict::Nacked(refusal), change))
+    }
+
+    // Whether a submission that no rule refuses is a noop that asks for no number, or that lifts the minimum to no more than
+    // the last message says.
+    fn absorbs(&self, id: &ClientId, submission: &Submission) -> bool
+        requires { outcome self.now.state id.now submission.now ≡ Outcome.Admitted }
+        ensures { result ≡ is_absorbed self.now.state id.now submission.now }
+    {
+        matches!(submission.kind, Offered::Noop)
+            && (submission.contents.is_null() || self.lifted(id, submission) <= self.last_minimum)
+    }
+
+    // What the least reference would be, were the client's that of this submission.
+    fn lifted(&self, id: &ClientId, submission: &Submission) -> u64
+        requires { outcome self.now.state id.now submission.now ≡ Outcome.Admitted }
+        ensures { result ≡ lifted self.now.state id.now submission.now }
+    {
+        // Of the negative references only -1 is admitted.
+        let reference = given_or(submission.reference, self.sequence);
+        self.clients.min_with(id, reference)
+    }
+
+    // A noop that takes no number.
+    fn absorb(
+        &self,
+        alloc: Global,
+        id: &ClientId,
+        submission: &Submission,
+        moment: u64,
+    ) -> Result<Ready, NoMemory>
+        requires admitted { outcome self.now.state id.now submission.now ≡ Outcome.Admitted }
+        requires absorbed { is_absorbed self.now.state id.now submission.now ≡ true }
+        ensures { (answer : Answer) → IfOk result (λ ready. ready ≡ prepared self.now.state answer (Raw.Submit id.now submission.now moment)) }
+    {
+        let id = id.copy(alloc)?;
+        let change = Change::Accepts {
+            id,
+            number: submission.client_number,
+            reference: given_or(submission.reference, self.sequence),
+            moment,
+        };
+        Ok(Ready::new(Verdict::Absorbed, change))
     }
 
     fn admit(
@@ -287,46 +354,57 @@ impl Sequencer {
         submission: &Submission,
         moment: u64,
     ) -> Result<Ready, NoMemory>
-        requires numbered { self.now.state.sequence < 2 ^ 53 - 1 }
+        requires few { self.now.state.sequence < 2 ^ 53 - 1 }
+        requires in_range { submission.now.client_number ≤ largest }
         requires admitted { outcome self.now.state id.now submission.now ≡ Outcome.Admitted }
+        requires moves { is_absorbed self.now.state id.now submission.now ≡ false }
         ensures { (answer : Answer) → IfOk result (λ ready. ready ≡ prepared self.now.state answer (Raw.Submit id.now submission.now moment)) }
     {
         let number = self.sequence + 1;
         // Of the negative references only -1 is admitted.
         let reference = given_or(submission.reference, number);
-        let others = self.clients.min_without(id).unwrap_or(reference);
-        let minimum = reference.min(others);
+        let minimum = self.clients.min_with(id, reference);
         let message = submitted(alloc, id, submission, number, minimum, moment)?;
         let id = id.copy(alloc)?;
         let change = Change::Accepts {
             id,
             number: submission.client_number,
             reference,
+            moment,
         };
         Ok(Ready::new(Verdict::Sequenced(message), change))
     }
 }
 
-// A refusal below the minimum holds its client there; no other one changes a row.
+// An entry of a client that changes nothing but when it was heard of.
+fn dropped(alloc: Global, id: &ClientId, moment: u64) -> Result<Ready, NoMemory>
+    ensures { IfOk result (λ ready. ready ≡ record { verdict = Verdict.Dropped; change = Change.Hears id.now moment }) }
+{
+    let id = id.copy(alloc)?;
+    Ok(Ready::new(Verdict::Dropped, Change::Hears { id, moment }))
+}
+
+// A refusal below the minimum holds its client there; of any other one it is only heard.
 fn change_refused(
     alloc: Global,
     rule: NackRule,
     id: &ClientId,
     number: u64,
     minimum: u64,
+    moment: u64,
 ) -> Result<Change, NoMemory>
-    ensures { IfOk result (λ change. change ≡ (if is_below rule then Change.Holds id.now number minimum else Change.Nothing)) }
+    ensures { IfOk result (λ change.
+        change ≡ (if is_below rule then Change.Holds id.now number minimum moment else Change.Hears id.now moment)) }
 {
+    let id = id.copy(alloc)?;
     match rule {
-        NackRule::Below => {
-            let id = id.copy(alloc)?;
-            Ok(Change::Holds {
-                id,
-                number,
-                minimum,
-            })
-        }
-        _ => Ok(Change::Nothing),
+        NackRule::Below => Ok(Change::Holds {
+            id,
+            number,
+            minimum,
+            moment,
+        }),
+        _ => Ok(Change::Hears { id, moment }),
     }
 }
 
@@ -345,11 +423,20 @@ fn apply(clients: &mut Clients, change: Change)
             id,
             number,
             reference,
-        } => clients.accept(&id, number, reference),
+            moment,
+        } => {
+            clients.accept(&id, number, reference);
+            clients.hear(&id, moment);
+        }
         Change::Holds {
             id,
             number,
             minimum,
-        } => clients.mark(&id, number, minimum),
+            moment,
+        } => {
+            clients.mark(&id, number, minimum);
+            clients.hear(&id, moment);
+        }
+        Change::Hears { id, moment } => clients.hear(&id, moment),
     }
 }

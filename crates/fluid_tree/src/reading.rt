@@ -11,12 +11,9 @@ use crate::id::Id;
 use crate::names::Names;
 use crate::object::{Object, ObjectEntries, ObjectEntry};
 use crate::writing::sort_key;
-use fluid_json::{Bytes, NoMemory, Text};
+use fluid_json::{Bytes, LARGEST, NoMemory, Text};
 use std::alloc::Global;
 use std::str;
-
-/// The greatest length that an object may have: 2^53 - 1.
-const MOST_BYTES: u64 = 9_007_199_254_740_991;
 
 /// The object that these bytes are.
 #[tactic(auto, unfolding(crate::specs::Reading::object_read))]
@@ -82,7 +79,7 @@ fn digits_len(bytes: &[u8]) -> usize
     count
 }
 
-// The number that the digits write, where it is a length.
+// The number that the digits write, where it is a length, which is at most 2^53 - 1.
 fn decimal_value(digits: &[u8]) -> Option<u64>
     ensures value { result ≡ (if nat_lt (2 ^ 53 - 1) (decimal_value digits.now) then None else Some (decimal_value digits.now)) }
     ensures small { IfSome result (λ value. value < 2 ^ 53) }
@@ -90,7 +87,7 @@ fn decimal_value(digits: &[u8]) -> Option<u64>
     let mut value = 0u64;
     for digit in digits {
         value = value * 10 + u64::from(digit.saturating_sub(b'0'));
-        if value > MOST_BYTES {
+        if value > LARGEST {
             return None;
         }
     }

@@ -75,9 +75,9 @@ module _ {E : Type 0} where
       rw other (bearing_less seats by xs le all.1)
 
   -- a seat that there isn't has entered nothing
-  pub made_by-signed : (seats by : ℕ) (l : List (Numbered E)) → seats ≤ by → IsSigned seats l → made_by by l ≡ []
-  made_by-signed seats by l le s =
-      ap (made_by by) s.2 ∙ made_by-append by (of_nobody s.0) s.1 ∙ ap (λ k. k ++ made_by by s.1) (made_by-of_nobody by s.0) ∙ bearing_less seats by s.1 le s.3
+  pub made_by-signed : (began : List E) (seats by : ℕ) (l : List (Numbered E)) → seats ≤ by → IsSigned began seats l → made_by by l ≡ []
+  made_by-signed began seats by l le s =
+      ap (made_by by) s.1 ∙ made_by-append by (of_nobody began) s.0 ∙ ap (λ k. k ++ made_by by s.0) (made_by-of_nobody by began) ∙ bearing_less seats by s.0 le s.2
 
   all_by_more : (seats more : ℕ) (l : List (Numbered E)) → seats ≤ more → AllBySeats seats l → AllBySeats more l
   all_by_more seats more [] le all = tt
@@ -87,13 +87,13 @@ module _ {E : Type 0} where
   all_by-push seats [] number e below all = ((number, below, refl), tt)
   all_by-push seats (x ∷ xs) number e below all = (all.0, all_by-push seats xs number e below all.1)
 
-  pub signed-more : (seats more : ℕ) (l : List (Numbered E)) → seats ≤ more → IsSigned seats l → IsSigned more l
-  signed-more seats more l le s = (s.0, s.1, s.2, all_by_more seats more s.1 le s.3)
+  pub signed-more : (began : List E) (seats more : ℕ) (l : List (Numbered E)) → seats ≤ more → IsSigned began seats l → IsSigned began more l
+  signed-more began seats more l le s = (s.0, s.1, all_by_more seats more s.0 le s.2)
 
-  pub signed-push : (seats : ℕ) (l : List (Numbered E)) (number : ℕ) (e : E) → number < seats → IsSigned seats l → IsSigned seats (l ++ by_seat number e ∷ [])
-  signed-push seats l number e below s =
+  pub signed-push : (began : List E) (seats : ℕ) (l : List (Numbered E)) (number : ℕ) (e : E) → number < seats → IsSigned began seats l → IsSigned began seats (l ++ by_seat number e ∷ [])
+  signed-push began seats l number e below s =
       let new = by_seat number e ∷ [] in
-      (s.0, s.1 ++ new, ap (λ k. k ++ new) s.2 ∙ append_assoc (of_nobody s.0) s.1 new, all_by-push seats s.1 number e below s.3)
+      (s.0 ++ new, ap (λ k. k ++ new) s.1 ∙ append_assoc (of_nobody began) s.0 new, all_by-push seats s.0 number e below s.2)
 
-  pub signed-of_nobody : (seats : ℕ) (l : List E) → IsSigned seats (of_nobody l)
-  signed-of_nobody seats l = (l, [], sym (append-nil (of_nobody l)), tt)
+  pub signed-of_nobody : (began : List E) (seats : ℕ) → IsSigned began seats (of_nobody began)
+  signed-of_nobody began seats = ([], sym (append-nil (of_nobody began)), tt)

@@ -6,15 +6,14 @@ use Rattle.fluid_turn.specs.declared.view.Numbered.{Numbered}
 use Rattle.fluid_turn.specs.declared.view.Stage.TheVariants.{Idle}
 use Rattle.fluid_turn.specs.Entries.{IsPrefix, by_seat, of_nobody, entries, made_by}
 use Rattle.fluid_turn.specs.Seats.{IsHistory}
-use Rattle.fluid_turn.specs.Rule.{StandsFixed}
 use Rattle.fluid_turn.specs.Steps.{idle, adding, HasNews, HasBegun}
 use Rattle.fluid_turn.specs.Seated.{IsSeated, IsHolding}
 use Rattle.fluid_turn.proofs.Lists.{prefix_refl, entries-append, entries-of_nobody, made_by-append, made_by-own, made_by-of_nobody, signed-of_nobody, signed-push, signed-more}
 
-module _ {T E : Type 0} (stands : T → List E → Type 0) where
+module _ {T E : Type 0} (stands : T → List E → Type 0) (began : List E) where
   -- who notes in its turn has seen the whole list
-  pub still_holding : (number ticket : ℕ) (m w : Me (Option T) (View E)) → IsHolding stands number ticket m → HasNews stands number m w → IsHolding stands number ticket w
-  still_holding number ticket m w h news = subst (IsHolding stands number ticket) (sym news.1) record {
+  pub still_holding : (number ticket : ℕ) (m w : Me (Option T) (View E)) → IsHolding stands began number ticket m → HasNews stands began number m w → IsHolding stands began number ticket w
+  still_holding number ticket m w h news = subst (IsHolding stands began number ticket) (sym news.1) record {
     holds = h.holds;
     below = h.below;
     slot = h.slot;
@@ -24,52 +23,49 @@ module _ {T E : Type 0} (stands : T → List E → Type 0) where
   }
 
   -- the turn had the list that has one entry more
-  pub history-push : (l : List (Numbered E)) (number : ℕ) (e : E) (x : T) → stands x (entries l ++ e ∷ []) → IsHistory stands l → IsHistory stands (l ++ by_seat number e ∷ [])
+  pub history-push : (l : List (Numbered E)) (number : ℕ) (e : E) (x : T) → stands x (entries l ++ e ∷ []) → IsHistory stands began l → IsHistory stands began (l ++ by_seat number e ∷ [])
   history-push l number e x st h = record {
     stood = (x, subst (stands x) (sym (entries-append l (by_seat number e ∷ []))) st);
-    signed = (let seats = h.signed.0 + number + 1 in (seats, signed-push seats l number e (omega arith) (signed-more h.signed.0 seats l (omega arith) h.signed.1)));
+    signed = (let seats = h.signed.0 + number + 1 in (seats, signed-push began seats l number e (omega arith) (signed-more began h.signed.0 seats l (omega arith) h.signed.1)));
   }
 
   -- who enters in its turn, having noted, has seen the whole list
-  pub entering_holding : (number ticket : ℕ) (m w : Me (Option T) (View E)) (e : E) (x : T) → IsHolding stands number ticket m → w ≡ (adding number (e ∷ []) m.0, m.1) → m.0.seen ≡ m.0.all → stands x (entries m.0.all ++ e ∷ [])
-      → IsHolding stands number ticket w
+  pub entering_holding : (number ticket : ℕ) (m w : Me (Option T) (View E)) (e : E) (x : T) → IsHolding stands began number ticket m → w ≡ (adding number (e ∷ []) m.0, m.1) → m.0.seen ≡ m.0.all → stands x (entries m.0.all ++ e ∷ [])
+      → IsHolding stands began number ticket w
   entering_holding number ticket m w e x h is noted st =
       let l = m.0.all in
       let new = by_seat number e ∷ [] in
-      subst (IsHolding stands number ticket) (sym is) record {
+      subst (IsHolding stands began number ticket) (sym is) record {
         holds = h.holds;
         below = h.below;
         slot = h.slot;
         own = ap (λ k. k ++ e ∷ []) (h.own ∙ ap (made_by number) noted) ∙ sym (made_by-append number l new ∙ ap (λ k. made_by number l ++ k) (made_by-own number e));
-        history = history-push l number e x st (subst (IsHistory stands) noted h.history);
+        history = history-push l number e x st (subst (IsHistory stands began) noted h.history);
         saw = prefix_refl (l ++ new);
       }
 
   -- the first value stands for the list with which the turn begins
-  pub begun_stands : {F : Type 0} (fixed : T → F) (first value : T) (m w : Me (Option T) (View E)) → HasBegun stands first m → w ≡ (m.0, (0, Some value) ∷ rest m.1) → first ≡ value
-      → (x : T) × (w.1 ≡ (0, Some x) ∷ []) × StandsFixed stands fixed (fixed first) x (entries w.0.all)
-  begun_stands fixed first value m w begun is same =
-      let l = begun.0 in
-      let all : w.0.all ≡ of_nobody l = ap (λ (m : Me (Option T) (View E)). m.0.all) is ∙ ap (λ (m : Me (Option T) (View E)). m.0.all) begun.2 in
-      let there : stands value l = subst (λ x. stands x l) same begun.1 in (
+  pub begun_stands : (value : T) (m w : Me (Option T) (View E)) → HasBegun began m → w ≡ (m.0, (0, Some value) ∷ rest m.1) → stands value began
+      → (x : T) × (w.1 ≡ (0, Some x) ∷ []) × stands x (entries w.0.all)
+  begun_stands value m w begun is st =
+      let all : w.0.all ≡ of_nobody began = ap (λ (m : Me (Option T) (View E)). m.0.all) is ∙ ap (λ (m : Me (Option T) (View E)). m.0.all) begun in (
         value,
-        ap (λ (m : Me (Option T) (View E)). m.1) is ∙ ap (λ (m : Me (Option T) (View E)). (0, Some value) ∷ rest m.1) begun.2,
-        (subst (stands value) (sym (ap entries all ∙ entries-of_nobody l)) there, ap fixed (sym same)),
+        ap (λ (m : Me (Option T) (View E)). m.1) is ∙ ap (λ (m : Me (Option T) (View E)). (0, Some value) ∷ rest m.1) begun,
+        subst (stands value) (sym (ap entries all ∙ entries-of_nobody began)) st,
       )
 
   -- the first seat
-  pub begun_seated : (first value : T) (number : ℕ) (m u w : Me (Option T) (View E)) → HasBegun stands first m → u ≡ (m.0, (0, Some value) ∷ rest m.1) → w ≡ (idle u.0, []) → IsSeated stands number w
-  begun_seated first value number m u w begun back is =
-      let l = begun.0 in
-      let P : Me (Option T) (View E) → Type 0 = IsSeated stands number in
-      let bare : IsSeated stands number (record { seen = of_nobody l; mine = []; stage = Idle; all = []; told = [] }, []) = record {
+  pub begun_seated : (value : T) (number : ℕ) (m u w : Me (Option T) (View E)) → HasBegun began m → u ≡ (m.0, (0, Some value) ∷ rest m.1) → w ≡ (idle u.0, []) → stands value began → IsSeated stands began number w
+  begun_seated value number m u w begun back is st =
+      let P : Me (Option T) (View E) → Type 0 = IsSeated stands began number in
+      let bare : IsSeated stands began number (record { seen = of_nobody began; mine = []; stage = Idle; all = []; told = [] }, []) = record {
         between = refl;
         empty = refl;
-        own = sym (made_by-of_nobody number l);
-        history = record { stood = (first, subst (stands first) (sym (entries-of_nobody l)) begun.1); signed = (0, signed-of_nobody 0 l) };
+        own = sym (made_by-of_nobody number began);
+        history = record { stood = (value, subst (stands value) (sym (entries-of_nobody began)) st); signed = (0, signed-of_nobody began 0) };
       } in
       let now : Me (Option T) (View E) → Me (Option T) (View E) = λ m. (idle m.0, []) in
-      subst P (sym (is ∙ ap now back ∙ ap now begun.2)) bare
+      subst P (sym (is ∙ ap now back ∙ ap now begun)) bare
 
 slot_of : {T : Type 0} → List (ℕ × Option T) → Option T
 slot_of [] = None

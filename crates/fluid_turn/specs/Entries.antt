@@ -37,7 +37,6 @@ module _ {E : Type 0} where
   AllBySeats seats [] = Unit {0}
   AllBySeats seats (x ∷ xs) = ((n : ℕ) × (n < seats) × (x.number ≡ Some n)) × AllBySeats seats xs
 
-  -- the list begins with entries of nobody, and each one behind them bears the number of one of so many seats
-  abbrev pub IsSigned : ℕ → List (Numbered E) → Type 0
-  IsSigned seats l =
-      (began : List E) × (since : List (Numbered E)) × (l ≡ of_nobody began ++ since) × AllBySeats seats since
+  -- the list begins with these entries of nobody, and each one behind them bears the number of one of so many seats
+  abbrev pub IsSigned : List E → ℕ → List (Numbered E) → Type 0
+  IsSigned began seats l = (since : List (Numbered E)) × (l ≡ of_nobody began ++ since) × AllBySeats seats since

@@ -15,10 +15,6 @@ use Rattle.fluid_turn.specs.Seats.{Stood}
 abbrev pub Homes : Type 0 → Type 0
 Homes T = List (mathlib.Core.Option.Option (Option T))
 
--- a value stands for a list, and has what never changes
-abbrev pub StandsFixed : {T E F : Type 0} → (T → List E → Type 0) → (T → F) → F → T → List E → Type 0
-StandsFixed stands fixed f x l = stands x l × (fixed x ≡ f)
-
 -- the ticket that a seat has out. Who makes the turn has the first
 abbrev pub ticket_of : Stage → Option ℕ
 ticket_of Opening = Some 0
@@ -54,14 +50,12 @@ module _ {E : Type 0} where
   EachPrefix [] l = Unit {0}
   EachPrefix (x ∷ xs) l = IsPrefix x l × EachPrefix xs l
 
-module _ {T E : Type 0} (stands : T → List E → Type 0) (first : T) where
+module _ {T E : Type 0} (stands : T → List E → Type 0) (began : List E) where
   -- What a seat's stage says. A ticket out is at least the one that is served. Who has the turn has the served one and
-  -- the whole list; who makes the turn finds the slot empty, and the list is one for which the first value stands
+  -- the whole list; who makes the turn finds the slot empty, and the list is the one with which it begins
   abbrev pub Knows : ℕ → ℕ → Homes T → List (Numbered E) → List (Numbered E) → Stage → Type 0
   Knows ticket serving homes log all Opening =
-      (serving ≡ 0) × (0 < ticket)
-      × (get_elem? homes 0 ≡ some (some None))
-      × ((l : List E) × stands first l × (log ≡ of_nobody l))
+      (serving ≡ 0) × (0 < ticket) × (get_elem? homes 0 ≡ some (some None)) × (log ≡ of_nobody began)
   Knows ticket serving homes log all Idle = Unit {0}
   Knows ticket serving homes log all (Waiting n) = (serving ≤ n) × (n < ticket)
   Knows ticket serving homes log all (Holding n) = (n ≡ serving) × (serving < ticket) × (all ≡ log)
@@ -81,12 +75,14 @@ module _ {T E : Type 0} (stands : T → List E → Type 0) (first : T) where
       ((x : T) × (get_elem? homes 0 ≡ some (some (Some x))) × stands x (entries log))
       ⊎ ((by : ℕ) × (v : View E) × (get_elem? views by ≡ some v) × InHand v.stage)
 
-  -- The words are how many tickets were drawn, which one is served, and how many entries the list has
+  -- The words are how many tickets were drawn, which one is served, and how many entries the list has. Those of the
+  -- bays, on which waiters sleep, mean nothing
   pub record Kept (s : State (Option T) (View E)) : Type 0 where
     pub ticket : ℕ
     pub serving : ℕ
     pub log : List (Numbered E)
-    pub words : s.words ≡ ticket ∷ serving ∷ length log ∷ []
+    pub bays : List ℕ
+    pub words : s.words ≡ ticket ∷ serving ∷ length log ∷ bays
     -- as many tickets were drawn as were served and are out, and those out differ
     pub counted : serving + tickets_out s.views ≡ ticket
     pub apart : (i j n : ℕ) → HasTicket s.views i n → HasTicket s.views j n → i ≡ j
@@ -94,11 +90,11 @@ module _ {T E : Type 0} (stands : T → List E → Type 0) (first : T) where
     pub placed : Placed s.homes log s.views
     pub fits : (by : ℕ) (v : View E) → get_elem? s.views by ≡ some v → Fits ticket serving s.homes log by v
     -- the turn began with an entry, or it bears the number of one seat, where seats that have ended count as well
-    pub signed : IsSigned (length s.views) log
+    pub signed : IsSigned began (length s.views) log
 
--- the table has the three words and the one slot
+-- the table has the three words, the 512 bays and the one slot
 abbrev pub IsTurnTable : TableId → Type 0
-IsTurnTable id = (id.words ≡ 3) × (id.slots ≡ 1)
+IsTurnTable id = (id.words ≡ 515) × (id.slots ≡ 1)
 
 -- a seat of the turn's table
 abbrev pub IsAtTable : TableId → TableId → Type 0

@@ -55,18 +55,21 @@ module _ {T E : Type 0} where
       (x : T) × (l : List (Numbered E)) × (w ≡ (holding ticket l v, (0, Some x) ∷ [])) × stands x (entries l) × IsPrefix v.seen l
 
   -- the seat has noted the turn's list
-  abbrev pub HasNews : (T → List E → Type 0) → ℕ → Me (Option T) (View E) → Me (Option T) (View E) → Type 0
-  HasNews stands number m w =
-      (l : List (Numbered E)) × (w ≡ (noting l m.0, m.1)) × IsNews number m.0 l × IsHistory stands l
+  abbrev pub HasNews : (T → List E → Type 0) → List E → ℕ → Me (Option T) (View E) → Me (Option T) (View E) → Type 0
+  HasNews stands began number m w =
+      (l : List (Numbered E)) × (w ≡ (noting l m.0, m.1)) × IsNews number m.0 l × IsHistory stands began l
 
   -- the seat is new
-  abbrev pub HasArrived : (T → List E → Type 0) → Me (Option T) (View E) → Type 0
-  HasArrived stands w = (l : List (Numbered E)) × (w ≡ (newcomer l, [])) × IsHistory stands l
+  abbrev pub HasArrived : (T → List E → Type 0) → List E → Me (Option T) (View E) → Type 0
+  HasArrived stands began w = (l : List (Numbered E)) × (w ≡ (newcomer l, [])) × IsHistory stands began l
 
   -- the seat that makes the turn has seen the list with which it begins, and has the slot, which is empty
-  abbrev pub HasBegun : (T → List E → Type 0) → T → Me (Option T) (View E) → Type 0
-  HasBegun stands first w =
-      (l : List E) × stands first l × (w ≡ (holding 0 (of_nobody l) (newcomer (of_nobody l)), (0, None) ∷ []))
+  abbrev pub HasBegun : List E → Me (Option T) (View E) → Type 0
+  HasBegun began w = w ≡ (holding 0 (of_nobody began) (newcomer (of_nobody began)), (0, None) ∷ [])
+
+  -- what a step tells of a value and its list follows from what the rule keeps of them
+  abbrev pub Follows : (T → List E → Type 0) → (T → List E → Type 0) → Type 0
+  Follows kept tells = (x : T) (l : List E) → kept x l → tells x l
 
 module _ {T E : Type 0} where
   -- the ticket n is the seat's, where the word was still that number
@@ -80,8 +83,8 @@ module _ {T E : Type 0} where
       × ((t : ℕ) → m.0.stage ≡ Waiting t → n ≢ t → w ≡ m)
 
   -- the seat has seen the list, which begins with all that it had seen and was told of
-  abbrev pub noticed : (T → List E → Type 0) → ℕ → Step (Option T) → Me (Option T) (View E) → ℕ → Me (Option T) (View E) → Type 0
-  noticed stands number st m n w = HasNews stands number m w
+  abbrev pub noticed : (T → List E → Type 0) → List E → ℕ → Step (Option T) → Me (Option T) (View E) → ℕ → Me (Option T) (View E) → Type 0
+  noticed stands began number st m n w = HasNews stands began number m w
 
   abbrev pub added : ℕ → List E → Step (Option T) → Me (Option T) (View E) → ℕ → Me (Option T) (View E) → Type 0
   added number es st m n w = w ≡ (adding number es m.0, m.1)
@@ -89,17 +92,16 @@ module _ {T E : Type 0} where
   abbrev pub passed : Step (Option T) → Me (Option T) (View E) → ℕ → Me (Option T) (View E) → Type 0
   passed st m n w = w ≡ (idle m.0, [])
 
+  -- the seat is as it was
+  abbrev pub rang : Step (Option T) → Me (Option T) (View E) → ℕ → Me (Option T) (View E) → Type 0
+  rang st m n w = w ≡ m
+
   -- the seat's own entries are those that bear its number
   abbrev pub recalled : ℕ → Step (Option T) → Me (Option T) (View E) → ℕ → Me (Option T) (View E) → Type 0
   recalled number st m n w = (w ≡ m) × (m.0.mine ≡ made_by number m.0.seen)
 
-  abbrev pub arrived : (T → List E → Type 0) → Step (Option T) → Me (Option T) (View E) → ℕ → Me (Option T) (View E) → Type 0
-  arrived stands st m n w = HasArrived stands w
+  abbrev pub arrived : (T → List E → Type 0) → List E → Step (Option T) → Me (Option T) (View E) → ℕ → Me (Option T) (View E) → Type 0
+  arrived stands began st m n w = HasArrived stands began w
 
-  -- the seat that makes the turn has seen a list for which the first value stands
-  abbrev pub began : (T → List E → Type 0) → Option T → Step (Option T) → Me (Option T) (View E) → ℕ → Me (Option T) (View E) → Type 0
-  began stands first st m n w = (x : T) → first ≡ Some x → HasBegun stands x w
-
--- a value stands for the list, and what never changes of it is what was picked
-abbrev pub StandsFor : {T E F : Type 0} → (T → List E → Type 0) → (T → F) → Option F → T → List E → Type 0
-StandsFor {F = F} stands fixed terms x l = stands x l × ((f : F) → terms ≡ Some f → fixed x ≡ f)
+  abbrev pub started : List E → Step (Option T) → Me (Option T) (View E) → ℕ → Me (Option T) (View E) → Type 0
+  started began st m n w = HasBegun began w

@@ -1,7 +1,7 @@
 //! The value of a turn, in hand.
 ghost use Rattle.std.specs.Prelude.{◌≡◌, ◌+◌, ◌++◌, [], ◌∷◌, length};
 ghost use Rattle.fluid_turn.specs.Entries.{entries};
-ghost use Rattle.fluid_turn.specs.Seats.{HasNoted, noted, entered};
+ghost use Rattle.fluid_turn.specs.Seats.{HasNoted, noted, entered, IsOfTurn};
 
 use crate::chronicle::Chronicle;
 use crate::seat::Seat;
@@ -9,6 +9,7 @@ use crate::steps;
 use crate::steps::Token;
 use crate::turn::Turn;
 use std::marker::{Brand, Model};
+use std::snapshot::Snapshot;
 
 /// The value of a turn, moved out of its slot, for as long as one seat has the turn. It can't be let go: it is spent by `give` or `end`.
 pub struct Held<'a, T: Chronicle> {
@@ -25,15 +26,15 @@ pub struct Place<'a, T: Chronicle> {
 
 impl<'a, T: Chronicle> Model for Place<'a, T> {
     ghost use Rattle.std.specs.Prelude.{◌≡◌};
-    ghost use Rattle.fluid_turn.specs.Seats.{InTurn};
+    ghost use Rattle.fluid_turn.specs.Seats.{InTurn, StandsFixed};
 
     ghost Value = { InTurn T.Entry T.Fixed };
 
     ghost use Rattle.fluid_turn.specs.Seated.{in_turn_of, IsHolding};
 
-    ghost view = { λ p. in_turn_of p.token.table_id p.token.id p.turn.now.fixed p.token.me.0 };
+    ghost view = { λ p. in_turn_of p.turn.now p.token.id p.token.me.0 };
 
-    ghost invariant = { λ p. (p.token.table_id ≡ p.turn.now.id) × IsHolding T.stands p.token.id p.ticket p.token.me };
+    ghost invariant = { λ p. (p.token.table_id ≡ p.turn.now.id) × IsHolding (StandsFixed T.stands T.fixed p.turn.now.fixed) p.turn.now.began p.token.id p.ticket p.token.me };
 }
 
 impl<'a, T: Chronicle> Held<'a, T> {
@@ -41,6 +42,7 @@ impl<'a, T: Chronicle> Held<'a, T> {
     pub fn note(&mut self)
         ensures value { self.new.value ≡ self.old.value }
         ensures noted { self.new.place ≡ noted self.old.place }
+        ensures history { IsOfTurn T.stands T.fixed self.new.place.seat.turn self.new.place.seat.seen }
     {
         self.place.note();
     }
@@ -49,7 +51,7 @@ impl<'a, T: Chronicle> Held<'a, T> {
     pub fn enter(&mut self, entry: &T::Entry)
         requires noted { HasNoted self.old.place }
         requires grown { T.stands self.old.value (entries self.old.place.list ++ entry.now ∷ []) }
-        requires fixed { T.fixed self.old.value ≡ self.old.place.fixed }
+        requires fixed { T.fixed self.old.value ≡ self.old.place.seat.turn.fixed }
         ensures value { self.new.value ≡ self.old.value }
         ensures entered { self.new.place ≡ entered entry.now self.old.place }
         ensures list { entries self.new.place.list ≡ entries self.old.place.list ++ entry.now ∷ [] }
@@ -61,7 +63,7 @@ impl<'a, T: Chronicle> Held<'a, T> {
     /// Passes the turn on, with the value as it is.
     pub fn give(self) -> Seat<T>
         requires stands { T.stands self.value (entries self.place.list) }
-        requires fixed { T.fixed self.value ≡ self.place.fixed }
+        requires fixed { T.fixed self.value ≡ self.place.seat.turn.fixed }
         ensures { result ≡ self.entry.place.seat }
     {
         let Held { value, place } = self;
@@ -84,7 +86,8 @@ impl<'a, T: Chronicle> Held<'a, T> {
 
 impl<'a, T: Chronicle> Place<'a, T> {
     fn note(&mut self)
-        ensures { self.new ≡ noted self.old }
+        ensures noted { self.new ≡ noted self.old }
+        ensures history { IsOfTurn T.stands T.fixed self.new.seat.turn self.new.seat.seen }
     {
         let turn = self.turn;
         steps::note::<T, Brand>(&turn.table.shared, &mut self.token);
@@ -94,7 +97,7 @@ impl<'a, T: Chronicle> Place<'a, T> {
     fn enter(&mut self, entry: &T::Entry, count: u64)
         requires noted { HasNoted self.old }
         requires counted { count ≡ length self.old.list + 1 }
-        requires grown { (x : T) × T.stands x (entries self.old.list ++ entry.now ∷ []) × (T.fixed x ≡ self.old.fixed) }
+        requires grown { (x : T) × T.stands x (entries self.old.list ++ entry.now ∷ []) × (T.fixed x ≡ self.old.seat.turn.fixed) }
         ensures { self.new ≡ entered entry.now self.old }
     {
         let turn = self.turn;
@@ -103,7 +106,7 @@ impl<'a, T: Chronicle> Place<'a, T> {
 
     fn give(self, value: T) -> Seat<T>
         requires stands { T.stands value (entries self.list) }
-        requires fixed { T.fixed value ≡ self.fixed }
+        requires fixed { T.fixed value ≡ self.seat.turn.fixed }
         ensures { result ≡ self.entry.seat }
     {
         let Place {
@@ -115,6 +118,9 @@ impl<'a, T: Chronicle> Place<'a, T> {
         let empty = words.exchange(&mut token, 0, Some(value));
         let None = empty else { unreachable!() };
         steps::pass_on(words, &mut token, ticket);
-        Seat { token }
+        Seat {
+            token,
+            turn: Snapshot::of(turn),
+        }
     }
 }

@@ -2,17 +2,16 @@
 //! slot, with the list of entries that it stands for, and passes the turn on when that list is the longer one.
 //!
 //! `chronicle` says what a value has to be, `seat` what a user knows between turns, `turn` is the lock, and `held` the value in hand.
-//! `view`, `rule` and `steps` are how it stands on a table of three words and one slot.
+//! `view`, `origin`, `rule` and `steps` are how it stands on a table of words and one slot.
 #![tactic(auto)]
 
 mod apart;
 mod chronicle;
 mod held;
+mod origin;
 mod rule;
 mod seat;
 mod steps;
-#[cfg(test)]
-mod tests;
 mod turn;
 mod view;
 

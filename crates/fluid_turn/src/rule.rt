@@ -1,63 +1,47 @@
 //! The rule of a turn's table, and the steps that keep it.
-ghost use Rattle.std.specs.Prelude.{ℕ, List, [], Option, None};
-ghost use Rattle.fluid_turn.specs.Rule.{Kept, StandsFixed};
-ghost use Rattle.fluid_turn.specs.Steps.{opening_view, newcomer, told_of, drew, looked, noticed, added, passed, recalled, arrived, began, StandsFor};
+ghost use Rattle.std.specs.Prelude.{ℕ, List, []};
+ghost use Rattle.fluid_turn.specs.Seats.{StandsFixed};
+ghost use Rattle.fluid_turn.specs.Rule.{Kept};
+ghost use Rattle.fluid_turn.specs.Steps.{opening_view, newcomer, told_of, drew, looked, noticed, added, passed, rang, recalled, arrived, started};
 
 use crate::chronicle::Chronicle;
+use crate::origin::Origin;
 use crate::view::View;
 use atomic_table::{Join, Play, Split, TableRule};
 use std::marker::{Brand, PhantomData};
-use std::snapshot::Snapshot;
 
 pub struct TurnRule<T> {
     marker: PhantomData<T>,
 }
 
-// The table is told the first value.
-impl<T: Chronicle> TableRule<Option<T>, View<T::Entry>, Snapshot<T>> for TurnRule<T> {
-    ghost holds = { λ key. Kept (StandsFixed T.stands T.fixed (T.fixed key.value)) key.value };
+// The table is told what the turn began with.
+impl<T: Chronicle> TableRule<Option<T>, View<T::Entry>, Origin<T::Entry, T::Fixed>>
+    for TurnRule<T> {
+    ghost holds = { λ key. Kept (StandsFixed T.stands T.fixed key.fixed) key.began };
 
     ghost first = { λ _. opening_view };
 }
 
-// The number of the seat that makes a step. The proof of the call picks it, as with the three traits below.
-pub trait OfSeat {
-    ghost number: { ℕ };
-}
-
-impl OfSeat for Brand {
-    ghost number = { 0 };
-}
-
-// The same with the entry that it enters.
-pub trait OfEntry<E> {
+// What a step speaks of beside the table: the number of the seat that makes it, the entry that it enters, the list with
+// which the turn began, and what is told of a value and its list. The proof of each call picks them.
+pub trait Picks<T, E> {
     ghost number: { ℕ };
 
     ghost entry: { List E };
+
+    ghost began: { List E };
+
+    ghost tells: { T → List E → Type 0 };
 }
 
-impl<E> OfEntry<E> for Brand {
+impl<T, E> Picks<T, E> for Brand {
     ghost number = { 0 };
 
     ghost entry = { [] };
-}
 
-// What never changes of the value.
-pub trait OfFixed<F> {
-    ghost fixed: { Option F };
-}
+    ghost began = { [] };
 
-impl<F> OfFixed<F> for Brand {
-    ghost fixed = { None };
-}
-
-// The value with which the turn begins.
-pub trait OfValue<T> {
-    ghost value: { Option T };
-}
-
-impl<T> OfValue<T> for Brand {
-    ghost value = { None };
+    ghost tells = { λ _ _. Unit {0} };
 }
 
 // Draws a ticket.
@@ -72,8 +56,8 @@ pub(crate) struct Look<W> {
     marker: PhantomData<W>,
 }
 
-impl<T: Chronicle, W: OfFixed<T::Fixed>> Play<Option<T>, View<T::Entry>> for Look<W> {
-    ghost then = { looked (StandsFor T.stands T.fixed W.fixed) };
+impl<T: Chronicle, W: Picks<T, T::Entry>> Play<Option<T>, View<T::Entry>> for Look<W> {
+    ghost then = { looked W.tells };
 }
 
 // Notes the entries so far.
@@ -81,8 +65,8 @@ pub(crate) struct Note<W> {
     marker: PhantomData<W>,
 }
 
-impl<T: Chronicle, W: OfSeat> Play<Option<T>, View<T::Entry>> for Note<W> {
-    ghost then = { noticed T.stands W.number };
+impl<T: Chronicle, W: Picks<T, T::Entry>> Play<Option<T>, View<T::Entry>> for Note<W> {
+    ghost then = { noticed W.tells W.began W.number };
 }
 
 // Counts an entry.
@@ -90,7 +74,7 @@ pub(crate) struct Enter<W> {
     marker: PhantomData<W>,
 }
 
-impl<T: Chronicle, W: OfEntry<T::Entry>> Play<Option<T>, View<T::Entry>> for Enter<W> {
+impl<T: Chronicle, W: Picks<T, T::Entry>> Play<Option<T>, View<T::Entry>> for Enter<W> {
     ghost then = { added W.number W.entry };
 }
 
@@ -101,20 +85,29 @@ impl<T: Chronicle> Play<Option<T>, View<T::Entry>> for PassOn {
     ghost then = { passed };
 }
 
+// Changes a bay.
+pub(crate) struct Ring;
+
+impl<T: Chronicle> Play<Option<T>, View<T::Entry>> for Ring {
+    ghost then = { rang };
+}
+
 // Recalls which entries are the seat's own.
 pub(crate) struct Recall<W> {
     marker: PhantomData<W>,
 }
 
-impl<T: Chronicle, W: OfSeat> Play<Option<T>, View<T::Entry>> for Recall<W> {
+impl<T: Chronicle, W: Picks<T, T::Entry>> Play<Option<T>, View<T::Entry>> for Recall<W> {
     ghost then = { recalled W.number };
 }
 
 // Takes a new seat.
-pub(crate) struct Arrive;
+pub(crate) struct Arrive<W> {
+    marker: PhantomData<W>,
+}
 
-impl<T: Chronicle> Play<Option<T>, View<T::Entry>> for Arrive {
-    ghost then = { arrived T.stands };
+impl<T: Chronicle, W: Picks<T, T::Entry>> Play<Option<T>, View<T::Entry>> for Arrive<W> {
+    ghost then = { arrived W.tells W.began };
 }
 
 // Begins the turn.
@@ -122,8 +115,8 @@ pub(crate) struct Begin<W> {
     marker: PhantomData<W>,
 }
 
-impl<T: Chronicle, W: OfValue<T>> Play<Option<T>, View<T::Entry>> for Begin<W> {
-    ghost then = { began T.stands W.value };
+impl<T: Chronicle, W: Picks<T, T::Entry>> Play<Option<T>, View<T::Entry>> for Begin<W> {
+    ghost then = { started W.began };
 }
 
 // Cuts a seat in two: the second has seen as much, and has no entries of its own.

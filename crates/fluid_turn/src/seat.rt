@@ -1,39 +1,43 @@
 //! What one user of a turn knows of it.
 ghost use Rattle.std.specs.Prelude.{◌≡◌, ◌≢◌};
 ghost use Rattle.fluid_turn.specs.Entries.{made_by};
-ghost use Rattle.fluid_turn.specs.Seats.{IsHistory};
+ghost use Rattle.fluid_turn.specs.Seats.{IsOfTurn, StandsFixed};
 
 use crate::apart::apart;
 use crate::chronicle::Chronicle;
 use crate::steps::Token;
+use crate::turn::Turn;
 use std::marker::Model;
+use std::snapshot::Snapshot;
 
-/// What one user of a turn knows of it: its own number, the entries that it has seen, and those of them that it entered.
-/// It has no bytes. Who lets it go gives up what it knew.
+/// What one user of a turn knows of it: which turn it is, its own number, the entries that it has seen, and those of them that
+/// it entered. It has no bytes. Who lets it go gives up what it knew.
 pub struct Seat<T: Chronicle> {
     pub(crate) token: Token<T>,
+    pub(crate) turn: Snapshot<Turn<T>>,
 }
 
 impl<T: Chronicle> Model for Seat<T> {
-    ghost use Rattle.fluid_turn.specs.Seats.{Known};
+    ghost use Rattle.std.specs.Prelude.{◌≡◌};
+    ghost use Rattle.fluid_turn.specs.Seats.{Known, StandsFixed};
 
-    ghost Value = { Known T.Entry };
+    ghost Value = { Known T.Entry T.Fixed };
 
     ghost use Rattle.fluid_turn.specs.Seated.{known_of, IsSeated};
 
-    ghost view = { λ s. known_of s.token.table_id s.token.id s.token.me.0 };
+    ghost view = { λ s. known_of s.turn.value s.token.id s.token.me.0 };
 
-    ghost invariant = { λ s. IsSeated T.stands s.token.id s.token.me };
+    ghost invariant = { λ s. (s.token.table_id ≡ s.turn.value.id) × IsSeated (StandsFixed T.stands T.fixed s.turn.value.fixed) s.turn.value.began s.token.id s.token.me };
 }
 
 impl<T: Chronicle> Seat<T> {
     ghost use Rattle.fluid_turn.specs.Seated.{known_of, IsSeated};
 
-    /// What holds of every seat: its own entries are those of the seen ones that bear its number, in order, and some value
-    /// stood for the seen list once.
+    /// What holds of every seat: its own entries are those of the seen ones that bear its number, in order, and what it has
+    /// seen is a list that its turn had once.
     pub fn know(&self)
         ensures own { self.now.mine ≡ made_by self.now.number self.now.seen }
-        ensures history { IsHistory T.stands self.now.seen }
+        ensures history { IsOfTurn T.stands T.fixed self.now.turn self.now.seen }
     {
         let _ = &self.token;
     }
@@ -48,16 +52,17 @@ impl<T: Chronicle> Seat<T> {
     }
 
     pub(crate) fn into_token(self) -> Token<T>
-        ensures known { known_of result.table_id result.id result.me.0 ≡ self }
-        ensures seated { IsSeated T.stands result.id result.me }
+        ensures turn { result.table_id ≡ self.turn.id }
+        ensures known { known_of self.turn result.id result.me.0 ≡ self }
+        ensures seated { IsSeated (StandsFixed T.stands T.fixed self.turn.fixed) self.turn.began result.id result.me }
     {
-        let Self { token } = self;
+        let Self { token, turn: _ } = self;
         token
     }
 }
 
 impl<T: Chronicle> Drop for Seat<T> {
     fn drop(self) {
-        let Self { token: _ } = self;
+        let Self { token: _, turn: _ } = self;
     }
 }

@@ -1,35 +1,46 @@
 //! The steps of a turn, one function each, on the table that keeps its rule.
-ghost use Rattle.std.specs.Prelude.{◌≡◌, ◌≢◌, ◌+◌, ◌<◌, ℕ, Some, [], ◌∷◌, ◌++◌, length};
+ghost use Rattle.std.specs.Prelude.{◌≡◌, ◌≢◌, ◌+◌, ◌<◌, ◌%◌, ℕ, Some, [], ◌∷◌, ◌++◌, length};
 ghost use Rattle.fluid_turn.specs.declared.view.Stage.TheVariants.{Idle, Waiting, Holding};
 ghost use Rattle.fluid_turn.specs.Entries.{entries, made_by};
-ghost use Rattle.fluid_turn.specs.Rule.{IsTurnTable, IsAtTable, StandsFixed};
-ghost use Rattle.fluid_turn.specs.Steps.{opening_view, newcomer, waiting, idle, adding, told_of, HasValue, HasNews, HasArrived, HasBegun, StandsFor};
+ghost use Rattle.fluid_turn.specs.Seats.{StandsFixed};
+ghost use Rattle.fluid_turn.specs.Rule.{IsTurnTable, IsAtTable};
+ghost use Rattle.fluid_turn.specs.Steps.{opening_view, newcomer, waiting, idle, adding, told_of, HasValue, HasNews, HasArrived, HasBegun, Follows};
 
 use crate::apart::apart;
 use crate::chronicle::Chronicle;
+use crate::origin::Origin;
 use crate::rule::{
-    Arrive, Begin, Cut, Draw, Enter, Look, Note, OfEntry, OfFixed, OfSeat, OfValue, PassOn, Recall,
-    Tell, TurnRule,
+    Arrive, Begin, Cut, Draw, Enter, Look, Note, PassOn, Picks, Recall, Ring, Tell, TurnRule,
 };
 use crate::view::View;
 use atomic_table::{Seat, Shared};
+use std::hint::spin_loop;
 use std::marker::Brand;
-use std::snapshot::Snapshot;
 use std::sync::Wait;
 
-// The words: how many tickets were drawn, which one is served, and how many entries the list has.
-const TICKET: usize = 0;
+// The words: how many tickets were drawn, which one is served, how many entries the list has, and the bays, on which
+// those sleep who wait with a ticket.
+pub(crate) const TICKET: usize = 0;
 
-const SERVING: usize = 1;
+pub(crate) const SERVING: usize = 1;
 
-const COUNT: usize = 2;
+pub(crate) const COUNT: usize = 2;
+
+const BAYS: usize = 3;
+
+const BAY_COUNT: u64 = 512;
+
+pub(crate) const WORDS: usize = 515;
+
+// How often a waiter looks before it sleeps.
+const LOOKS: u64 = 20;
 
 pub(crate) type Token<T> = Seat<Option<T>, View<<T as Chronicle>::Entry>>;
 
 pub(crate) type Words<T> = Shared<
     Option<T>,
     View<<T as Chronicle>::Entry>,
-    Snapshot<T>,
+    Origin<<T as Chronicle>::Entry, <T as Chronicle>::Fixed>,
     TurnRule<T>,
 >;
 
@@ -53,57 +64,94 @@ pub(crate) fn draw<T: Chronicle, R: Wait>(rt: &R, words: &Words<T>, token: &mut 
     unreachable!()
 }
 
+// The bay of those who wait with this ticket.
+fn bay_of(ticket: u64) -> usize
+    ensures below { result < WORDS }
+    ensures behind { COUNT < result }
+{
+    BAYS + (ticket % BAY_COUNT) as usize
+}
+
 // Looks once whether the ticket is served. Where it is, the value is out with the token.
-fn look<T: Chronicle, W: OfFixed<T::Fixed>>(
+fn look<T: Chronicle, W: Picks<T, T::Entry>>(
     words: &Words<T>,
     token: &mut Token<T>,
     ticket: u64,
 ) -> u64
     requires turn { IsAtTable words.now.table_id token.old.table_id }
-    requires fixed { W.fixed ≡ Some (T.fixed words.now.key.value) }
+    requires tells { Follows (StandsFixed T.stands T.fixed words.now.key.fixed) W.tells }
     requires waits { (token.old.me.0.stage ≡ Waiting ticket) × (token.old.me.1 ≡ []) }
     ensures same { (token.new.table_id ≡ token.old.table_id) × (token.new.id ≡ token.old.id) }
-    ensures served { result ≡ ticket → HasValue (StandsFor T.stands T.fixed W.fixed) ticket token.old.me.0 token.new.me }
+    ensures served { result ≡ ticket → HasValue W.tells ticket token.old.me.0 token.new.me }
     ensures other { result ≢ ticket → token.new.me ≡ token.old.me }
 {
     words.load::<Look<W>>(token, SERVING)
 }
 
+// Looks a few times whether the ticket is served.
+fn watch<T: Chronicle>(words: &Words<T>, ticket: u64) -> bool
+    requires { IsTurnTable words.now.table_id }
+{
+    for _ in 0..LOOKS {
+        if words.peek(SERVING) == ticket {
+            return true;
+        }
+        spin_loop();
+    }
+    false
+}
+
+// Wakes who sleeps in the bay of this ticket.
+fn ring<T: Chronicle>(words: &Words<T>, token: &mut Token<T>, ticket: u64)
+    requires turn { IsAtTable words.now.table_id token.old.table_id }
+    ensures same { (token.new.table_id ≡ token.old.table_id) × (token.new.id ≡ token.old.id) }
+    ensures view { token.new.me ≡ token.old.me }
+{
+    let bay = bay_of(ticket);
+    words.fetch_add::<Ring>(token, bay, 1);
+    words.wake_all(bay);
+}
+
 // Waits until the ticket is served.
-pub(crate) fn wait<T: Chronicle, W: OfFixed<T::Fixed>, R: Wait>(
+pub(crate) fn wait<T: Chronicle, W: Picks<T, T::Entry>, R: Wait>(
     rt: &R,
     words: &Words<T>,
     token: &mut Token<T>,
     ticket: u64,
 )
     requires turn { IsAtTable words.now.table_id token.old.table_id }
-    requires fixed { W.fixed ≡ Some (T.fixed words.now.key.value) }
+    requires tells { Follows (StandsFixed T.stands T.fixed words.now.key.fixed) W.tells }
     requires waits { (token.old.me.0.stage ≡ Waiting ticket) × (token.old.me.1 ≡ []) }
     ensures same { (token.new.table_id ≡ token.old.table_id) × (token.new.id ≡ token.old.id) }
-    ensures served { HasValue (StandsFor T.stands T.fixed W.fixed) ticket token.old.me.0 token.new.me }
+    ensures served { HasValue W.tells ticket token.old.me.0 token.new.me }
 {
+    let bay = bay_of(ticket);
+    let _served = watch(words, ticket);
     for _ in rt.forever() {
+        let bell = words.peek(bay);
         let serving = look::<T, W>(words, token, ticket);
         if serving == ticket {
             return;
         }
-        words.park(rt, SERVING, (serving % (1 << 32)) as u32);
+        words.park(rt, bay, (bell % (1 << 32)) as u32);
     }
     unreachable!()
 }
 
 // Notes the entries so far.
-pub(crate) fn note<T: Chronicle, W: OfSeat>(words: &Words<T>, token: &mut Token<T>)
+pub(crate) fn note<T: Chronicle, W: Picks<T, T::Entry>>(words: &Words<T>, token: &mut Token<T>)
     requires turn { IsAtTable words.now.table_id token.old.table_id }
     requires seat { W.number ≡ token.old.id }
+    requires began { W.began ≡ words.now.key.began }
+    requires tells { Follows (StandsFixed T.stands T.fixed words.now.key.fixed) W.tells }
     ensures same { (token.new.table_id ≡ token.old.table_id) × (token.new.id ≡ token.old.id) }
-    ensures noted { HasNews T.stands token.old.id token.old.me token.new.me }
+    ensures noted { HasNews W.tells W.began token.old.id token.old.me token.new.me }
 {
     words.load::<Note<W>>(token, COUNT);
 }
 
 // Counts the entry by which the value has just grown. The entry itself is for the proof alone.
-pub(crate) fn enter<T: Chronicle, W: OfEntry<T::Entry>>(
+pub(crate) fn enter<T: Chronicle, W: Picks<T, T::Entry>>(
     words: &Words<T>,
     token: &mut Token<T>,
     entry: &T::Entry,
@@ -113,8 +161,7 @@ pub(crate) fn enter<T: Chronicle, W: OfEntry<T::Entry>>(
     requires seat { (W.number ≡ token.old.id) × (W.entry ≡ entry.now ∷ []) }
     requires holds { (t : ℕ) × (token.old.me.0.stage ≡ Holding t) }
     requires counted { count ≡ length token.old.me.0.all + 1 }
-    requires stood { (x : T) × StandsFixed T.stands T.fixed (T.fixed words.now.key.value) x
-        (entries token.old.me.0.all ++ entry.now ∷ []) }
+    requires stood { (x : T) × StandsFixed T.stands T.fixed words.now.key.fixed x (entries token.old.me.0.all ++ entry.now ∷ []) }
     ensures same { (token.new.table_id ≡ token.old.table_id) × (token.new.id ≡ token.old.id) }
     ensures entered { token.new.me ≡ (adding token.old.id (entry.now ∷ []) token.old.me.0, token.old.me.1) }
 {
@@ -122,24 +169,32 @@ pub(crate) fn enter<T: Chronicle, W: OfEntry<T::Entry>>(
     words.store::<Enter<W>>(token, COUNT, count);
 }
 
-// Serves the next ticket, with the value at home again.
+// Serves the next ticket, with the value at home again, and wakes who sleeps with it.
+//
+// No wake is lost. Who waits reads the number of its bay, looks which ticket is served, and sleeps only while the bay has that
+// number. Who passes on stores the ticket, adds one to the ticket's bay and wakes who sleeps there. Where the waiter's look
+// didn't see the ticket, it stands before that store, and its reading of the bay too, so that the bay has another number
+// behind the addition: a waiter that slept before it is woken, and one that was about to sleep doesn't. While one ticket waits
+// its bay grows at most once for each ticket before it, by fewer than 2^32, so that the low 32 bits, by which one sleeps,
+// differ too. With no more waiters than bays each sleeps alone; else those of one bay are woken together, and sleep again.
+// Who draws a ticket behind the look at the tickets finds it served, so that nobody need be woken where none was drawn.
 pub(crate) fn pass_on<T: Chronicle>(words: &Words<T>, token: &mut Token<T>, ticket: u64)
     requires turn { IsAtTable words.now.table_id token.old.table_id }
     requires holds { (token.old.me.0.stage ≡ Holding ticket) × (ticket < u64.MAX) }
     requires stands { (x : T) × (token.old.me.1 ≡ (0, Some x) ∷ [])
-        × StandsFixed T.stands T.fixed (T.fixed words.now.key.value) x (entries token.old.me.0.all) }
+        × StandsFixed T.stands T.fixed words.now.key.fixed x (entries token.old.me.0.all) }
     ensures same { (token.new.table_id ≡ token.old.table_id) × (token.new.id ≡ token.old.id) }
     ensures passed { token.new.me ≡ (idle token.old.me.0, []) }
 {
-    words.store::<PassOn>(token, SERVING, ticket + 1);
-    // Who draws a ticket after this look finds it served, so that only those who drew before it may sleep.
-    if words.peek(TICKET) != ticket + 1 {
-        words.wake_all(SERVING);
+    let next = ticket + 1;
+    words.store::<PassOn>(token, SERVING, next);
+    if words.peek(TICKET) != next {
+        ring(words, token, next);
     }
 }
 
 // Recalls which entries are the seat's own.
-fn recall<T: Chronicle, W: OfSeat>(words: &Words<T>, token: &mut Token<T>)
+fn recall<T: Chronicle, W: Picks<T, T::Entry>>(words: &Words<T>, token: &mut Token<T>)
     requires turn { IsAtTable words.now.table_id token.old.table_id }
     requires seat { W.number ≡ token.old.id }
     ensures same { (token.new.table_id ≡ token.old.table_id) × (token.new.id ≡ token.old.id) }
@@ -175,23 +230,25 @@ pub(crate) fn tell<T: Chronicle>(words: &Words<T>, token: &mut Token<T>, other: 
 }
 
 // A new seat that has seen the entries so far.
-pub(crate) fn arrive<T: Chronicle>(words: &Words<T>) -> Token<T>
+pub(crate) fn arrive<T: Chronicle, W: Picks<T, T::Entry>>(words: &Words<T>) -> Token<T>
     requires turn { IsTurnTable words.now.table_id }
-    ensures seat { (result.table_id ≡ words.now.table_id) × HasArrived T.stands result.me }
+    requires began { W.began ≡ words.now.key.began }
+    requires tells { Follows (StandsFixed T.stands T.fixed words.now.key.fixed) W.tells }
+    ensures seat { (result.table_id ≡ words.now.table_id) × HasArrived W.tells W.began result.me }
     ensures own { made_by result.id result.me.0.seen ≡ [] }
 {
-    let (_, mut token) = words.load_new_seat::<Arrive>(COUNT);
+    let (_, mut token) = words.load_new_seat::<Arrive<W>>(COUNT);
     recall::<T, Brand>(words, &mut token);
     token
 }
 
 // Begins the turn. The token holds the empty slot of the value.
-pub(crate) fn begin<T: Chronicle, W: OfValue<T>>(words: &Words<T>, token: &mut Token<T>)
+pub(crate) fn begin<T: Chronicle, W: Picks<T, T::Entry>>(words: &Words<T>, token: &mut Token<T>)
     requires turn { IsAtTable words.now.table_id token.old.table_id }
-    requires value { W.value ≡ Some words.now.key.value }
+    requires began { W.began ≡ words.now.key.began }
     requires opens { token.old.me ≡ (opening_view, []) }
     ensures same { (token.new.table_id ≡ token.old.table_id) × (token.new.id ≡ token.old.id) }
-    ensures began { HasBegun T.stands words.now.key.value token.new.me }
+    ensures began { HasBegun W.began token.new.me }
 {
     words.load::<Begin<W>>(token, COUNT);
 }

@@ -3,7 +3,7 @@ use Rattle.std.proofs.Common.{◌≡◌, ◌+◌, ◌≤◌, arith, [], ◌∷�
 use Rattle.std.proofs.lemmas.List.{map-append}
 use Rattle.fluid_types.specs.declared.entries.Raw.{Raw}
 use Rattle.fluid_types.specs.declared.verdicts.Verdict.{Verdict}
-use Rattle.fluid_types.specs.declared.verdicts.Verdict.TheVariants.{Sequenced, Nacked, Dropped}
+use Rattle.fluid_types.specs.declared.verdicts.Verdict.TheVariants.{Sequenced, Nacked, Dropped, Absorbed}
 use Rattle.fluid_types.specs.Ledger.{Ledger, messages_of, order, seq, raws}
 
 pub order-append : (first second : Ledger) → order (first ++ second) ≡ order first ++ order second
@@ -27,6 +27,7 @@ messages_few : (verdict : Verdict) → length (messages_of verdict) ≤ 1
 messages_few (Sequenced message) = omega arith
 messages_few (Nacked nack) = omega arith
 messages_few Dropped = omega arith
+messages_few Absorbed = omega arith
 
 -- no more messages than entries
 pub seq-le_length : (ledger : Ledger) → seq ledger ≤ length ledger

@@ -5,6 +5,7 @@ pub mod Forms
 pub mod Ledger
 pub mod Messages
 pub mod Names
+pub mod Order
 pub mod Printed
 pub mod Quorum
 pub mod QuorumExamples

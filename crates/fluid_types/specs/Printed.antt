@@ -17,7 +17,7 @@ use Rattle.fluid_types.specs.declared.messages.Message.{Message}
 use Rattle.fluid_types.specs.declared.nacks.NackRule.{NackRule}
 use Rattle.fluid_types.specs.declared.nacks.Nack.{Nack}
 use Rattle.fluid_types.specs.declared.verdicts.Verdict.{Verdict}
-use Rattle.fluid_types.specs.declared.verdicts.Verdict.TheVariants.{Sequenced, Nacked, Dropped}
+use Rattle.fluid_types.specs.declared.verdicts.Verdict.TheVariants.{Sequenced, Nacked, Dropped, Absorbed}
 
 -- ---- members
 
@@ -158,6 +158,7 @@ unfoldable pub verdict_rows : Raw → Verdict → List Row
 verdict_rows raw (Sequenced m) = row field.Sequenced (message_tree m) ∷ []
 verdict_rows raw (Nacked n) = row field.ClientId (or_null text (client_of raw)) ∷ row field.Nacked (nack_tree n) ∷ []
 verdict_rows raw Dropped = row field.Dropped (boolean true) ∷ []
+verdict_rows raw Absorbed = row field.Absorbed (boolean true) ∷ []
 
 abbrev pub verdict_tree : Raw → Verdict → Tree
 verdict_tree raw verdict = object (members (verdict_rows raw verdict))

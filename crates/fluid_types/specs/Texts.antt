@@ -13,6 +13,7 @@ use Rattle.fluid_types.specs.declared.nacks.NackRule.TheVariants.{Gap, Nonexiste
 
 -- the name of a member or an argument
 unfoldable pub name_of : Field → List ℕ
+name_of field.Absorbed = codes "absorbed"
 name_of field.ApprovalSequenceNumber = codes "approvalSequenceNumber"
 name_of field.CheckpointSequenceNumber = codes "checkpointSequenceNumber"
 name_of field.Client = codes "client"

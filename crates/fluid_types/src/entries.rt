@@ -1,5 +1,6 @@
 // Raw entries: what clients and the scribe hand to a document, before it has a place in the order.
 ghost use Rattle.std.specs.Prelude.{◌≡◌, IfOk};
+ghost use Rattle.fluid_types.specs.Fits.{is_in_range};
 ghost use Rattle.fluid_types.specs.declared.entries.Raw.TheVariants.{Join, Submit};
 
 use crate::ClientId;
@@ -93,7 +94,20 @@ pub enum Raw {
     },
 }
 
+/// The largest number of the protocol: the last up to which each whole number is a double.
+const LARGEST: u64 = 9_007_199_254_740_991;
+
 impl Raw {
+    /// Whether its client number, where it has one, is at most 2^53 - 1, as in each entry that a record spells.
+    pub fn is_in_range(&self) -> bool
+        ensures { result ≡ is_in_range self.now }
+    {
+        match self {
+            Raw::Submit { submission, .. } => submission.client_number <= LARGEST,
+            Raw::Join { .. } | Raw::Leave { .. } | Raw::Report { .. } => true,
+        }
+    }
+
     pub fn copy(&self, alloc: Global) -> Result<Raw, NoMemory>
         ensures { IfOk result (λ copy. copy ≡ self.now) }
     {

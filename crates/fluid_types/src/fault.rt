@@ -8,6 +8,7 @@ use std::alloc::{AllocError, AllocFailed, Global};
 /// The members and arguments of records, messages, nacks, events, summaries and blobs, and `message` itself.
 #[derive(Clone, Copy, Debug, PartialEq, Eq)]
 pub enum Field {
+    Absorbed,
     ApprovalSequenceNumber,
     CheckpointSequenceNumber,
     Client,
@@ -107,6 +108,7 @@ impl Field {
         ensures { result.now ≡ name_of self }
     {
         match self {
+            Field::Absorbed => "absorbed",
             Field::ApprovalSequenceNumber => "approvalSequenceNumber",
             Field::CheckpointSequenceNumber => "checkpointSequenceNumber",
             Field::Client => "client",

@@ -9,6 +9,7 @@ ghost use Rattle.fluid_types.specs.Names.{is_name_byte, is_name, IsName, read_na
 ghost use Rattle.fluid_types.specs.declared.names.NameFault.TheVariants.{NoMemory as no_memory};
 
 use fluid_json::NoMemory;
+use fluid_table::Key;
 use std::alloc::{AllocError, Global};
 use std::cmp::Ordering;
 use std::marker::Model;
@@ -180,6 +181,14 @@ impl Ord for ClientId {
     }
 }
 
+impl Key for ClientId {
+    ghost text_of = { λ id. id };
+
+    fn text(&self) -> &str {
+        self.as_str()
+    }
+}
+
 /// The name of a document.
 #[derive(Drop)]
 pub struct DocName {
@@ -214,6 +223,14 @@ impl DocName {
     {
         let name = self.name.copy(alloc)?;
         Ok(DocName { name })
+    }
+}
+
+impl Key for DocName {
+    ghost text_of = { λ name. name };
+
+    fn text(&self) -> &str {
+        self.as_str()
     }
 }
 

@@ -13,6 +13,8 @@ pub enum Verdict {
     Nacked(Nack),
     /// It repeats what stands already: no client is told of it.
     Dropped,
+    /// A noop that raises no minimum or asks for no number: its client is known to have seen so much, and no client is told.
+    Absorbed,
 }
 
 impl Verdict {
@@ -29,6 +31,7 @@ impl Verdict {
                 Ok(Verdict::Nacked(nack))
             }
             Verdict::Dropped => Ok(Verdict::Dropped),
+            Verdict::Absorbed => Ok(Verdict::Absorbed),
         }
     }
 }

@@ -15,7 +15,7 @@ use Rattle.fluid_ticket.specs.Ledger.{row_of, state_of, StandsFor}
 use Rattle.fluid_ticket.proofs.Ledgers.{joined-state_of}
 use Rattle.fluid_core.proofs.Entered.{stands-sequencer}
 use Rattle.fluidd.specs.declared.document.Document.{Document}
-use Rattle.fluidd.specs.declared.limits.Limits.{Limits}
+use Rattle.fluid_rules.specs.declared.limits.Limits.{Limits}
 use Rattle.fluid_rules.specs.Counted.{is_counted, is_new_client}
 use Rattle.fluidd.specs.Input.{limit_refusal}
 use Rattle.fluidd.specs.Documents.{limit_refusal_by, Stands, is_new_in}

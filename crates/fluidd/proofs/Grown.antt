@@ -7,7 +7,7 @@ use Rattle.fluid_types.specs.Ledger.{Ledger}
 use Rattle.fluid_types.specs.declared.entries.Raw.{Raw}
 use Rattle.fluid_rules.specs.Rules.{verdict, ledger}
 use Rattle.fluid_rules.proofs.Legal.{ledger-push}
-use Rattle.fluidd.specs.declared.limits.Limits.{Limits}
+use Rattle.fluid_rules.specs.declared.limits.Limits.{Limits}
 use Rattle.std.proofs.Common.{◌==◌, Bool, false, Result, Ok, Err, length}
 use Rattle.std.proofs.Common.{⊎_elim}
 use Rattle.fluid_json.specs.Unless.{IsUnless}

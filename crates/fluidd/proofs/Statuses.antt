@@ -9,7 +9,7 @@ use Rattle.fluid_pipe.specs.declared.stop.Stop.{Stop}
 use Rattle.fluid_pipe.specs.declared.stop.Stop.TheVariants as stop
 use Rattle.fluid_pipe.proofs.Advances.{appends-none}
 use Rattle.fluid_pipe.proofs.Refused.{not_both, refused-more, wrote-begun, wrote-interrupted, wrote-refused, wrote-whole}
-use Rattle.fluidd.specs.declared.limits.Limits.{Limits}
+use Rattle.fluid_rules.specs.declared.limits.Limits.{Limits}
 use Rattle.fluidd.specs.declared.refusal.Why.{Why}
 use Rattle.fluidd.specs.Output.{Sequences, code_of, lines-none, meaning, status_of}
 

@@ -7,7 +7,7 @@ use Rattle.fluid_types.specs.declared.fault.CodecFault.{CodecFault}
 use Rattle.fluid_types.specs.Records.{raw_spelled}
 use Rattle.fluid_rules.specs.Rules.{joined, ledger}
 use Rattle.fluid_rules.specs.Counted.{is_counted, counted, is_new_client}
-use Rattle.fluidd.specs.declared.limits.Limits.{Limits}
+use Rattle.fluid_rules.specs.declared.limits.Limits.{Limits}
 use Rattle.fluidd.specs.declared.refusal.Why.{Why}
 use Rattle.fluidd.specs.declared.refusal.Why.TheVariants.{Unreadable, DocumentFull, TooManyClients}
 
@@ -28,9 +28,10 @@ records lines = filter_map entry_of lines
 
 -- ---- the limits of a document
 
--- the limits of the program: 4,194,304 joins and submissions, and 1,024 clients joined at once
+-- the limits of the program: 4,194,304 joins and submissions, 1,024 clients joined at once, 4,096 checkpoints of at most 1 GiB. A run
+-- of `sequence` stores no checkpoints
 abbrev pub full : Limits
-full = record { entries = 4194304; clients = 1024 }
+full = record { entries = 4194304; clients = 1024; checkpoints = 4096; bytes = 1073741824 }
 
 -- the document is full where this entry counts and as many as may be are counted; there are too many clients where
 -- this is a new one and as many as may be are joined

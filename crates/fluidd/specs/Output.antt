@@ -15,7 +15,7 @@ use Rattle.fluid_pipe.specs.Meaning.{Meaning, Accepts}
 use Rattle.fluid_pipe.specs.Output.{IsWhole, IsRefused, IsBegun, IsInterrupted, IsCut, HasRefused, NoFault, ReadFailed, Wrote}
 use Rattle.fluid_pipe.specs.declared.stop.Stop.{Stop}
 use Rattle.fluid_pipe.specs.declared.stop.Stop.TheVariants as stop
-use Rattle.fluidd.specs.declared.limits.Limits.{Limits}
+use Rattle.fluid_rules.specs.declared.limits.Limits.{Limits}
 use Rattle.fluidd.specs.declared.refusal.Why.{Why}
 use Rattle.fluidd.specs.declared.status.Status.{Status}
 use Rattle.fluidd.specs.declared.status.Status.TheVariants as status

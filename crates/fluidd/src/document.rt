@@ -1,6 +1,7 @@
 //! A document, as a run of `sequence` keeps it.
 ghost use Rattle.std.specs.Prelude.{◌≡◌, ℕ, ◌+◌, ◌-◌, ◌*◌, ◌^◌, ◌<◌, ◌≤◌, List, [], ◌∷◌, ◌++◌, OnOk, OnErr};
 ghost use Rattle.fluid_io.specs.declared.lines.TheConstants.{MOST_LINES};
+ghost use Rattle.fluid_types.specs.Fits.{IsInRange};
 ghost use Rattle.fluid_types.specs.Ledger.{Ledger};
 ghost use Rattle.std.specs.FinMap.{len};
 ghost use Rattle.fluid_rules.specs.Counted.{is_counted};
@@ -11,12 +12,12 @@ ghost use Rattle.fluidd.specs.Documents.{Stands, IsWithin, Enters, Admits, with_
 ghost use Rattle.fluid_types.specs.declared.entries.Raw.{Raw};
 ghost use Rattle.fluid_core.specs.Entering.{IsPreparedIn, prepared, StandsFor};
 
-use crate::limits::Limits;
 use crate::refusal::Why;
 use fluid_codec::{push_verdict, read_raw};
 use fluid_core::{Core, CoreEntry};
 use fluid_json::NoMemory;
 use fluid_pipe::{Taker, Untaken};
+use fluid_rules::{Limits, is_counted};
 use fluid_types::{CodecFault, Raw, Verdict};
 use std::alloc::Global;
 
@@ -112,7 +113,8 @@ impl Document {
         raw: &Raw,
         waiting: &mut Vec<u8>,
     ) -> Result<(), Untaken<Why, NoMemory>>
-        requires { IsWithin MOST_LINES self.old }
+        requires few { IsWithin MOST_LINES self.old }
+        requires in_range { IsInRange raw.now }
         ensures within { OnOk result ((n : ℕ) → IsWithin n self.old → IsWithin (n + 1) self.new) }
         ensures waits { OnErr result (waiting.new.items ≡ waiting.old.items) }
         ensures admits { (limits : Limits) (l : Ledger) → Stands limits l self.old →
@@ -159,7 +161,8 @@ impl Document {
 
     // Enters a raw entry, and puts the line of its verdict behind those that wait.
     fn enter(&mut self, alloc: Global, raw: &Raw, waiting: &mut Vec<u8>) -> Result<(), NoMemory>
-        requires { IsWithin MOST_LINES self.old }
+        requires few { IsWithin MOST_LINES self.old }
+        requires in_range { IsInRange raw.now }
         ensures within { OnOk result ((n : ℕ) → IsWithin n self.old → IsWithin (n + 1) self.new) }
         ensures entered { OnOk result ((limits : Limits) (l : Ledger) → Stands limits l self.old → Stands limits (with_entry l raw.now) self.new) }
         ensures line { OnOk result ((l : Ledger) → StandsFor self.old.core.state l →
@@ -175,6 +178,7 @@ impl Document {
         Ok(())
     }
 }
+
 // Enters what was prepared. Its verdict was told before.
 fn take_in(core: &mut Core, entry: CoreEntry)
     requires { IsPreparedIn core.old entry }
@@ -183,16 +187,6 @@ fn take_in(core: &mut Core, entry: CoreEntry)
     ensures one_more { core.new.state.sequencer.sequence ≤ core.old.state.sequencer.sequence + 1 }
 {
     core.enter(entry);
-}
-
-// Whether an entry counts towards the limit of a document.
-fn is_counted(raw: &Raw) -> bool
-    ensures { result ≡ is_counted raw.now }
-{
-    match raw {
-        Raw::Join { .. } | Raw::Submit { .. } => true,
-        Raw::Leave { .. } | Raw::Report { .. } => false,
-    }
 }
 
 // Puts the line of a verdict, with its end, behind what waits.

@@ -3,7 +3,7 @@ ghost use Rattle.std.specs.Prelude.{◌⊎◌, ℕ, List, []};
 ghost use Rattle.std.specs.Str.Lines.{lines};
 ghost use Rattle.fluid_pipe.specs.Meaning.{Accepts};
 ghost use Rattle.fluid_pipe.specs.Output.{HasRefused};
-ghost use Rattle.fluidd.specs.declared.limits.Limits.{Limits};
+ghost use Rattle.fluid_rules.specs.declared.limits.Limits.{Limits};
 ghost use Rattle.fluidd.specs.Output.{meaning};
 
 /// Within whatever limits, either each line of an input is accepted or one is refused, and never both.

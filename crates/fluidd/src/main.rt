@@ -1,12 +1,11 @@
 //! The ordering service of collaborative documents, as a program.
 //! `run` has the top call, `task` what the words ask for, `sequence` the command of that name, `document` what it keeps
-//! between two lines of its input, `refusal` why the text of a line is refused, `status` how a run ends, `limits` how much
-//! a document may take, and `laws` what holds of the definitions.
+//! between two lines of its input, `refusal` why the text of a line is refused, `status` how a run ends, and `laws` what
+//! holds of the definitions.
 #![tactic(auto)]
 
 mod document;
 pub mod laws;
-pub mod limits;
 pub mod refusal;
 pub mod run;
 pub mod sequence;

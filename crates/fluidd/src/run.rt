@@ -4,13 +4,13 @@ ghost use Rattle.fluidd.specs.Input.{full};
 ghost use Rattle.fluidd.specs.Output.{Sequences, Shows, code_of};
 ghost use Rattle.fluidd.specs.Tasks.{Sequencing, Showing, Usage, task_of, usage_line};
 
-use crate::limits::Limits;
 use crate::sequence::sequence_within;
 use crate::status::Status;
 use crate::task::{Task, read_task};
 use fluid_io::{Failed, Sink, Source};
 use fluid_json::{NoMemory, Text};
 use fluid_pipe::write_out;
+use fluid_rules::Limits;
 use std::alloc::Global;
 
 /// Runs the command that the words ask for, which are those behind the program's name, and gives the exit status. Words
@@ -31,7 +31,9 @@ pub fn run<R, S: Source, K: Sink>(
 {
     match read_task(alloc, words) {
         Ok(Task::Sequence) => {
-            let Limits { entries, clients } = Limits::FULL;
+            let Limits {
+                entries, clients, ..
+            } = Limits::FULL;
             sequence_within(rt, alloc, input, output, entries, clients)
         }
         Ok(Task::Show(status, text)) => show(output, status, text),

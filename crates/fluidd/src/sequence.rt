@@ -1,14 +1,15 @@
 //! The command `sequence`: raw records in, a verdict line out for each.
 ghost use Rattle.std.specs.Prelude.{◌≡◌};
+ghost use Rattle.fluidd.specs.Input.{full};
 ghost use Rattle.fluidd.specs.Output.{Sequences, status_of};
 
 use crate::document::Document;
-use crate::limits::Limits;
 use crate::refusal::Why;
 use crate::status::Status;
 use fluid_io::{Sink, Source};
 use fluid_json::NoMemory;
 use fluid_pipe::{Stop, pipe};
+use fluid_rules::Limits;
 use std::alloc::Global;
 
 /// The command `sequence` within limits of one's own: how many joins and submissions may be entered, and how many
@@ -21,10 +22,14 @@ pub fn sequence_within<R, S: Source, K: Sink>(
     entries: u64,
     clients: u32,
 ) -> u8
-    ensures { Sequences (record { entries = entries; clients = clients }) (S.seen input.old) (K.seen output.old)
+    ensures { Sequences (record full { entries = entries; clients = clients }) (S.seen input.old) (K.seen output.old)
         (S.seen input.new) (K.seen output.new) result }
 {
-    let limits = Limits { entries, clients };
+    let limits = Limits {
+        entries,
+        clients,
+        ..Limits::FULL
+    };
     let mut document = Document::new(alloc, limits);
     let ended = pipe(alloc, &mut document, input, output);
     status_of(ended).code()

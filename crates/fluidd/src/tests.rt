@@ -185,20 +185,20 @@ const FIVE_KINDS: &[(&str, &str)] = &[
         r#"{"sequenced":{"clientId":"A","clientSequenceNumber":1,"contents":{"a":"x","b":[1,true]},"metadata":null,"minimumSequenceNumber":1,"referenceSequenceNumber":1,"sequenceNumber":2,"timestamp":2,"type":"op"}}"#,
     ),
     (
-        r#"{"raw":"submit","clientId":"A","moment":3,"operation":{"clientSequenceNumber":2,"contents":{"b":[1,true],"a":"x"},"metadata":null,"referenceSequenceNumber":1,"type":"noop"}}"#,
-        r#"{"sequenced":{"clientId":"A","clientSequenceNumber":2,"contents":{"a":"x","b":[1,true]},"metadata":null,"minimumSequenceNumber":1,"referenceSequenceNumber":1,"sequenceNumber":3,"timestamp":3,"type":"noop"}}"#,
+        r#"{"raw":"submit","clientId":"A","moment":3,"operation":{"clientSequenceNumber":2,"contents":{"b":[1,true],"a":"x"},"metadata":null,"referenceSequenceNumber":2,"type":"noop"}}"#,
+        r#"{"sequenced":{"clientId":"A","clientSequenceNumber":2,"contents":{"a":"x","b":[1,true]},"metadata":null,"minimumSequenceNumber":2,"referenceSequenceNumber":2,"sequenceNumber":3,"timestamp":3,"type":"noop"}}"#,
     ),
     (
-        r#"{"raw":"submit","clientId":"A","moment":4,"operation":{"clientSequenceNumber":3,"contents":{"b":[1,true],"a":"x"},"metadata":null,"referenceSequenceNumber":1,"type":"propose"}}"#,
-        r#"{"sequenced":{"clientId":"A","clientSequenceNumber":3,"contents":{"a":"x","b":[1,true]},"metadata":null,"minimumSequenceNumber":1,"referenceSequenceNumber":1,"sequenceNumber":4,"timestamp":4,"type":"propose"}}"#,
+        r#"{"raw":"submit","clientId":"A","moment":4,"operation":{"clientSequenceNumber":3,"contents":{"b":[1,true],"a":"x"},"metadata":null,"referenceSequenceNumber":2,"type":"propose"}}"#,
+        r#"{"sequenced":{"clientId":"A","clientSequenceNumber":3,"contents":{"a":"x","b":[1,true]},"metadata":null,"minimumSequenceNumber":2,"referenceSequenceNumber":2,"sequenceNumber":4,"timestamp":4,"type":"propose"}}"#,
     ),
     (
-        r#"{"raw":"submit","clientId":"A","moment":5,"operation":{"clientSequenceNumber":4,"contents":{"b":[1,true],"a":"x"},"metadata":null,"referenceSequenceNumber":1,"type":"reject"}}"#,
-        r#"{"sequenced":{"clientId":"A","clientSequenceNumber":4,"contents":{"a":"x","b":[1,true]},"metadata":null,"minimumSequenceNumber":1,"referenceSequenceNumber":1,"sequenceNumber":5,"timestamp":5,"type":"reject"}}"#,
+        r#"{"raw":"submit","clientId":"A","moment":5,"operation":{"clientSequenceNumber":4,"contents":{"b":[1,true],"a":"x"},"metadata":null,"referenceSequenceNumber":2,"type":"reject"}}"#,
+        r#"{"sequenced":{"clientId":"A","clientSequenceNumber":4,"contents":{"a":"x","b":[1,true]},"metadata":null,"minimumSequenceNumber":2,"referenceSequenceNumber":2,"sequenceNumber":5,"timestamp":5,"type":"reject"}}"#,
     ),
     (
-        r#"{"raw":"submit","clientId":"A","moment":6,"operation":{"clientSequenceNumber":5,"contents":{"b":[1,true],"a":"x"},"metadata":null,"referenceSequenceNumber":1,"type":"summarize"}}"#,
-        r#"{"sequenced":{"clientId":"A","clientSequenceNumber":5,"contents":{"a":"x","b":[1,true]},"metadata":null,"minimumSequenceNumber":1,"referenceSequenceNumber":1,"sequenceNumber":6,"timestamp":6,"type":"summarize"}}"#,
+        r#"{"raw":"submit","clientId":"A","moment":6,"operation":{"clientSequenceNumber":5,"contents":{"b":[1,true],"a":"x"},"metadata":null,"referenceSequenceNumber":2,"type":"summarize"}}"#,
+        r#"{"sequenced":{"clientId":"A","clientSequenceNumber":5,"contents":{"a":"x","b":[1,true]},"metadata":null,"minimumSequenceNumber":2,"referenceSequenceNumber":2,"sequenceNumber":6,"timestamp":6,"type":"summarize"}}"#,
     ),
 ];
 

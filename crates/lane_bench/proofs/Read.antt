@@ -8,8 +8,8 @@ use Rattle.fluid_types.specs.declared.fault.CodecFault.TheVariants.{NoMemory}
 use Rattle.fluid_types.specs.declared.entries.Raw.{Raw}
 use Rattle.fluid_types.specs.declared.entries.Raw.TheVariants.{Join, Leave, Submit, Report}
 use Rattle.fluid_types.proofs.EntryNames.{entry_name-is_name}
-use Rattle.fluid_fits.specs.Laws.{longest_text}
-use Rattle.fluid_fits.proofs.Entries.{read_records_fit, read_joins_fit}
+use Rattle.fluid_readback.specs.Laws.{longest_text}
+use Rattle.fluid_readback.proofs.Entries.{read_records_fit, read_joins_fit}
 use Rattle.lane_bench.specs.Fitting.{FitsLane}
 
 spelled_fits : (s : List ℕ) (raw : Raw) → length s ≤ longest_text → raw_spelled s ≡ Ok raw → FitsLane raw

@@ -1,6 +1,6 @@
 //! How raw records are entered into a lane.
 ghost use Rattle.std.specs.Prelude.{◌≡◌, ℕ, ◌+◌, ◌^◌, ◌<◌, ◌≤◌, length, IfOk, is_err, if◌then◌else◌};
-ghost use Rattle.fluid_fits.specs.Laws.{longest_text};
+ghost use Rattle.fluid_readback.specs.Laws.{longest_text};
 ghost use Rattle.fluid_types.specs.Fits.{Fits};
 ghost use Rattle.fluid_types.specs.Names.{entry_name};
 ghost use Rattle.fluid_lane.specs.Standing.{IsLeaveOrSubmission};

@@ -3,10 +3,11 @@ ghost use Rattle.fluid_types.specs.Fits.{Fits};
 
 use fluid_checkpoint::CheckpointFault;
 use fluid_codec::read_raw;
-use fluid_fits::read_entries_fit;
+use fluid_deltas::DeltaFault;
 use fluid_fold::{Folded, LaneFault, MOST, enter, load};
 use fluid_log::{Keeper, LONGEST_KEPT, MemoryKeeper};
-use fluid_types::{Raw, Verdict};
+use fluid_readback::read_entries_fit;
+use fluid_types::{Message, Raw, Verdict};
 use std::alloc::Global;
 use std::process::Abort;
 
@@ -247,29 +248,38 @@ fn assert_not_entered(rt: &impl Abort, alloc: Global, adding: &[u64], records: u
     drop(keeper);
 }
 
-// The numbers of the messages 1 and 2, a digit each.
-fn range(rt: &impl Abort, alloc: Global, folded: &mut Folded, keeper: &mut MemoryKeeper) -> u64 {
-    assert!(rt; folded.seq() == 2);
-    let answer = folded.range(alloc, 1, 3, keeper);
+// The numbers of messages, a digit each.
+fn digits(messages: &[Message]) -> u64 {
     let mut digits = 0_u64;
-    if let Ok(messages) = &answer {
-        for message in messages {
-            digits = digits.wrapping_mul(10).wrapping_add(message.number);
-        }
+    for message in messages {
+        digits = digits.wrapping_mul(10).wrapping_add(message.number);
     }
-    drop(answer);
     digits
 }
 
-fn assert_given_and_put(rt: &impl Abort, alloc: Global, keeper: &mut MemoryKeeper) {
-    let mut folded = load(alloc, keeper, None).ok().expect(rt, "a log");
+fn digits_of(answer: &Result<Vec<Message>, DeltaFault>) -> u64 {
+    match answer {
+        Ok(messages) => digits(messages),
+        Err(_) => 0,
+    }
+}
+
+fn assert_no_job(rt: &impl Abort, alloc: Global, folded: &mut Folded) {
     let job = folded.job(alloc).expect(rt, "memory");
     assert!(rt; job.is_none());
     drop(job);
-    assert!(rt; range(rt, alloc, &mut folded, keeper) == 12);
-    assert!(rt; keeper.deltas() == 0);
+}
+
+// What is read out of two records is given, and put among the deltas.
+fn assert_given_and_put(rt: &impl Abort, alloc: Global, keeper: &mut MemoryKeeper) {
+    let mut folded = load(alloc, keeper, None).ok().expect(rt, "a log");
+    assert!(rt; folded.seq() == 2);
+    let answer = folded.range(alloc, 1, 3, keeper);
+    assert!(rt; digits_of(&answer) == 12 && keeper.deltas() == 0);
+    drop(answer);
     assert!(rt; folded.flush(alloc, keeper).is_ok());
     assert!(rt; keeper.deltas() == 2);
+    assert_no_job(rt, alloc, &mut folded);
     drop(folded);
 }
 

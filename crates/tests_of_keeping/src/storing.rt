@@ -334,8 +334,8 @@ fn other_bytes_under_an_id_clash(rt: HostRuntime) {
 fn assert_refused(rt: &impl Abort, alloc: Global, node: Node, wanted: Told) {
     let mut objects = store(rt, alloc, 0);
     assert!(rt;
-        uploaded(alloc, &mut objects, &node).0 == wanted,
-        "{wanted}"
+        uploaded(alloc, &mut objects, &node) == wanted,
+        "{wanted:?}"
     );
     assert!(rt; objects.gets() == 0 && objects.count() == 0, "{wanted:?}");
     drop(objects);

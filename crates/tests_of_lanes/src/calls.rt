@@ -7,11 +7,11 @@ ghost use Rattle.fluid_lane.specs.Standing.{IsLeaveOrSubmission};
 
 use fluid_checkpoint::CheckpointFault;
 use fluid_codec::{Event, read_event, read_raw};
-use fluid_fits::{leaves_and_reports_fit, read_entries_fit};
 use fluid_io::{FaultNote, LAST_MOMENT};
 use fluid_json::Json;
 use fluid_lane::{Lane, LaneFault, Side};
 use fluid_log::MemoryKeeper;
+use fluid_readback::{leaves_and_reports_fit, read_entries_fit};
 use fluid_types::{Message, Raw, Scopes, Verdict};
 use std::alloc::Global;
 use std::process::Abort;
@@ -136,6 +136,7 @@ fn numbers(rt: &impl Abort, alloc: Global, verdict: &Verdict) -> String {
             format!(in alloc; "{rule:?}")
         }
         Verdict::Dropped => format!(in alloc; "dropped"),
+        Verdict::Absorbed => format!(in alloc; "absorbed"),
     };
     told.expect(rt, "memory")
 }
@@ -200,7 +201,9 @@ fn joined(rt: &impl Abort, alloc: Global, raw: &Raw, message: &Message) -> Strin
 
 fn join(rt: &impl Abort, alloc: Global, lane: &mut Lane<MemoryKeeper>) -> String {
     let number = lane.entered();
-    assert!(rt; number <= LAST_MOMENT);
+    if number > LAST_MOMENT {
+        panic!(rt; "no number of an entry");
+    }
     let (scopes, detail) = client(rt, alloc);
     let answer = lane.join(alloc, scopes, detail, 4);
     let told = match &answer {

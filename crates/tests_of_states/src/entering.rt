@@ -19,13 +19,13 @@ type Pending = Option<(u64, u64, bool)>;
 fn what_shows(verdict: &Verdict) -> Shown {
     match verdict {
         Verdict::Sequenced(message) => Some((message.kind, message.number, message.minimum)),
-        Verdict::Nacked(_) | Verdict::Dropped => None,
+        Verdict::Nacked(_) | Verdict::Dropped | Verdict::Absorbed => None,
     }
 }
 
 // What would come of an entry, which isn't entered.
 fn left(rt: &impl Abort, alloc: Global, core: &mut Core, raw: &Raw) -> Shown {
-    assert!(rt; core.seq() < 1000);
+    assert!(rt; core.seq() < 1000 && raw.is_in_range());
     let entry = core.prepare_entry(alloc, raw).expect(rt, "memory");
     let shown = what_shows(entry.verdict());
     drop(entry);
@@ -33,7 +33,7 @@ fn left(rt: &impl Abort, alloc: Global, core: &mut Core, raw: &Raw) -> Shown {
 }
 
 fn committed(rt: &impl Abort, alloc: Global, core: &mut Core, raw: &Raw) -> Shown {
-    assert!(rt; core.seq() < 1000);
+    assert!(rt; core.seq() < 1000 && raw.is_in_range());
     let ready = core.prepare(alloc, raw).expect(rt, "memory");
     let verdict = core.commit(ready);
     let shown = what_shows(&verdict);

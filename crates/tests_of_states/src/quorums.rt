@@ -74,15 +74,8 @@ fn enter(rt: &impl Abort, alloc: Global, quorum: &mut Quorum, step: &Step) {
     match step {
         Step::Fresh(count) => begin(rt, alloc, quorum, *count),
         Step::Propose(number, minimum, contents) => {
-            take(
-                rt,
-                alloc,
-                quorum,
-                (number, minimum),
-                "propose",
-                contents,
-                "",
-            );
+            let numbers = (*number, *minimum);
+            take(rt, alloc, quorum, numbers, "propose", *contents, "");
         }
         Step::Op(number, minimum) => {
             take(rt, alloc, quorum, (*number, *minimum), "op", "null", "");

@@ -16,6 +16,7 @@ enum Shown {
     // The rule, and the minimum at that moment.
     Nack(NackRule, i64),
     Dropped,
+    Absorbed,
 }
 
 fn what_shows(verdict: &Verdict) -> Shown {
@@ -23,6 +24,7 @@ fn what_shows(verdict: &Verdict) -> Shown {
         Verdict::Sequenced(message) => Shown::At(message.number, message.minimum),
         Verdict::Nacked(nack) => Shown::Nack(nack.rule, nack.minimum),
         Verdict::Dropped => Shown::Dropped,
+        Verdict::Absorbed => Shown::Absorbed,
     }
 }
 
@@ -39,7 +41,7 @@ fn entered(
     raw: &Raw,
     answer: &Answer,
 ) -> Verdict {
-    assert!(rt; sequencer.seq() < 1000);
+    assert!(rt; sequencer.seq() < 1000 && raw.is_in_range());
     let ready = sequencer.prepare(alloc, raw, answer).expect(rt, "memory");
     sequencer.commit(ready)
 }

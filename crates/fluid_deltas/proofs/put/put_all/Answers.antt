@@ -1,8 +1,8 @@
 use Rattle.std.proofs.Common.{◌≡◌, length, take, subst, sym, arith, refl, ◌∙◌, length-take}
 use Rattle.std.proofs.lemmas.List.Elements.{All-get_or}
 use Rattle.std.proofs.lemmas.Result.{err_from_is_err_and}
+use Rattle.fluid_types.proofs.Numbers.{numbered_at}
 use Rattle.fluid_deltas.specs.Pushed.{IsKeepable}
-use Rattle.fluid_deltas.proofs.Numbering.{numbered_at}
 use Rattle.fluid_deltas.proofs.Putting.{puts_nothing, puts_more, puts_on, puts_all}
 use Rattle.fluid_deltas.proofs.put.put_all.Goals as goal
 

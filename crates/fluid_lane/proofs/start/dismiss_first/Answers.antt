@@ -1,6 +1,6 @@
 use Rattle.std.proofs.Common.{arith}
 use Rattle.std.specs.FinMap.{keys}
-use Rattle.fluid_fits.proofs.Fitting.{leaves_fit}
+use Rattle.fluid_readback.proofs.Fitting.{leaves_fit}
 use Rattle.fluid_lane.proofs.Ids.{first_and_rest}
 use Rattle.fluid_lane.proofs.start.dismiss_first.Goals as goal
 

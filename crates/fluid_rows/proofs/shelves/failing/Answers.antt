@@ -6,11 +6,11 @@ use Rattle.fluid_log.proofs.Lending.{whole_in}
 use Rattle.fluid_rows.proofs.shelves.failing.Goals as goal
 
 pub add-requires : goal.add-requires
-add-requires g c = ap (λ (s : MemoryShelving). get s.places c.in_ok-name.name) c.new-shelves.ensures.is ∙ get-empty byte_order c.in_ok-name.name
+add-requires c = ap (λ (s : MemoryShelving). get s.places c.in_ok-name.name) c.new-shelves.ensures.is ∙ get-empty byte_order c.in_ok-name.name
 
 pub keeper-requires : goal.keeper-requires
-keeper-requires g c = whole_in (shelves_seen c.add.new.self) _ (c.add.ensures.whole c.new-shelves.ensures.whole)
+keeper-requires c = whole_in (shelves_seen c.add.new.self) _ (c.add.ensures.whole c.new-shelves.ensures.whole)
 
 pub keeper-requires-2 : goal.keeper-requires-2
-keeper-requires-2 g c =
+keeper-requires-2 c =
     ap (λ out. get out c.in_ok-name-2.name) c.in-Err.ensures.does.out ∙ whole_in (shelves_seen c.add.new.self) c.in_ok-name-2.name (c.add.ensures.whole c.new-shelves.ensures.whole)

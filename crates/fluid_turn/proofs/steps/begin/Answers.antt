@@ -3,4 +3,4 @@ use Rattle.fluid_turn.proofs.Keeps.{begins}
 use Rattle.fluid_turn.proofs.steps.begin.Goals as goal
 
 pub load-requires : goal.load-requires
-load-requires g c = (search rules, search rules, begins _ _ g.T.Chronicle.stands (λ l st. st.0) _ _ _ c.requires.value _ c.requires.opens)
+load-requires g c = (search rules, search rules, begins _ _ _ _ _ c.requires.began _ c.requires.opens)

@@ -3,4 +3,4 @@ use Rattle.fluid_turn.proofs.Keeps.{notes}
 use Rattle.fluid_turn.proofs.steps.note.Goals as goal
 
 pub load-requires : goal.load-requires
-load-requires g c = (search rules, search rules, notes _ _ g.T.Chronicle.stands (λ x l st. st.0) _ _ _ c.requires.seat _)
+load-requires g c = (search rules, search rules, notes _ _ g.W.Picks.tells c.requires.tells _ _ _ c.requires.seat _ c.requires.began _)

@@ -26,7 +26,7 @@ pub returns-clause-enterable : goal.returns-clause-enterable
 returns-clause-enterable c =
     ready_in _ _ c.args.raw.now _ (rw (← c.self.view_is) at (returns-clause-entry c))
     (same_state _ _ c.in_ok-ready.ensures.same (c.in_ok-note.ensures.same ∙ ap (λ (s : Scribing). s.messages) c.in_ok-answer.ensures.same))
-    (rw c.in_ok-ready.ensures.same (rw (← c.self.view_is) at c.requires))
+    (rw c.in_ok-ready.ensures.same (rw (← c.self.view_is) at c.requires.few))
     c.in_ok-ready.ensures.committable.room
     (rw c.verdict.ensures at (has_room _ _ c.in_ok-note.ensures.takable))
 

@@ -1,8 +1,12 @@
 use Rattle.std.proofs.Common.{ap, sym, ◌∙◌}
+use Rattle.fluid_codec.proofs.Ranges.{fitting-in_range}
 use Rattle.fluid_core.specs.Entering as entering
 use Rattle.fluid_fold.specs.Folding.{message_of}
 use Rattle.fluid_fold.proofs.Levels.{next-numbered, next-keepable, verdict_prepared}
 use Rattle.fluid_fold.proofs.folded.Folded.prepare.Goals as goal
+
+pub prepare_entry-requires-clause-in_range : goal.prepare_entry-requires-clause-in_range
+prepare_entry-requires-clause-in_range c = fitting-in_range c.args.raw.now c.requires.fits
 
 pub returns-clause-ready : goal.returns-clause-ready
 returns-clause-ready c =

@@ -1,4 +1,4 @@
-use Rattle.std.proofs.Common.{rules, Some, refl, sym, ap, ◌∙◌, ◌∷◌}
+use Rattle.std.proofs.Common.{rules, Some, sym, ap, ◌∙◌, ◌∷◌}
 use Rattle.atomic_table.specs.Table.{rest}
 use Rattle.fluid_turn.proofs.Seating.{taken_out}
 use Rattle.fluid_turn.proofs.turn.Turn.take.Goals as goal
@@ -13,6 +13,5 @@ pub returns-clause-fixed : goal.returns-clause-fixed
 returns-clause-fixed g c =
     let served = c.wait.ensures.served in
     let fixed = g.T.Chronicle.fixed in
-    let terms = fixed c.self.inside.table.shared.key.value in
     let same = taken_out _ served.0 c.in-Some.value _ (ap (λ m. m.1) served.2) c.exchange.ensures.2 c.in-Some.is in
-    (ap fixed (sym same) ∙ served.3.1 terms (refl {a = Some terms}) ∙ ap (λ t. t.fixed) c.self.view_is, refl {a = c.args.self.now.fixed})
+    ap fixed (sym same) ∙ served.3.1 ∙ ap (λ t. t.fixed) c.self.view_is

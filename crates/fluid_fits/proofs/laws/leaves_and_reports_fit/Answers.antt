@@ -1,5 +1,0 @@
-use Rattle.fluid_fits.proofs.Fitting.{leaves_fit, reports_fit}
-use Rattle.fluid_fits.proofs.laws.leaves_and_reports_fit.Goals as goal
-
-pub returns : goal.returns
-returns c = record { leaves = leaves_fit; reports = reports_fit }

@@ -1,5 +1,0 @@
-use Rattle.fluid_fits.proofs.Fitting.{spelled_fit}
-use Rattle.fluid_fits.proofs.laws.spelled_entries_fit.Goals as goal
-
-pub returns : goal.returns
-returns c = spelled_fit

@@ -1,4 +1,0 @@
-pub mod Each
-pub mod Said
-pub mod Parts
-pub mod Kept

@@ -1,0 +1,5 @@
+pub mod Answers
+pub mod Advances
+pub mod Endings
+pub mod WholeLines
+pub mod Refused

@@ -1,0 +1,4 @@
+pub mod Meaning
+pub mod Output
+pub mod Taking
+pub mod Progress

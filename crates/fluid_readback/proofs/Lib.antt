@@ -1,0 +1,16 @@
+pub mod Words
+pub mod Lexing
+pub mod Nesting
+pub mod Punctuated
+pub mod Parsed
+pub mod Numerals
+pub mod Kept
+pub mod Values
+pub mod Entries
+pub mod Fitting
+pub mod Messages
+pub mod Faults
+pub mod Each
+pub mod Said
+pub mod Parts
+pub mod Quorums

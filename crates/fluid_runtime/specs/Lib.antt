@@ -1,0 +1,11 @@
+pub mod Refused
+pub mod Shown
+pub mod AppTree
+pub mod App
+pub mod Slots
+pub mod Codes
+pub mod Kinds
+pub use Rattle.fluid_edits.specs.Forms
+pub use Rattle.fluid_edits.specs.Replay
+pub use Rattle.fluid_tree.specs.Summary
+pub use Rattle.fluid_json.specs.Unless

@@ -1,6 +1,0 @@
-use Rattle.std.proofs.Common.{◌≡◌}
-use Rattle.fluid_turn.proofs.tests.enter_all.Given as goal
-
--- the seat is one of the turn
-abbrev pub invariant-loop-number : goal.invariant-loop-number
-invariant-loop-number g l = l.seat.turn ≡ l.fn.turn.id

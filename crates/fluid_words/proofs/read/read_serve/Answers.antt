@@ -1,0 +1,13 @@
+use Rattle.std.proofs.Common.{refl}
+use Rattle.std.proofs.lemmas.Result.{err_from_is_err_and}
+use Rattle.fluid_words.specs.Words.{serve, serve_by}
+use Rattle.fluid_words.proofs.Asked.{reads-exactly, reads-none}
+use Rattle.fluid_words.proofs.read.read_serve.Goals as goal
+
+pub returns-in_err-matches : goal.returns-in_err-matches
+returns-in_err-matches c =
+    let e = err_from_is_err_and c.from_residual-in_err-matches.result c.from_residual-in_err-matches.ensures.1 in
+    rw (e.1, e.2) (reads-none serve_by serve _ _ (c.in_err-matches.ensures serve c.in_ok-serve.ensures refl refl))
+
+pub returns : goal.returns
+returns c = reads-exactly serve_by serve _ _ _ (c.in_ok-matches.ensures serve c.in_ok-serve.ensures refl refl) c.serve_by.ensures

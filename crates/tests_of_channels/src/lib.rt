@@ -1,0 +1,7 @@
+//! Tests of the channels of a document over several crates: what a client shows, edits and summaries, line by line.
+#![tactic(auto)]
+
+#[cfg(test)]
+mod play;
+#[cfg(test)]
+mod shows;
