@@ -1,3 +1,4 @@
 mod Grown
 mod Clients
 mod Statuses
+mod Shown

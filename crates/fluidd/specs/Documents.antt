@@ -13,7 +13,7 @@ use Rattle.fluid_pipe.specs.Meaning.{Meaning}
 use Rattle.fluid_pipe.specs.declared.taker.Untaken.{Untaken}
 use Rattle.fluid_pipe.specs.declared.taker.Untaken.TheVariants.{Refused, Failed}
 use Rattle.fluidd.specs.declared.document.Document.{Document}
-use Rattle.fluidd.specs.declared.limits.Limits.{Limits}
+use Rattle.fluid_rules.specs.declared.limits.Limits.{Limits}
 use Rattle.fluidd.specs.declared.refusal.Why.{Why}
 use Rattle.fluidd.specs.declared.refusal.Why.TheVariants.{DocumentFull, TooManyClients}
 use Rattle.fluidd.specs.Input.{records, entry_of, limit_refusal, text_refusal}

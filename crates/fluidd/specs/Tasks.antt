@@ -1,5 +1,5 @@
 -- What the words ask of the program as it is built.
-use Rattle.std.specs.Prelude.{◌≡◌, ℕ, List, Option, Some, None, Result, Ok, Err, codes}
+use Rattle.std.specs.Prelude.{◌≡◌, ◌⊎◌, ℕ, List, Option, Some, None, Result, Ok, Err, codes}
 use Rattle.fluid_words.specs.Pages.{page, version_page}
 use Rattle.fluid_words.specs.Words.{command_of}
 use Rattle.fluid_words.specs.declared.command.Command.{Command}
@@ -50,3 +50,7 @@ abbrev pub IsTask : Task → Taken → Type 0
 IsTask Sequencing done = done ≡ taken.Sequence
 IsTask (Showing text) done = IsShown status.Done text done
 IsTask Usage done = IsShown status.Usage usage_line done
+
+-- a text is shown under one of two statuses: that it was asked for, or that the words ask for nothing
+abbrev pub IsPage : (status : ℕ) → Type 0
+IsPage status = (status ≡ 0) ⊎ (status ≡ 2)

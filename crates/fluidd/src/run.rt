@@ -2,7 +2,7 @@
 ghost use Rattle.std.specs.Prelude.{◌≡◌, ℕ, List};
 ghost use Rattle.fluidd.specs.Input.{full};
 ghost use Rattle.fluidd.specs.Output.{Sequences, Shows, code_of};
-ghost use Rattle.fluidd.specs.Tasks.{Sequencing, Showing, Usage, task_of, usage_line};
+ghost use Rattle.fluidd.specs.Tasks.{IsPage, Sequencing, Showing, Usage, task_of, usage_line};
 
 use crate::sequence::sequence_within;
 use crate::status::Status;
@@ -32,7 +32,9 @@ pub fn run<R, S: Source, K: Sink>(
     match read_task(alloc, words) {
         Ok(Task::Sequence) => {
             let Limits {
-                entries, clients, ..
+                entries,
+                clients,
+                ..
             } = Limits::FULL;
             sequence_within(rt, alloc, input, output, entries, clients)
         }
@@ -42,12 +44,13 @@ pub fn run<R, S: Source, K: Sink>(
 }
 
 // Writes a text for a person, and gives this status, or that of a fault of the sink.
+#[tactic(auto, using(crate::proofs::Shown::shown, crate::proofs::Shown::failed))]
 fn show<K: Sink>(output: &mut K, status: Status, text: &str) -> u8
+    requires { IsPage (code_of status) }
     ensures { Shows (code_of status) text.now (K.seen output.old) (K.seen output.new) result }
 {
-    let status = match write_out(output, text.as_bytes()) {
-        Ok(()) => status,
-        Err(Failed) => Status::WriteFault,
-    };
-    status.code()
+    match write_out(output, text.as_bytes()) {
+        Ok(()) => status.code(),
+        Err(Failed) => Status::WriteFault.code(),
+    }
 }

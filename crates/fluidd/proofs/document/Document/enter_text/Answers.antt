@@ -1,6 +1,10 @@
 use Rattle.std.proofs.Common.{rules}
+use Rattle.fluid_codec.proofs.Ranges.{spelled-in_range}
 use Rattle.fluidd.proofs.Grown.{enters-spelled, unless-ok}
 use Rattle.fluidd.proofs.document.Document.enter_text.Goals as goal
+
+pub admit-requires-clause-in_range : goal.admit-requires-clause-in_range
+admit-requires-clause-in_range c = spelled-in_range _ _ (unless-ok _ _ _ c.in-Ok.ensures)
 
 pub returns-clause-enters : goal.returns-clause-enters
 returns-clause-enters c =
