@@ -18,8 +18,7 @@ use Rattle.fluidd.specs.declared.document.Document.{Document}
 use Rattle.fluid_rules.specs.declared.limits.Limits.{Limits}
 use Rattle.fluid_rules.specs.Counted.{is_counted, is_new_client}
 use Rattle.fluidd.specs.Input.{limit_refusal}
-use Rattle.fluidd.specs.Output.{verdict_lines}
-use Rattle.fluidd.specs.Progress.{limit_refusal_by, Stands, is_new_in}
+use Rattle.fluidd.specs.Documents.{limit_refusal_by, Stands, is_new_in}
 use Rattle.std.proofs.Common.{add-one}
 
 absent : (f : List ℕ → Row) (c : List ℕ) (ids : List (List ℕ)) → IsBelowEach c ids → find byte_order c (map (λ id. (id, f id)) ids) ≡ None
@@ -49,15 +48,9 @@ new-client s l (Leave id moment) h = refl
 new-client s l (Submit id submission moment) h = refl
 new-client s l (Report summary found moment) h = refl
 
-pub limit-refusal : (limits : Limits) (gone : List ℕ) (l : Ledger) (d : Document) (raw : Raw) → Stands gone l d →
-    limit_refusal_by (is_counted raw) limits.entries d.counted (is_new_in d.core.state.sequencer.rows raw) limits.clients (len d.core.state.sequencer.rows)
+pub limit-refusal : (limits : Limits) (l : Ledger) (d : Document) (raw : Raw) → Stands limits l d →
+    limit_refusal_by (is_counted raw) d.limits.entries d.counted (is_new_in d.core.state.sequencer.rows raw) d.limits.clients (len d.core.state.sequencer.rows)
     ≡ limit_refusal limits l raw
 unfolding limit_refusal
-limit-refusal limits gone l d raw s = let sequencer = stands-sequencer d.core.state l s.core in
-    rw (s.counted, new-client _ l raw sequencer, rows-joined _ l sequencer) refl
-
--- ---- no entries
-
-pub lines-none : [] ≡ verdict_lines []
-unfolding verdict_lines
-lines-none = refl
+limit-refusal limits l d raw s = let sequencer = stands-sequencer d.core.state l s.core in
+    rw (s.limited, s.counted, new-client _ l raw sequencer, rows-joined _ l sequencer) refl

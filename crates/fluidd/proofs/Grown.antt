@@ -1,5 +1,5 @@
 -- One line more at the end: of what was accepted, of the entries that are spelled, and of the lines that are written.
-use Rattle.std.proofs.Common.{◌≡◌, ℕ, List, [], ◌∷◌, ◌++◌, sym, ◌∙◌, ap, append-nil, append_assoc, Option, None, Some}
+use Rattle.std.proofs.Common.{◌≡◌, ℕ, List, [], ◌∷◌, ◌++◌, refl, sym, ◌∙◌, ap, subst, append-nil, append_assoc, Option, None, Some}
 use Rattle.std.proofs.lemmas.List.Elements.{filter_map-append}
 use Rattle.std.specs.List.{cons_option}
 use Rattle.std.proofs.lemmas.Grind.{flat_map-append}
@@ -13,21 +13,19 @@ use Rattle.std.proofs.Common.{⊎_elim}
 use Rattle.fluid_json.specs.Unless.{IsUnless}
 use Rattle.fluid_types.specs.Records.{raw_spelled}
 use Rattle.fluidd.specs.declared.document.Document.{Document}
-use Rattle.fluidd.specs.declared.document.Untaken.{Untaken}
-use Rattle.fluidd.specs.declared.document.Untaken.TheVariants as untaken
-use Rattle.fluidd.specs.Input.{entry_of, records, refusal, text_refusal, Accepts}
+use Rattle.fluid_json.specs.declared.memory.NoMemory.{NoMemory}
+use Rattle.fluid_pipe.specs.Meaning.{Meaning}
+use Rattle.fluid_pipe.specs.Taking.{Takes}
+use Rattle.fluid_pipe.specs.declared.taker.Untaken.{Untaken}
+use Rattle.fluid_pipe.specs.declared.taker.Untaken.TheVariants as untaken
+use Rattle.fluidd.specs.declared.refusal.Why.{Why}
+use Rattle.fluidd.specs.Input.{entry_of, records, text_refusal}
 use Rattle.std.proofs.Common.{◌+◌, cond}
 use Rattle.fluid_rules.specs.Counted.{counted, is_counted}
 use Rattle.fluid_rules.proofs.Counted.{counted-push}
 use Rattle.fluid_types.specs.declared.verdicts.Verdict.{Verdict}
-use Rattle.fluidd.specs.Output.{entry_line, verdict_lines}
-use Rattle.fluidd.specs.Progress.{with_entry, with_entry_of, Admits, Takes}
-
-pub accepts-push : (limits : Limits) (before ls : List (List ℕ)) (line : List ℕ) → Accepts limits before ls →
-    refusal limits (before ++ ls) line ≡ None → Accepts limits before (ls ++ line ∷ [])
-accepts-push limits before [] line a h = (rw append-nil at h, tt)
-accepts-push limits before (l ∷ ls) line a h =
-    (a.0, accepts-push limits (before ++ l ∷ []) ls line a.1 (rw append_assoc h))
+use Rattle.fluidd.specs.Output.{entry_line, lines_for, meaning, verdict_lines}
+use Rattle.fluidd.specs.Documents.{Admits, Enters, Stands, StandsBehind, line_of, with_entry, with_entry_of}
 
 pushed : (rs : List Raw) (entry : Option Raw) → ledger (rs ++ cons_option entry []) ≡ with_entry_of (ledger rs) entry
 pushed rs None = ap ledger (append-nil rs)
@@ -42,24 +40,53 @@ pub lines-entry : (l : Ledger) (raw : Raw) → verdict_lines (with_entry l raw) 
 unfolding verdict_lines
 lines-entry l raw = flat_map-append entry_line l _ ∙ ap (λ s. verdict_lines l ++ s) (append-nil (entry_line (raw, verdict l raw)))
 
+lines-entry_of : (l : Ledger) (entry : Option Raw) → verdict_lines (with_entry_of l entry) ≡ verdict_lines l ++ line_of l entry
+lines-entry_of l None = sym (append-nil (verdict_lines l))
+lines-entry_of l (Some raw) = lines-entry l raw
+
+-- what is written for one line more
+lines-line : (before : List (List ℕ)) (line : List ℕ) →
+    lines_for (before ++ line ∷ []) ≡ lines_for before ++ line_of (ledger (records before)) (entry_of line)
+lines-line before line = ap verdict_lines (ledger-line before line) ∙ lines-entry_of (ledger (records before)) (entry_of line)
+
 -- a text that spells an entry is taken as the entry is
-pub takes-spelled : (limits : Limits) (gone : List ℕ) (l : Ledger) (text : List ℕ) (raw : Raw) (new : Document) (result : Result (Unit {0}) Untaken) →
-    (length text == 0) ≡ false → raw_spelled text ≡ Ok raw → Admits limits gone l raw new result → Takes limits gone l text new result
+pub enters-spelled : (limits : Limits) (l : Ledger) (text : List ℕ) (raw : Raw) (new : Document) (old-waiting new-waiting : List ℕ) (result : Result (Unit {0}) (Untaken Why NoMemory)) →
+    (length text == 0) ≡ false → raw_spelled text ≡ Ok raw → Admits limits l raw new old-waiting new-waiting result → Enters limits l text new old-waiting new-waiting result
 unfolding text_refusal entry_of
-takes-spelled limits gone l text raw new (Ok done) some spelled h = rw (some, spelled) h
-takes-spelled limits gone l text raw new (Err (untaken.Refused why)) some spelled h = rw (some, spelled) h
-takes-spelled limits gone l text raw new (Err untaken.NoMemory) some spelled h = h
+enters-spelled limits l text raw new old-waiting new-waiting (Ok done) some spelled h = rw (some, spelled) h
+enters-spelled limits l text raw new old-waiting new-waiting (Err (untaken.Refused why)) some spelled h = rw (some, spelled) h
+enters-spelled limits l text raw new old-waiting new-waiting (Err (untaken.Failed fault)) some spelled h = tt
 
 pub unless-ok : {T E : Type 0} (memory : E) (value : T) (expected : Result T E) → IsUnless memory (Ok value) expected → expected ≡ Ok value
 unless-ok memory value expected h = ⊎_elim (λ (wanting : Ok value ≡ Err memory). cc) (λ (same : Ok value ≡ expected). sym same) h
+
+-- ---- a document is a taker
+
+pub takes-entered : (limits : Limits) (before : List (List ℕ)) (text : List ℕ) (new : Document) (old-waiting new-waiting : List ℕ) (result : Result (Unit {0}) (Untaken Why NoMemory)) →
+    Enters limits (ledger (records before)) text new old-waiting new-waiting result →
+    Takes (meaning limits) (λ ls. StandsBehind (meaning limits) ls new) before text old-waiting new-waiting result
+takes-entered limits before text new old-waiting new-waiting (Ok done) h = record {
+  accepted = h.0;
+  keeps = record { limits = limits; is = refl; stands = subst (λ l. Stands limits l new) (sym (ledger-line before text)) h.1.stands };
+  more = line_of (ledger (records before)) (entry_of text);
+  waits = h.1.waits;
+  output = lines-line before text;
+}
+takes-entered limits before text new old-waiting new-waiting (Err (untaken.Refused why)) h = (h.0, record { limits = limits; is = refl; stands = h.1 })
+takes-entered limits before text new old-waiting new-waiting (Err (untaken.Failed fault)) h = tt
+
+pub takes : (m : Meaning Why) (before : List (List ℕ)) (text : List ℕ) (old new : Document) (old-waiting new-waiting : List ℕ) (result : Result (Unit {0}) (Untaken Why NoMemory)) →
+    ((limits : Limits) (l : Ledger) → Stands limits l old → Enters limits l text new old-waiting new-waiting result) → StandsBehind m before old →
+    Takes m (λ ls. StandsBehind m ls new) before text old-waiting new-waiting result
+takes m before text old new old-waiting new-waiting result enters b =
+    subst (λ m. Takes m (λ ls. StandsBehind m ls new) before text old-waiting new-waiting result) (sym b.is)
+    (takes-entered b.limits before text new old-waiting new-waiting result (enters b.limits (ledger (records before)) b.stands))
+
+pub stands-none : (limits : Limits) (d : Document) → Stands limits [] d → StandsBehind (meaning limits) [] d
+unfolding ledger records
+stands-none limits d h = record { limits = limits; is = refl; stands = h }
 
 -- ---- an entry more
 
 pub counted-entry : (l : Ledger) (raw : Raw) (v : Verdict) (counts : Bool) → is_counted raw ≡ counts → counted (l ++ (raw, v) ∷ []) ≡ counted l + cond counts 1 0
 counted-entry l raw v counts h = counted-push l (raw, v) ∙ ap (λ b. counted l + cond b 1 0) h
-
-pub lines-grown : (gone waiting new : List ℕ) (l : Ledger) (raw : Raw) (v : Verdict) → gone ++ waiting ≡ verdict_lines l →
-    new ≡ waiting ++ entry_line (raw, v) → v ≡ verdict l raw → gone ++ new ≡ verdict_lines (with_entry l raw)
-lines-grown gone waiting new l raw v before is same =
-    ap (λ s. gone ++ s) (is ∙ ap (λ w. waiting ++ entry_line (raw, w)) same) ∙ sym (append_assoc gone waiting (entry_line (raw, verdict l raw)))
-    ∙ ap (λ s. s ++ entry_line (raw, verdict l raw)) before ∙ sym (lines-entry l raw)

@@ -1,7 +1,4 @@
 mod Grown
-mod Answers
 mod Clients
-mod Advances
-mod Endings
 mod Statuses
-mod WholeLines
+mod Shown

@@ -1,4 +1,5 @@
 pub mod Input
 pub mod Refusals
 pub mod Output
-pub mod Progress
+pub mod Documents
+pub mod Tasks

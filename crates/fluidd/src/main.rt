@@ -1,16 +1,16 @@
 //! The ordering service of collaborative documents, as a program.
-//! `run` has the top call, `sequence` the command of that name, `document` what it keeps between two lines of its
-//! input, `refusal` why a line is refused, `status` how a run ends, `sink` how output is handed on, and `laws` what holds
-//! of the definitions.
+//! `run` has the top call, `task` what the words ask for, `sequence` the command of that name, `document` what it keeps
+//! between two lines of its input, `refusal` why the text of a line is refused, `status` how a run ends, and `laws` what
+//! holds of the definitions.
 #![tactic(auto)]
 
 mod document;
 pub mod laws;
 pub mod refusal;
 pub mod run;
-mod sequence;
-mod sink;
+pub mod sequence;
 pub mod status;
+mod task;
 #[cfg(test)]
 mod tests;
 
@@ -23,7 +23,7 @@ use std::{env, io};
 
 fn main(rt: HostRuntime) -> ExitCode {
     let alloc = rt.alloc();
-    let words = match read_words(&rt) {
+    let words = match arguments(&rt) {
         Ok(words) => words,
         Err(fault) if fault.kind() == io::ErrorKind::OutOfMemory => {
             return ExitCode::from(Status::NoMemory.code());
@@ -38,7 +38,7 @@ fn main(rt: HostRuntime) -> ExitCode {
 }
 
 // The words behind the program's name.
-fn read_words(rt: &HostRuntime) -> io::Result<Vec<Text>> {
+fn arguments(rt: &HostRuntime) -> io::Result<Vec<Text>> {
     let mut words = Vec::new(rt.alloc());
     for word in env::args(rt)?.skip(1) {
         words.push(Text::new(word))?;

@@ -1,23 +1,20 @@
 //! The top call of the program.
-ghost use Rattle.std.specs.Prelude.{◌≡◌, ◌⊎◌, [], true, false};
+ghost use Rattle.std.specs.Prelude.{◌≡◌, ℕ, List};
 ghost use Rattle.fluidd.specs.Input.{full};
-ghost use Rattle.fluid_io.specs.Causes.{Rose, Tells};
-ghost use Rattle.fluidd.specs.Output.{NoFault, ReadFailed, IsWhole, IsRefused, IsInterrupted, IsBegun, IsCut, IsStatus, Wrote, Sequences, Completes, Refuses, TellsRefused, ShowsUsage, is_sequence, usage_line};
+ghost use Rattle.fluidd.specs.Output.{Sequences, Shows, code_of};
+ghost use Rattle.fluidd.specs.Tasks.{IsPage, Sequencing, Showing, Usage, task_of, usage_line};
 
-use crate::sequence::sequence;
-use crate::sink::write_out;
+use crate::sequence::sequence_within;
 use crate::status::Status;
+use crate::task::{Task, read_task};
 use fluid_io::{Failed, Sink, Source};
-use fluid_json::Text;
+use fluid_json::{NoMemory, Text};
+use fluid_pipe::write_out;
 use fluid_rules::Limits;
 use std::alloc::Global;
 
-/// What is written where the words are no command.
-const USAGE: &str =
-    "usage: fluidd sequence | script | load DOC | workload N [--clients C] [--ops K] | serve PORT [--connections N] [--lines]\n";
-
-/// Runs the command that the words name, which are those behind the program's name, and gives the exit status.
-/// Words that name none get the usage line, and the input isn't touched.
+/// Runs the command that the words ask for, which are those behind the program's name, and gives the exit status. Words
+/// that ask for a page get it, and words that ask for nothing the usage line; the input isn't touched then.
 pub fn run<R, S: Source, K: Sink>(
     rt: &R,
     alloc: Global,
@@ -25,75 +22,35 @@ pub fn run<R, S: Source, K: Sink>(
     input: &mut S,
     output: &mut K,
 ) -> u8
-    ensures whole { result ≡ 0 → Wrote (IsWhole full) (S.seen input.old).left (K.seen output.old).written (K.seen output.new).written
-        × Tells (S.seen input.new).left (λ bytes. bytes ≡ []) }
-    ensures refused { result ≡ 3 → Wrote (IsRefused full) (S.seen input.old).left (K.seen output.old).written (K.seen output.new).written }
-    ensures read_fault { result ≡ 4 → ReadFailed (S.seen input.old) (K.seen output.old) (S.seen input.new) (K.seen output.new) }
-    ensures interrupted { result ≡ 4 → Wrote (IsInterrupted full (S.seen input.new).left) (S.seen input.old).left (K.seen output.old).written (K.seen output.new).written }
-    ensures write_fault { result ≡ 5 → Rose (K.seen output.old).faults (K.seen output.new).faults }
-    ensures cut { result ≡ 5 → is_sequence words.now ≡ true →
-        Wrote (IsCut full) (S.seen input.old).left (K.seen output.old).written (K.seen output.new).written }
-    ensures begun { (result ≡ 4) ⊎ (result ≡ 6) → Wrote (IsBegun full) (S.seen input.old).left (K.seen output.old).written (K.seen output.new).written }
-    ensures no_fault { (result ≡ 0) ⊎ ((result ≡ 3) ⊎ (result ≡ 6)) →
-        NoFault (S.seen input.old) (K.seen output.old) (S.seen input.new) (K.seen output.new) }
-    ensures known { is_sequence words.now ≡ true → IsStatus result }
-    ensures complete { is_sequence words.now ≡ true → Completes full (S.seen input.old) (K.seen output.old) (S.seen input.new) (K.seen output.new) result }
-    ensures refuses { is_sequence words.now ≡ true → Refuses full (S.seen input.old) (K.seen output.old) (S.seen input.new) (K.seen output.new) result }
-    ensures tells { is_sequence words.now ≡ true → TellsRefused full (S.seen input.old) (K.seen output.old) (S.seen input.new) (K.seen output.new) result }
-    ensures usage { is_sequence words.now ≡ false → ShowsUsage (K.seen output.old) (K.seen output.new) result }
-    ensures untouched { is_sequence words.now ≡ false → S.seen input.new ≡ S.seen input.old }
+    ensures sequence { task_of words.now ≡ Sequencing →
+        Sequences full (S.seen input.old) (K.seen output.old) (S.seen input.new) (K.seen output.new) result }
+    ensures page { (text : List ℕ) → task_of words.now ≡ Showing text →
+        Shows 0 text (K.seen output.old) (K.seen output.new) result }
+    ensures usage { task_of words.now ≡ Usage → Shows 2 usage_line (K.seen output.old) (K.seen output.new) result }
+    ensures untouched { (task_of words.now ≡ Sequencing → ⊥) → S.seen input.new ≡ S.seen input.old }
 {
-    if is_sequence(words) {
-        sequence_within(
-            rt,
-            alloc,
-            input,
-            output,
-            Limits::FULL.entries,
-            Limits::FULL.clients,
-        )
-    } else {
-        usage(output)
+    match read_task(alloc, words) {
+        Ok(Task::Sequence) => {
+            let Limits {
+                entries,
+                clients,
+                ..
+            } = Limits::FULL;
+            sequence_within(rt, alloc, input, output, entries, clients)
+        }
+        Ok(Task::Show(status, text)) => show(output, status, text),
+        Err(NoMemory) => Status::NoMemory.code(),
     }
 }
 
-/// The command `sequence` within limits of one's own: how many joins and submissions may be entered, and how many
-/// clients may be joined.
-pub fn sequence_within<R, S: Source, K: Sink>(
-    _rt: &R,
-    alloc: Global,
-    input: &mut S,
-    output: &mut K,
-    entries: u64,
-    clients: u32,
-) -> u8
-    ensures { Sequences (record full { entries = entries; clients = clients }) (S.seen input.old) (K.seen output.old)
-        (S.seen input.new) (K.seen output.new) result }
+// Writes a text for a person, and gives this status, or that of a fault of the sink.
+#[tactic(auto, using(crate::proofs::Shown::shown, crate::proofs::Shown::failed))]
+fn show<K: Sink>(output: &mut K, status: Status, text: &str) -> u8
+    requires { IsPage (code_of status) }
+    ensures { Shows (code_of status) text.now (K.seen output.old) (K.seen output.new) result }
 {
-    let limits = Limits {
-        entries,
-        clients,
-        ..Limits::FULL
-    };
-    sequence(alloc, limits, input, output).code()
-}
-
-// Whether the words are the one command that there is.
-fn is_sequence(words: &[Text]) -> bool
-    ensures { result ≡ is_sequence words.now }
-{
-    match words {
-        [word] => word.as_str() == "sequence",
-        _ => false,
+    match write_out(output, text.as_bytes()) {
+        Ok(()) => status.code(),
+        Err(Failed) => Status::WriteFault.code(),
     }
-}
-
-fn usage<K: Sink>(output: &mut K) -> u8
-    ensures { ShowsUsage (K.seen output.old) (K.seen output.new) result }
-{
-    let status = match write_out(output, USAGE.as_bytes()) {
-        Ok(()) => Status::Usage,
-        Err(Failed) => Status::WriteFault,
-    };
-    status.code()
 }

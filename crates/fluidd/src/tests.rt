@@ -1,12 +1,14 @@
 //! The program over readers and writers in memory.
 ghost use Rattle.std.specs.Prelude.{◌<◌};
 
-use crate::run::{run, sequence_within};
-use fluid_io::{Failed, MemorySink, MemorySource, Source, StdSink};
+use crate::run::run;
+use crate::sequence::sequence_within;
+use fluid_io::{Failed, MemorySink, MemorySource, Source};
 use fluid_json::Text;
-use std::alloc::Global;
-use std::io;
-use std::io::{ErrorKind, Write};
+use fluid_words::{CommandName, VERSION, page};
+use std::alloc::{AllocError, Global};
+use std::fmt::Write;
+use std::process::Abort;
 use std::test::Fail;
 
 // A join, and the line of its verdict in an empty document.
@@ -385,33 +387,23 @@ const LIMITS: &[(u64, u32, &[&str], u8, &[&str])] = &[
     ),
 ];
 
-// How a run ends: its status, and what it wrote.
-#[derive(Drop)]
-struct Ended {
-    status: u8,
-    output: String,
-}
-
-// Runs the program with these words over this input.
-fn ran(rt: &HostRuntime, words: &[&str], input: &[u8]) -> Result<Ended, Fail> {
-    ran_in_pieces(rt, words, input, usize::MAX, &[], &[])
-}
-
-// The same, where each read gives and each write takes at most so many bytes, and these reads and writes fail.
-fn ran_in_pieces(
-    rt: &HostRuntime,
+// Runs the program with these words over this input, where each read gives and each write takes at most so many bytes,
+// and these reads and writes fail; it ends with this status, and writes this.
+fn ends(
+    rt: &impl Abort,
+    alloc: Global,
     words: &[&str],
     input: &[u8],
-    most: usize,
-    reads: &[u64],
-    writes: &[u64],
-) -> Result<Ended, Fail>
-    requires { 0 < most }
+    pieces: (usize, &[u64], &[u64]),
+    status: u8,
+    output: &str,
+) -> Result<(), AllocError>
+    requires { 0 < pieces.0 }
 {
-    let alloc = rt.alloc();
+    let (most, reads, writes) = pieces;
     let mut texts = Vec::new(alloc);
     for word in words {
-        texts.push(Text::copied(alloc, word)?)?;
+        texts.push(Text::new(String::from_str(alloc, word)?))?;
     }
     let mut source = MemorySource::in_pieces(
         Vec::from_slice(alloc, input)?,
@@ -419,28 +411,67 @@ fn ran_in_pieces(
         Vec::from_slice(alloc, reads)?,
     );
     let mut sink = MemorySink::in_pieces(alloc, most, Vec::from_slice(alloc, writes)?);
-    let status = run(rt, alloc, &texts, &mut source, &mut sink);
-    let output = String::from_utf8(Vec::from_slice(alloc, sink.written())?)?;
-    Ok(Ended { status, output })
+    let ended = run(rt, alloc, &texts, &mut source, &mut sink);
+    assert!(rt; ended == status, "{ended}, and not {status}");
+    assert!(rt;
+        sink.written() == output.as_bytes(),
+        "what was written, at {status}"
+    );
+    Ok(())
 }
 
-// Two lines, each with its end.
-fn lines(alloc: Global, first: &str, second: &str) -> Result<String, Fail> {
-    let text = format!(in alloc; "{first}\n{second}\n")?;
-    Ok(text)
+// The same with `sequence`, without a fault.
+fn sequences(
+    rt: &impl Abort,
+    alloc: Global,
+    input: &[u8],
+    status: u8,
+    output: &str,
+) -> Result<(), AllocError> {
+    ends(
+        rt,
+        alloc,
+        &["sequence"],
+        input,
+        (usize::MAX, &[], &[]),
+        status,
+        output,
+    )
 }
 
 #[test]
-fn no_input_gives_no_output_and_no_words_give_the_usage_line(rt: HostRuntime) -> Result<(), Fail> {
+fn words_ask_for_a_command_for_a_page_or_for_nothing(rt: HostRuntime) -> Result<(), AllocError> {
+    let alloc = rt.alloc();
+    let program = page(None).expect(&rt, "a page");
+    let sequence = page(Some(CommandName::Sequence)).expect(&rt, "a page");
     for (words, status, output) in [
         (["sequence"].as_slice(), 0, ""),
+        (["--help"].as_slice(), 0, program),
+        (["sequence", "--help"].as_slice(), 0, sequence),
+        (["--version"].as_slice(), 0, VERSION),
         ([].as_slice(), 2, USAGE),
         (["sequences"].as_slice(), 2, USAGE),
         (["sequence", "d"].as_slice(), 2, USAGE),
+        (["script"].as_slice(), 2, USAGE),
+        (["script", "--help"].as_slice(), 2, USAGE),
+        (["load", "d"].as_slice(), 2, USAGE),
     ] {
-        let ended = ran(&rt, words, b"")?;
-        assert_eq!(rt; ended.status, status);
-        assert_eq!(rt; ended.output.as_str(), output);
+        ends(
+            &rt,
+            alloc,
+            words,
+            b"",
+            (usize::MAX, &[], &[]),
+            status,
+            output,
+        )?;
+    }
+    for words in [
+        ["--help"].as_slice(),
+        ["--version"].as_slice(),
+        [].as_slice(),
+    ] {
+        ends(&rt, alloc, words, b"", (64, &[], &[1]), 5, "")?;
     }
     Ok(())
 }
@@ -455,9 +486,7 @@ fn each_entry_gets_its_verdict_line(rt: HostRuntime) -> Result<(), Fail> {
             writeln!(input, "{record}")?;
             writeln!(output, "{line}")?;
         }
-        let ended = ran(&rt, &["sequence"], input.as_bytes())?;
-        assert_eq!(rt; ended.status, 0);
-        assert_eq!(rt; ended.output.as_str(), output.as_str());
+        sequences(&rt, alloc, input.as_bytes(), 0, output.as_str())?;
     }
     Ok(())
 }
@@ -466,163 +495,82 @@ fn each_entry_gets_its_verdict_line(rt: HostRuntime) -> Result<(), Fail> {
 fn a_second_line_gets_its_answer(rt: HostRuntime) -> Result<(), Fail> {
     let alloc = rt.alloc();
     for (line, status, answer) in SECOND_LINES {
-        let input = lines(alloc, JOIN, line)?;
-        let ended = ran(&rt, &["sequence"], input.as_bytes())?;
-        let output = lines(alloc, JOINED, answer)?;
-        assert_eq!(rt; ended.status, *status, "{line}");
-        assert_eq!(rt; ended.output.as_str(), output.as_str());
+        let input = format!(in alloc; "{JOIN}\n{line}\n")?;
+        let output = format!(in alloc; "{JOINED}\n{answer}\n")?;
+        sequences(&rt, alloc, input.as_bytes(), *status, output.as_str())?;
     }
     Ok(())
 }
 
 #[test]
-fn an_empty_line_is_passed_over_and_a_long_one_refused(rt: HostRuntime) -> Result<(), Fail> {
+fn a_second_line_may_be_empty_too_long_cut_or_no_text(rt: HostRuntime) -> Result<(), Fail> {
     let alloc = rt.alloc();
     let long = " ".repeat(alloc, 1_048_577)?;
-    let refused = format!(in alloc; "{JOINED}\nbad line 2: too long\n")?;
-    let joined = format!(in alloc; "{JOINED}\n")?;
-    for (line, status, output) in [
-        ("", 0, joined.as_str()),
-        ("\r", 0, joined.as_str()),
-        (long.as_str(), 3, refused.as_str()),
-    ] {
-        let input = lines(alloc, JOIN, line)?;
-        let ended = ran(&rt, &["sequence"], input.as_bytes())?;
-        assert_eq!(rt; ended.status, status);
-        assert_eq!(rt; ended.output.as_str(), output);
-    }
-    Ok(())
-}
-
-#[test]
-fn a_line_that_is_no_text_is_refused_and_so_is_a_cut_one(rt: HostRuntime) -> Result<(), Fail> {
-    let alloc = rt.alloc();
-    for (last, why) in [
-        (b"\xff\n".as_slice(), "not UTF-8"),
-        (b"\xc3\x28".as_slice(), "not UTF-8"),
-        (b"{\"raw\":\"leave\",\"clientId\":".as_slice(), "not JSON"),
+    for (line, status, answer) in [
+        (b"\n".as_slice(), 0, ""),
+        (b"\r\n".as_slice(), 0, ""),
+        (long.as_bytes(), 3, "bad line 2: too long\n"),
+        (b"\xff\n".as_slice(), 3, "bad line 2: not UTF-8\n"),
+        (b"\xc3\x28".as_slice(), 3, "bad line 2: not UTF-8\n"),
+        (
+            b"{\"raw\":\"leave\",\"clientId\":".as_slice(),
+            3,
+            "bad line 2: not JSON\n",
+        ),
     ] {
         let mut input = Vec::from_slice(alloc, JOIN.as_bytes())?;
         input.push(b'\n')?;
-        input.extend_from_slice(last)?;
-        let ended = ran(&rt, &["sequence"], &input)?;
-        let output = format!(in alloc; "{JOINED}\nbad line 2: {why}\n")?;
-        assert_eq!(rt; ended.status, 3);
-        assert_eq!(rt; ended.output.as_str(), output.as_str());
+        input.extend_from_slice(line)?;
+        let output = format!(in alloc; "{JOINED}\n{answer}")?;
+        sequences(&rt, alloc, &input, status, output.as_str())?;
     }
     Ok(())
 }
 
 #[test]
-fn each_fault_of_the_source_leaves_whole_lines(rt: HostRuntime) -> Result<(), Fail> {
+fn each_fault_leaves_whole_lines_or_a_beginning(rt: HostRuntime) -> Result<(), Fail> {
     let alloc = rt.alloc();
-    let input = lines(alloc, JOIN, JOIN)?;
-    let first = format!(in alloc; "{JOINED}\n")?;
-    let both = format!(in alloc; "{JOINED}\n{{\"dropped\":true}}\n")?;
-    // Reads of 96 bytes give the first line and a bit of the second, then the rest, and then the end.
-    for (read, output) in [(1, ""), (2, first.as_str()), (3, both.as_str())] {
-        let ended = ran_in_pieces(&rt, &["sequence"], input.as_bytes(), 96, &[read], &[])?;
-        assert_eq!(rt; ended.status, 4, "{read}");
-        assert_eq!(rt; ended.output.as_str(), output, "{read}");
-    }
-    Ok(())
-}
-
-#[test]
-fn a_line_that_was_read_before_the_source_failed_is_refused(rt: HostRuntime) -> Result<(), Fail> {
-    let alloc = rt.alloc();
-    let wide = " ".repeat(alloc, 100)?;
-    let wide = format!(in alloc; "7{wide}8")?;
     let joined = format!(in alloc; "{JOINED}\n")?;
     let refused = format!(in alloc; "{JOINED}\nbad line 2: not JSON\n")?;
-    // A read of 96 bytes has the join and the short line, or the join and a part of the wide one.
-    for (line, read, status, output) in [
-        ("7 8", 1, 4, ""),
-        ("7 8", 2, 3, refused.as_str()),
-        (wide.as_str(), 2, 4, joined.as_str()),
-        (wide.as_str(), 3, 3, refused.as_str()),
-    ] {
-        let input = format!(in alloc; "{JOIN}\n{line}\n{JOIN}\n")?;
-        let ended = ran_in_pieces(&rt, &["sequence"], input.as_bytes(), 96, &[read], &[])?;
-        assert_eq!(rt; ended.status, status, "{line}, read {read}");
-        assert_eq!(rt; ended.output.as_str(), output, "{line}, read {read}");
+    // Reads of 96 bytes give the first line and the second one, and the third in parts.
+    let input = format!(in alloc; "{JOIN}\n7 8\n{JOIN}\n")?;
+    for (read, status, output) in [(1, 4, ""), (2, 3, refused.as_str())] {
+        ends(
+            &rt,
+            alloc,
+            &["sequence"],
+            input.as_bytes(),
+            (96, &[read], &[]),
+            status,
+            output,
+        )?;
     }
-    // With no line end behind it the line was read once the second read has given nothing.
+    // With no line end behind it a line was read once a read has given nothing.
+    let input = format!(in alloc; "{JOIN}\n7 8")?;
     for (read, status, output) in [(2, 4, joined.as_str()), (3, 3, refused.as_str())] {
-        let input = format!(in alloc; "{JOIN}\n7 8")?;
-        let ended = ran_in_pieces(&rt, &["sequence"], input.as_bytes(), 96, &[read], &[])?;
-        assert_eq!(rt; ended.status, status, "read {read}");
-        assert_eq!(rt; ended.output.as_str(), output, "read {read}");
+        ends(
+            &rt,
+            alloc,
+            &["sequence"],
+            input.as_bytes(),
+            (96, &[read], &[]),
+            status,
+            output,
+        )?;
     }
-    Ok(())
-}
-
-#[test]
-fn each_fault_of_the_sink_leaves_a_beginning(rt: HostRuntime) -> Result<(), Fail> {
-    let alloc = rt.alloc();
-    let input = lines(alloc, JOIN, "")?;
-    let whole = format!(in alloc; "{JOINED}\n")?;
     // Four writes of 64 bytes take the line, and then the sink hands it on.
-    for write in 1..=5 {
-        let ended = ran_in_pieces(&rt, &["sequence"], input.as_bytes(), 64, &[], &[write])?;
-        assert_eq!(rt; ended.status, 5, "{write}");
-        assert!(rt;
-            whole.as_str().starts_with(ended.output.as_str()),
-            "{write}"
-        );
-    }
-    let unwritten = ran_in_pieces(&rt, &[], b"", 64, &[], &[1])?;
-    assert_eq!(rt; unwritten.status, 5);
-    assert_eq!(rt; unwritten.output.as_str(), "");
-    Ok(())
-}
-
-// A writer that takes at most 64 bytes at once, and none at one of its calls.
-#[derive(Drop)]
-struct FullAt {
-    call: u64,
-    calls: u64,
-    taken: Vec<u8>,
-}
-
-impl Write for FullAt {
-    fn write(&mut self, bytes: &[u8]) -> io::Result<usize> {
-        self.calls = self.calls.saturating_add(1);
-        if self.calls == self.call {
-            return Ok(0);
-        }
-        let count = bytes.len().min(64);
-        match self.taken.extend_from_slice(&bytes[..count]) {
-            Ok(()) => Ok(count),
-            Err(_) => Err(io::Error::from(ErrorKind::OutOfMemory)),
-        }
-    }
-
-    fn flush(&mut self) -> io::Result<()> {
-        Ok(())
-    }
-}
-
-#[test]
-fn a_sink_that_takes_nothing_has_failed(rt: HostRuntime) -> Result<(), Fail> {
-    let alloc = rt.alloc();
-    let input = lines(alloc, JOIN, "")?;
-    let whole = format!(in alloc; "{JOINED}\n")?;
-    let mut words = Vec::new(alloc);
-    words.push(Text::copied(alloc, "sequence")?)?;
-    for (call, status, length) in [(1, 5, 0), (2, 5, 64), (3, 5, 128), (4, 5, 192), (5, 0, 222)] {
-        let bytes = Vec::from_slice(alloc, input.as_bytes())?;
-        let mut source = MemorySource::new(bytes, Vec::new(alloc));
-        let mut writer = FullAt {
-            call,
-            calls: 0,
-            taken: Vec::new(alloc),
-        };
-        let mut sink = StdSink::new(&mut writer);
-        let ended = run(&rt, alloc, &words, &mut source, &mut sink);
-        assert_eq!(rt; ended, status, "{call}");
-        assert_eq!(rt; writer.taken.len(), length, "{call}");
-        assert!(rt; whole.as_bytes().starts_with(&writer.taken), "{call}");
+    let input = format!(in alloc; "{JOIN}\n")?;
+    for (write, length) in [(1, 0), (2, 64), (3, 128), (4, 192), (5, 222)] {
+        let front = joined.as_str().get(..length).expect(&rt, "a beginning");
+        ends(
+            &rt,
+            alloc,
+            &["sequence"],
+            input.as_bytes(),
+            (64, &[], &[write]),
+            5,
+            front,
+        )?;
     }
     Ok(())
 }
@@ -639,14 +587,11 @@ fn a_document_takes_no_more_than_its_limits(rt: HostRuntime) -> Result<(), Fail>
         for answer in *answers {
             writeln!(output, "{answer}")?;
         }
-        let mut source = MemorySource::new(
-            Vec::from_slice(alloc, input.as_bytes())?,
-            Vec::new(alloc),
-        );
+        let bytes = Vec::from_slice(alloc, input.as_bytes())?;
+        let mut source = MemorySource::new(bytes, Vec::new(alloc));
         let mut sink = MemorySink::new(alloc, Vec::new(alloc));
         let ended = sequence_within(&rt, alloc, &mut source, &mut sink, *entries, *clients);
-        assert_eq!(rt; ended, *status);
-        assert_eq!(rt; sink.written(), output.as_bytes());
+        assert!(rt; ended == *status && sink.written() == output.as_bytes());
     }
     Ok(())
 }
@@ -686,9 +631,9 @@ fn long_input(alloc: Global) -> Result<Long, Fail> {
 }
 
 #[test]
-fn a_long_input_is_answered_whole_or_as_far_as_it_was_read(rt: HostRuntime) -> Result<(), Fail> {
-    let long = long_input(rt.alloc())?;
-    let input = long.input.as_bytes();
+fn a_long_input_is_answered_as_far_as_it_was_read(rt: HostRuntime) -> Result<(), Fail> {
+    let alloc = rt.alloc();
+    let long = long_input(alloc)?;
     // Each read gives a buffer of 64 KiB; the fourth tells the end, and a fifth there isn't.
     for (read, bytes, status) in [
         (1, 0, 4),
@@ -703,51 +648,20 @@ fn a_long_input_is_answered_whole_or_as_far_as_it_was_read(rt: HostRuntime) -> R
                 length = *answered;
             }
         }
-        let ended = ran_in_pieces(&rt, &["sequence"], input, usize::MAX, &[read], &[])?;
-        assert_eq!(rt; ended.status, status, "{read}");
-        assert_eq!(rt; ended.output.len(), length, "{read}");
-        assert!(rt;
-            long.output.as_str().starts_with(ended.output.as_str()),
-            "{read}"
-        );
-    }
-    Ok(())
-}
-
-#[test]
-fn a_long_output_stops_behind_the_pieces_that_were_written(rt: HostRuntime) -> Result<(), Fail> {
-    let alloc = rt.alloc();
-    let long = long_input(alloc)?;
-    // How much was written before each call of the sink: the lines go to it once they are 64 KiB, with two calls each time.
-    let mut written = Vec::new(alloc);
-    written.push(0)?;
-    let mut gone = 0_usize;
-    for (_, length) in &long.ends {
-        if length.saturating_sub(gone) >= 65_536 {
-            gone = *length;
-            written.push(gone)?;
-            written.push(gone)?;
-        }
-    }
-    written.push(long.output.len())?;
-    assert_eq!(rt; written.len(), 6);
-    let mut call = 0_u64;
-    for length in &written {
-        call = call.saturating_add(1);
-        let ended = ran_in_pieces(
+        let front = long
+            .output
+            .as_str()
+            .get(..length)
+            .expect(&rt, "whole lines");
+        ends(
             &rt,
+            alloc,
             &["sequence"],
             long.input.as_bytes(),
-            usize::MAX,
-            &[],
-            &[call],
+            (usize::MAX, &[read], &[]),
+            status,
+            front,
         )?;
-        assert_eq!(rt; ended.status, 5, "{call}");
-        assert_eq!(rt; ended.output.len(), *length, "{call}");
-        assert!(rt;
-            long.output.as_str().starts_with(ended.output.as_str()),
-            "{call}"
-        );
     }
     Ok(())
 }
@@ -757,15 +671,12 @@ fn what_is_behind_a_refused_line_stays_in_the_source(rt: HostRuntime) -> Result<
     let alloc = rt.alloc();
     let behind = "\n".repeat(alloc, 100_000)?;
     let input = format!(in alloc; "7 8\n{behind}")?;
-    let mut words = Vec::new(alloc);
-    words.push(Text::copied(alloc, "sequence")?)?;
     // Read byte by byte, or with one buffer of 64 KiB.
     for (most, left) in [(1, 100_000), (usize::MAX, 34_468)] {
         let bytes = Vec::from_slice(alloc, input.as_bytes())?;
         let mut source = MemorySource::in_pieces(bytes, most.max(1), Vec::new(alloc));
         let mut sink = MemorySink::new(alloc, Vec::new(alloc));
-        let status = run(&rt, alloc, &words, &mut source, &mut sink);
-        assert_eq!(rt; status, 3);
+        let status = sequence_within(&rt, alloc, &mut source, &mut sink, 9, 9);
         let mut count = 0_usize;
         let mut piece = vec![in alloc; 0; 200_000]?;
         for _ in 0..100_001 {
@@ -774,7 +685,7 @@ fn what_is_behind_a_refused_line_stays_in_the_source(rt: HostRuntime) -> Result<
                 Err(Failed) => count = 0,
             }
         }
-        assert_eq!(rt; count, left, "{most}");
+        assert!(rt; status == 3 && count == left, "{most}");
     }
     Ok(())
 }

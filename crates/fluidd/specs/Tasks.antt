@@ -1,0 +1,56 @@
+-- What the words ask of the program as it is built.
+use Rattle.std.specs.Prelude.{◌≡◌, ◌⊎◌, ℕ, List, Option, Some, None, Result, Ok, Err, codes}
+use Rattle.fluid_words.specs.Pages.{page, version_page}
+use Rattle.fluid_words.specs.Words.{command_of}
+use Rattle.fluid_words.specs.declared.command.Command.{Command}
+use Rattle.fluid_words.specs.declared.command.Command.TheVariants.{Sequence, Help, Version}
+use Rattle.fluid_words.specs.declared.command.WordsFault.{WordsFault}
+use Rattle.fluidd.specs.declared.status.Status.{Status}
+use Rattle.fluidd.specs.declared.status.Status.TheVariants as status
+use Rattle.fluidd.specs.declared.task.Task.{Task as Taken}
+use Rattle.fluidd.specs.declared.task.Task.TheVariants as taken
+
+-- what is written where the words ask for nothing
+abbrev pub usage_line : List ℕ
+usage_line = codes "usage: fluidd sequence | script | load DOC | workload N [--clients C] [--ops K] | serve PORT [--connections N] [--lines]\n"
+
+-- what may be done: the command `sequence`, a page for a person, or the usage line
+pub data Task : Type 0 where
+  Sequencing : Task
+  Showing : (page : List ℕ) → Task
+  Usage : Task
+
+-- the page on what is built, and the usage line for what isn't
+abbrev pub page_task : Option (List ℕ) → Task
+page_task (Some text) = Showing text
+page_task None = Usage
+
+-- which commands are built: one that isn't gets the usage line
+abbrev pub task_by : Command → Task
+task_by Sequence = Sequencing
+task_by (Help topic) = page_task (page topic)
+task_by Version = Showing version_page
+task_by command = Usage
+
+abbrev pub task_for : Result Command WordsFault → Task
+task_for (Ok command) = task_by command
+task_for (Err fault) = Usage
+
+-- what the words behind the program's name ask for
+abbrev pub task_of : List (List ℕ) → Task
+task_of words = task_for (command_of words)
+
+-- this text is shown, under this status
+abbrev pub IsShown : Status → List ℕ → Taken → Type 0
+IsShown status text taken.Sequence = ⊥
+IsShown status text (taken.Show its_status its_text) = (its_status ≡ status) × (its_text.now ≡ text)
+
+-- what is done is what is asked for
+abbrev pub IsTask : Task → Taken → Type 0
+IsTask Sequencing done = done ≡ taken.Sequence
+IsTask (Showing text) done = IsShown status.Done text done
+IsTask Usage done = IsShown status.Usage usage_line done
+
+-- a text is shown under one of two statuses: that it was asked for, or that the words ask for nothing
+abbrev pub IsPage : (status : ℕ) → Type 0
+IsPage status = (status ≡ 0) ⊎ (status ≡ 2)

@@ -1,0 +1,41 @@
+//! What the words ask of the program as it is built.
+ghost use Rattle.std.specs.Prelude.{IfOk};
+ghost use Rattle.fluidd.specs.Tasks.{IsTask, task_of, task_by as task_for_command};
+
+use crate::status::Status;
+use fluid_json::{NoMemory, Text};
+use fluid_words::{Command, USAGE, VERSION, WordsFault, page, read_words};
+use std::alloc::Global;
+
+/// What is done for the words.
+#[derive(Clone, Copy)]
+pub(crate) enum Task {
+    Sequence,
+    /// Writes this text and ends with this status.
+    Show(Status, &'static str),
+}
+
+/// What the words behind the program's name ask for. A command that isn't built gets the usage line.
+pub(crate) fn read_task(alloc: Global, words: &[Text]) -> Result<Task, NoMemory>
+    ensures { IfOk result (λ task. IsTask (task_of words.now) task) }
+{
+    match read_words(alloc, words) {
+        Ok(command) => Ok(task_by(&command)),
+        Err(WordsFault::Usage) => Ok(Task::Show(Status::Usage, USAGE)),
+        Err(WordsFault::NoMemory) => Err(NoMemory),
+    }
+}
+
+fn task_by(command: &Command) -> Task
+    ensures { IsTask (task_for_command command.now) result }
+{
+    match command {
+        Command::Sequence => Task::Sequence,
+        Command::Help(topic) => match page(*topic) {
+            Some(text) => Task::Show(Status::Done, text),
+            None => Task::Show(Status::Usage, USAGE),
+        },
+        Command::Version => Task::Show(Status::Done, VERSION),
+        _ => Task::Show(Status::Usage, USAGE),
+    }
+}
