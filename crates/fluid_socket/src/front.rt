@@ -1,7 +1,8 @@
 //! The front over TCP.
-ghost use Rattle.std.specs.Prelude.{◌≡◌, ℕ, ◌+◌, ◌-◌, ◌*◌, ◌^◌, ◌<◌, ◌≤◌, None};
+ghost use Rattle.std.specs.Prelude.{◌≡◌, ℕ, ◌+◌, ◌-◌, ◌*◌, ◌^◌, ◌<◌, ◌≤◌, None, IfOk, OnErr};
 ghost use Rattle.fluid_io.specs.Causes.{HasCause};
 ghost use Rattle.fluid_front.specs.Fronts.{Accepts, CountsStay, GivesNothing};
+ghost use Rattle.fluid_socket.specs.Tcp.{tcp_seen, new_front};
 
 use crate::connection::Connection;
 use crate::metered::Metered;
@@ -49,12 +50,17 @@ pub struct TcpFront<N: Net, K: Sink> {
 }
 
 impl<N: Net, K: Sink> Model for TcpFront<N, K> {
-    ghost use Rattle.std.specs.Prelude.{None};
-    ghost use Rattle.fluid_front.specs.Fronts.{Fronting};
+    ghost use Rattle.fluid_socket.specs.Tcp.{TcpFronting};
 
-    ghost Value = { Fronting };
+    ghost Value = { TcpFronting };
 
-    ghost view = { λ f. record { left = None; given = f.given; nones = f.nones; faults = f.faults } };
+    ghost view = { λ f. record {
+      port = f.port;
+      writer = K.seen f.writer;
+      given = f.given;
+      nones = f.nones;
+      faults = f.faults;
+    } };
 }
 
 impl<N: Net, K: Sink> TcpFront<N, K> {
@@ -63,6 +69,7 @@ impl<N: Net, K: Sink> TcpFront<N, K> {
     where
         N: Drop,
         K: Drop,
+        ensures { IfOk result (λ front. front ≡ new_front (K.seen writer)) }
     {
         TcpFront::waiting(alloc, net, writer, Waits::default())
     }
@@ -77,6 +84,7 @@ impl<N: Net, K: Sink> TcpFront<N, K> {
     where
         N: Drop,
         K: Drop,
+        ensures { IfOk result (λ front. front ≡ new_front (K.seen writer)) }
     {
         let rooms = Arc::new(alloc, Rooms::new(alloc))?;
         Ok(TcpFront {
@@ -95,7 +103,9 @@ impl<N: Net, K: Sink> TcpFront<N, K> {
     }
 
     /// The port at which it listens, and 0 where it doesn't.
-    pub fn port(&self) -> u16 {
+    pub fn port(&self) -> u16
+        ensures { result ≡ self.now.port }
+    {
         self.port
     }
 
@@ -103,6 +113,7 @@ impl<N: Net, K: Sink> TcpFront<N, K> {
     pub fn into_writer(self) -> K
     where
         N: Drop,
+        ensures { K.seen result ≡ self.writer }
     {
         let TcpFront {
             alloc: _,
@@ -122,7 +133,7 @@ impl<N: Net, K: Sink> TcpFront<N, K> {
 
     // Listens at a port of the loopback address, in place of where it listened.
     fn bind(&mut self, port: u16) -> io::Result<()>
-        ensures { self.new ≡ self.old }
+        ensures { self.new ≡ record self.old { port = self.new.port } }
     {
         self.listener = None;
         self.port = 0;
@@ -136,7 +147,7 @@ impl<N: Net, K: Sink> TcpFront<N, K> {
 
     // Writes the one line that says how listening went.
     fn tell(&mut self, bound: &io::Result<()>, port: u16) -> Result<(), Failed>
-        ensures { self.new ≡ self.old }
+        ensures { self.new ≡ record self.old { writer = self.new.writer } }
     {
         let line = match bound {
             Ok(()) => self.open_line(),
@@ -224,11 +235,15 @@ fn is_of_listener(error: &io::Error) -> bool {
 impl<N: Net, K: Sink> Front for TcpFront<N, K> {
     type W = SocketWire;
 
-    ghost seen = { λ f. f };
+    ghost seen = { tcp_seen };
 
     /// It writes one line: the address with the real port, the mode, and how many connections can be open at once by the limit on
     /// descriptors; or why it failed. It also fails where that line can't be written.
-    fn listen<R: Wait>(&mut self, _rt: &R, port: u16, lines: bool) -> Result<(), Failed> {
+    fn listen<R: Wait>(&mut self, _rt: &R, port: u16, lines: bool) -> Result<(), Failed>
+        ensures cause { HasCause (tcp_seen self.old).faults (tcp_seen self.new).faults result }
+        ensures same { GivesNothing (tcp_seen self.old) (tcp_seen self.new) }
+        ensures nowhere { OnErr result (self.new.port ≡ 0) }
+    {
         self.lines = lines;
         let bound = self.bind(port);
         let told = self.tell(&bound, port);

@@ -135,6 +135,10 @@ impl Room {
         Ok(())
     }
 
+    fn is_empty(&self) -> bool {
+        self.wires.load(Ordering::SeqCst) == 0
+    }
+
     fn call<R: Wait>(&self, rt: &R) {
         self.ring.lock(rt).begin(&self.running);
     }
@@ -179,14 +183,23 @@ impl Named {
             return Ok(room.clone()?);
         }
         if self.rooms.len() >= self.sweep_at {
-            self.rooms
-                .retain(|_, room| room.wires.load(Ordering::SeqCst) > 0);
+            self.rooms.retain(|_, room| !room.is_empty());
             self.sweep_at = self.rooms.len().saturating_mul(2).max(16);
         }
         let room = Arc::new(alloc, Room::new(alloc, name)?)?;
         self.rooms
             .insert(String::from_str(alloc, name)?, room.clone()?)?;
         Ok(room)
+    }
+
+    fn close(&mut self, name: &str) {
+        let is_empty = match self.rooms.get(name) {
+            Some(room) => room.is_empty(),
+            None => false,
+        };
+        if is_empty {
+            let _ = self.rooms.remove(name);
+        }
     }
 }
 
@@ -216,12 +229,10 @@ impl Rooms {
         Ok(Seat { room, member })
     }
 
-    // Lets an empty room go, where nobody has the rooms at the moment.
-    fn close(&self, room: &Room) {
+    // Lets the room of this name go where it is empty and nobody has the rooms at the moment.
+    fn close(&self, name: &str) {
         if let Some(mut rooms) = self.rooms.try_lock() {
-            if room.wires.load(Ordering::SeqCst) == 0 {
-                let _ = rooms.rooms.remove(room.name.as_str());
-            }
+            rooms.close(name);
         }
     }
 }
@@ -327,7 +338,7 @@ impl Place {
         seat.member.gone.store(true, Ordering::SeqCst);
         seat.room.leave(self.called);
         self.called = false;
-        self.rooms.close(&seat.room);
+        self.rooms.close(seat.room.name.as_str());
     }
 }
 

@@ -28,6 +28,16 @@ pub struct Waits {
 }
 
 impl Default for Waits {
+    ghost use Rattle.std.specs.Prelude.{◌≡◌};
+
+    ghost is_default = { λ waits. waits ≡ record {
+      tick_milliseconds = 1000;
+      handshake_ticks = 20;
+      send_ticks = 11;
+      silent_ticks = 30;
+      pings = 2;
+    } };
+
     /// A tick of a second, 20 for a handshake, 11 for a send, two questions behind 30 each.
     fn default() -> Waits {
         Waits {
