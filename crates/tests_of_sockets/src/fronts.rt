@@ -15,19 +15,30 @@ fn a_front_says_where_it_listens_or_why_it_does_not(rt: HostRuntime) {
     let port = front.port();
     let sink = MemorySink::new(alloc, Vec::new(alloc));
     let mut second = TcpFront::new(alloc, &rt, sink).expect(&rt, "memory");
-    assert!(rt; matches!(second.accept(&rt, alloc), Ok(None)), "no wire before it listens");
-    assert!(rt; second.listen(&rt, port, true).is_err(), "the port is taken");
+    assert!(rt;
+        matches!(second.accept(&rt, alloc), Ok(None)),
+        "no wire before it listens"
+    );
+    assert!(rt;
+        second.listen(&rt, port, true).is_err(),
+        "the port is taken"
+    );
     assert!(rt; second.port() == 0);
     assert!(rt; second.listen(&rt, 0, true).is_ok());
     let other = second.port();
     let said = second.into_writer();
-    let lines = format!(in alloc; "cannot listen on 127.0.0.1:{port}: Address already in use (os error 98)\nlistening on 127.0.0.1:{other} for lines, at most ").expect(&rt, "memory");
+    let lines = format!(in alloc;
+        "cannot listen on 127.0.0.1:{port}: Address already in use (os error 98)\nlistening on 127.0.0.1:{other} for lines, at most "
+    ).expect(&rt, "memory");
     assert!(rt; said.written().starts_with(lines.as_bytes()));
     assert!(rt; said.written().ends_with(b" connections at once\n"));
     drop(front);
     let deaf = MemorySink::new(alloc, Vec::from_slice(alloc, &[1]).expect(&rt, "memory"));
     let mut third = TcpFront::new(alloc, &rt, deaf).expect(&rt, "memory");
-    assert!(rt; third.listen(&rt, 0, false).is_err(), "nobody could learn the port");
+    assert!(rt;
+        third.listen(&rt, 0, false).is_err(),
+        "nobody could learn the port"
+    );
     drop(third);
 }
 
@@ -73,9 +84,18 @@ fn silent_peers_keep_nobody_out(rt: HostRuntime) {
         told.as_slice() == b"5a\n".as_slice()
     })
     .expect(&rt, "a thread");
-    let (end, front) =
-        ThreadSpawner::new().serve_all(&rt, alloc, front, &Echo { alloc }, &OpenGate, 5);
+    let (end, front) = ThreadSpawner::new().serve_all(
+        &rt,
+        alloc,
+        front,
+        &Echo { alloc },
+        &OpenGate,
+        5,
+    );
     assert!(rt; end == FrontEnd::Done(5));
-    assert!(rt; peer.join(&rt), "the last one is heard while the others say nothing");
+    assert!(rt;
+        peer.join(&rt),
+        "the last one is heard while the others say nothing"
+    );
     drop(front);
 }

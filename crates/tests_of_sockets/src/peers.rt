@@ -109,8 +109,22 @@ pub(crate) fn received<R: Wait + Abort>(
     told
 }
 
-/// What a peer reads until its socket is closed or nothing came for half a second: a text as [text], a pong as (payload), a
-/// close as its code.
+// A text as [text], a pong as (the bytes that it carries), a close as its code.
+fn word<R: Abort>(rt: &R, alloc: Global, message: &Message) -> String {
+    let word = match message {
+        Message::Text(text) => format!(in alloc; "[{}]", text.as_str()),
+        Message::Pong(bytes) => format!(in alloc; "({})", bytes.len()),
+        Message::Ping(_) => String::from_str(alloc, "ping "),
+        Message::Close(frame) => match frame {
+            Some(frame) => format!(in alloc; "{}", frame.code),
+            None => String::from_str(alloc, "no code"),
+        },
+        Message::Binary(_) => String::from_str(alloc, "binary"),
+    };
+    word.expect(rt, "memory")
+}
+
+/// What a peer reads until its socket is closed or nothing came for half a second.
 pub(crate) fn read_by_peer<R: Wait + Abort>(
     rt: &R,
     alloc: Global,
@@ -120,19 +134,13 @@ pub(crate) fn read_by_peer<R: Wait + Abort>(
     assert!(rt; socket.get_ref().set_read_timeout(Some(half)).is_ok());
     let mut told = String::new(alloc);
     for _ in 0..1000 {
-        let Ok(message) = socket.read() else {
-            break;
-        };
-        let word = match message {
-            Message::Text(text) => format!(in alloc; "[{}]", text.as_str()),
-            Message::Pong(bytes) => format!(in alloc; "({})", bytes.len()),
-            Message::Ping(_) => String::from_str(alloc, "ping "),
-            Message::Close(Some(frame)) => format!(in alloc; "{}", frame.code),
-            Message::Close(None) => String::from_str(alloc, "no code"),
-            Message::Binary(_) => String::from_str(alloc, "binary"),
-        };
-        told.push_str(word.expect(rt, "memory").as_str())
-            .expect(rt, "memory");
+        match socket.read() {
+            Ok(message) => {
+                let word = word(rt, alloc, &message);
+                told.push_str(word.as_str()).expect(rt, "memory");
+            }
+            Err(_) => break,
+        }
     }
     told
 }

@@ -26,7 +26,13 @@ fn a_text_is_heard_by_the_others_of_its_document_at_once(rt: HostRuntime) {
     assert!(rt; first.send(&rt, alloc, "reply").is_ok());
     thread::sleep(&rt, Duration::from_millis(50));
     drop(first);
-    assert!(rt; listener.join(&rt), "the second wire is told of the text, and that the first is gone");
-    assert!(rt; told.elapsed(&rt).expect(&rt, "a clock") < Duration::from_secs(1), "in a second");
+    assert!(rt;
+        listener.join(&rt),
+        "the second wire is told of the text, and that the first is gone"
+    );
+    assert!(rt;
+        told.elapsed(&rt).expect(&rt, "a clock") < Duration::from_secs(1),
+        "in a second"
+    );
     drop(front);
 }
