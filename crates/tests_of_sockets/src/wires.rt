@@ -117,20 +117,17 @@ fn messages_are_texts(rt: HostRuntime) {
             told.as_str()
         );
     }
-    drop(front);
-}
-
-#[test]
-fn texts_go_out_and_a_wire_that_is_let_go_is_closed(rt: HostRuntime) {
-    let alloc = rt.alloc();
-    let mut front = listening(&rt, alloc, false, PATIENT);
     let (stream, mut wire) = connected(&rt, alloc, &mut front);
     let mut peer = shaken(&rt, alloc, stream, &mut wire);
     assert!(rt; wire.send(&rt, alloc, "one").is_ok());
     assert!(rt; wire.send(&rt, alloc, "").is_ok());
     drop(wire);
     let told = read_by_peer(&rt, alloc, &mut peer);
-    assert!(rt; told.as_str() == "[one][]1000", "{}", told.as_str());
+    assert!(rt;
+        told.as_str() == "[one][]1000",
+        "a wire that is let go is closed: {}",
+        told.as_str()
+    );
     drop(front);
 }
 
