@@ -4,7 +4,7 @@ ghost use Rattle.fluid_front.specs.Serving.{MayEnd, Refuses, Serves};
 
 use crate::{Front, FrontFault, Gate, Handler};
 use std::alloc::Global;
-use std::marker::Model;
+use std::marker::{Model, PhantomData};
 use std::sync::Wait;
 use std::thread;
 use std::thread::Threads;
@@ -20,13 +20,15 @@ pub enum FrontEnd {
     NoMemory,
 }
 
-/// How `serve_all` ended. Nothing else can make one, so that nothing else can tell a spawner of a refusal.
+/// How `serve_all` of a spawner of this type ended. Nothing else can make one, and one of another type can't be handed on,
+/// so that nothing else can tell a spawner of a refusal.
 #[derive(Drop)]
-pub struct Ended {
+pub struct Ended<S> {
     end: FrontEnd,
+    of: PhantomData<S>,
 }
 
-impl Model for Ended {
+impl<S> Model for Ended<S> {
     ghost use Rattle.fluid_front.specs.declared.spawner.FrontEnd.{FrontEnd};
 
     ghost Value = { FrontEnd };
@@ -34,7 +36,16 @@ impl Model for Ended {
     ghost view = { λ e. e.end };
 }
 
-impl Ended {
+impl<S> Ended<S> {
+    fn with(end: FrontEnd) -> Ended<S>
+        ensures { result ≡ end }
+    {
+        Ended {
+            end,
+            of: PhantomData,
+        }
+    }
+
     /// How it ended.
     pub fn end(&self) -> FrontEnd
         ensures { result ≡ self.now }
@@ -44,7 +55,7 @@ impl Ended {
 }
 
 /// Serves wires in jobs: each at its place, or each in a thread.
-pub trait Spawner {
+pub trait Spawner: Sized {
     /// How often a job couldn't be started.
     ghost refusals: { Self → ℕ };
 
@@ -57,7 +68,7 @@ pub trait Spawner {
         ensures { is_some result ≡ threads self.now };
 
     /// Counts a refusal, where the work on a front ended by one. `serve_all` calls it at its end.
-    fn note_end(&mut self, ended: &Ended)
+    fn note_end(&mut self, ended: &Ended<Self>)
         requires { MayEnd (threads self.old) ended.now }
         ensures { Refuses (refusals self.old) (refusals self.new) ended.now };
 
@@ -74,7 +85,6 @@ pub trait Spawner {
         connections: u32,
     ) -> (FrontEnd, F)
     where
-        Self: Sized,
         R: Threads + Wait + Sync,
         F: Front + Drop,
         F::W: Send + Drop,
@@ -85,11 +95,11 @@ pub trait Spawner {
     {
         let Some(most) = self.most_threads() else {
             let (end, front) = serve_here(rt, alloc, front, handler, gate, connections);
-            self.note_end(&Ended { end });
+            self.note_end(&Ended::with(end));
             return (end, front);
         };
         let (end, front) = serve_in_threads(rt, alloc, front, handler, gate, connections, most);
-        self.note_end(&Ended { end });
+        self.note_end(&Ended::with(end));
         (end, front)
     }
 }
@@ -109,7 +119,7 @@ impl Spawner for HereSpawner {
         None
     }
 
-    fn note_end(&mut self, _ended: &Ended) {}
+    fn note_end(&mut self, _ended: &Ended<HereSpawner>) {}
 }
 
 /// Runs the jobs as threads of one scope.
@@ -157,7 +167,7 @@ impl Spawner for ThreadSpawner {
         Some(self.most)
     }
 
-    fn note_end(&mut self, ended: &Ended) {
+    fn note_end(&mut self, ended: &Ended<ThreadSpawner>) {
         if let FrontEnd::SpawnRefused(_) = ended.end() {
             self.refusals = self.refusals.saturating_add(1);
         }

@@ -83,4 +83,10 @@ pub trait Wire {
         ensures stays { Stays (seen self.old) (seen self.new) }
         ensures texts { (seen self.new).texts ≡ (seen self.old).texts }
         ensures does { Sends (seen self.old) (seen self.new) text.now result };
+
+    /// The wire follows the document of this name: a wire that may sleep is then woken by the others that follow it. It
+    /// is a hint alone.
+    fn follow<R: Wait>(&mut self, _rt: &R, _name: &str)
+        ensures { seen self.new ≡ seen self.old }
+    {}
 }

@@ -1,0 +1,356 @@
+//! Calls to wake: what one wire's text changed is heard by the other wires of its document at once. Nothing rests on a call:
+//! who isn't called hears by its tick.
+//! The wires of a document have a room. A call goes to `WIDTH` sleepers at most, and each of them passes it on when it has
+//! done what it was called for; so a large room is never awake all at once.
+
+use fluid_json::NoMemory;
+use mio::Waker;
+use std::alloc::Global;
+use std::collections::BTreeMap;
+use std::sync::atomic::{AtomicBool, AtomicU64, Ordering};
+use std::sync::{Arc, Mutex, Wait};
+
+// How many wires of a room are awake at once because of calls.
+const WIDTH: u64 = 4;
+
+// The states of a sleeper: awake; told of a call since it looked last; asleep.
+const AWAKE: u64 = 0;
+
+const TOLD: u64 = 1;
+
+const ASLEEP: u64 = 2;
+
+/// A wire that may sleep.
+#[derive(Drop)]
+struct Sleeper {
+    state: AtomicU64,
+    waker: Waker,
+}
+
+impl Sleeper {
+    // Whether the wire may sleep: it wasn't called since it looked last.
+    fn lie_down(&self) -> bool {
+        self.state
+            .compare_exchange(AWAKE, ASLEEP, Ordering::SeqCst, Ordering::SeqCst)
+            .is_ok()
+    }
+
+    // Whether the wire was called since it looked last.
+    fn look(&self) -> bool {
+        self.state.swap(AWAKE, Ordering::SeqCst) == TOLD
+    }
+
+    // Calls the wire, and says whether that woke it.
+    fn call(&self) -> bool {
+        if self.state.swap(TOLD, Ordering::SeqCst) != ASLEEP {
+            return false;
+        }
+        let _ = self.waker.wake();
+        true
+    }
+}
+
+// A wire as a member of one room.
+#[derive(Drop)]
+struct Member {
+    sleeper: Arc<Sleeper>,
+    gone: AtomicBool,
+}
+
+// The members of a room in their order, and how far a call has come.
+#[derive(Drop)]
+struct Ring {
+    members: Vec<Arc<Member>>,
+    // the place of the next one to be called
+    next: usize,
+    // how many are still to be called
+    left: usize,
+}
+
+impl Ring {
+    // Wakes the next one that is asleep, and says whether there was one. Those that are awake are only told.
+    fn pass(&mut self) -> bool {
+        for _ in 0..self.left {
+            self.left = self.left.saturating_sub(1);
+            let Some(member) = self.members.get(self.next) else {
+                self.next = 0;
+                continue;
+            };
+            self.next = self.next.saturating_add(1);
+            if member.sleeper.call() {
+                return true;
+            }
+        }
+        false
+    }
+
+    // Calls all, beginning with as many as may be awake beside those that already are.
+    fn begin(&mut self, running: &AtomicU64) {
+        // one more than there are, since the place behind the last one counts as one
+        self.left = self.members.len().saturating_add(1);
+        for _ in running.load(Ordering::SeqCst)..WIDTH {
+            if !self.pass() {
+                return;
+            }
+            running.fetch_add(1, Ordering::SeqCst);
+        }
+    }
+
+    fn leave_out_the_gone(&mut self) {
+        self.members
+            .retain(|member| !member.gone.load(Ordering::SeqCst));
+    }
+}
+
+/// The wires of one document.
+#[derive(Drop)]
+struct Room {
+    name: String,
+    ring: Mutex<Ring>,
+    // how many were woken and haven't passed the call on yet
+    running: AtomicU64,
+    // how many follow the document
+    wires: AtomicU64,
+}
+
+impl Room {
+    fn new(alloc: Global, name: &str) -> Result<Room, NoMemory> {
+        let ring = Ring {
+            members: Vec::new(alloc),
+            next: 0,
+            left: 0,
+        };
+        Ok(Room {
+            name: String::from_str(alloc, name)?,
+            ring: Mutex::new(ring),
+            running: AtomicU64::new(0),
+            wires: AtomicU64::new(0),
+        })
+    }
+
+    fn enter<R: Wait>(&self, rt: &R, member: Arc<Member>) -> Result<(), NoMemory> {
+        let mut ring = self.ring.lock(rt);
+        ring.leave_out_the_gone();
+        ring.members.push(member)?;
+        Ok(())
+    }
+
+    fn is_empty(&self) -> bool {
+        self.wires.load(Ordering::SeqCst) == 0
+    }
+
+    fn call<R: Wait>(&self, rt: &R) {
+        self.ring.lock(rt).begin(&self.running);
+    }
+
+    fn pass_on<R: Wait>(&self, rt: &R) {
+        if !self.ring.lock(rt).pass() {
+            self.running.fetch_sub(1, Ordering::SeqCst);
+        }
+    }
+
+    // A wire that is gone calls the others where nobody has the room at the moment; else they hear of it by their ticks.
+    fn leave(&self, called: bool) {
+        if called {
+            self.running.fetch_sub(1, Ordering::SeqCst);
+        }
+        self.wires.fetch_sub(1, Ordering::SeqCst);
+        if let Some(mut ring) = self.ring.try_lock() {
+            ring.leave_out_the_gone();
+            ring.begin(&self.running);
+        }
+    }
+}
+
+/// The rooms of a front, by the names of their documents.
+#[derive(Drop)]
+pub(crate) struct Rooms {
+    alloc: Global,
+    rooms: Mutex<Named>,
+}
+
+#[derive(Drop)]
+struct Named {
+    rooms: BTreeMap<String, Arc<Room>>,
+    // with so many rooms, those that nobody is in go before a new one is made
+    sweep_at: usize,
+}
+
+impl Named {
+    // The room of this name: the one that is there, or a new one.
+    fn room(&mut self, alloc: Global, name: &str) -> Result<Arc<Room>, NoMemory> {
+        if let Some(room) = self.rooms.get(name) {
+            return Ok(room.clone()?);
+        }
+        if self.rooms.len() >= self.sweep_at {
+            self.rooms.retain(|_, room| !room.is_empty());
+            self.sweep_at = self.rooms.len().saturating_mul(2).max(16);
+        }
+        let room = Arc::new(alloc, Room::new(alloc, name)?)?;
+        self.rooms
+            .insert(String::from_str(alloc, name)?, room.clone()?)?;
+        Ok(room)
+    }
+
+    fn close(&mut self, name: &str) {
+        let is_empty = match self.rooms.get(name) {
+            Some(room) => room.is_empty(),
+            None => false,
+        };
+        if is_empty {
+            let _ = self.rooms.remove(name);
+        }
+    }
+}
+
+impl Rooms {
+    pub(crate) fn new(alloc: Global) -> Rooms {
+        let named = Named {
+            rooms: BTreeMap::new(alloc),
+            sweep_at: 16,
+        };
+        Rooms {
+            alloc,
+            rooms: Mutex::new(named),
+        }
+    }
+
+    // A seat in the room of this name.
+    fn enter<R: Wait>(&self, rt: &R, name: &str, sleeper: &Arc<Sleeper>) -> Result<Seat, NoMemory> {
+        let mut rooms = self.rooms.lock(rt);
+        let room = rooms.room(self.alloc, name)?;
+        let member = Member {
+            sleeper: sleeper.clone()?,
+            gone: AtomicBool::new(false),
+        };
+        let member = Arc::new(self.alloc, member)?;
+        room.enter(rt, member.clone()?)?;
+        room.wires.fetch_add(1, Ordering::SeqCst);
+        Ok(Seat { room, member })
+    }
+
+    // Lets the room of this name go where it is empty and nobody has the rooms at the moment.
+    fn close(&self, name: &str) {
+        if let Some(mut rooms) = self.rooms.try_lock() {
+            rooms.close(name);
+        }
+    }
+}
+
+// A room with the one who is in it.
+#[derive(Drop)]
+struct Seat {
+    room: Arc<Room>,
+    member: Arc<Member>,
+}
+
+/// A wire's place among the wires of its document.
+pub(crate) struct Place {
+    rooms: Arc<Rooms>,
+    sleeper: Arc<Sleeper>,
+    seat: Option<Seat>,
+    // it gave a text, of whose work the others haven't been told
+    changed: bool,
+    // it was woken by a call, which it has to pass on
+    called: bool,
+}
+
+impl Place {
+    /// The wire follows no document yet.
+    pub(crate) fn new(alloc: Global, rooms: Arc<Rooms>, waker: Waker) -> Result<Place, NoMemory> {
+        let sleeper = Arc::new(
+            alloc,
+            Sleeper {
+                state: AtomicU64::new(AWAKE),
+                waker,
+            },
+        )?;
+        Ok(Place {
+            rooms,
+            sleeper,
+            seat: None,
+            changed: false,
+            called: false,
+        })
+    }
+
+    /// The wire follows the document of this name, and no other. Where memory lacks it follows none.
+    pub(crate) fn follow<R: Wait>(&mut self, rt: &R, name: &str) {
+        if let Some(seat) = &self.seat {
+            if seat.room.name.as_str() == name {
+                return;
+            }
+        }
+        self.leave();
+        self.seat = self.rooms.enter(rt, name, &self.sleeper).ok();
+    }
+
+    /// The wire gives a text: what was told of before it is heard behind it.
+    pub(crate) fn give(&mut self) {
+        self.changed = true;
+        self.look();
+    }
+
+    /// The text that the wire gave last has been worked off: the others of its document are called.
+    pub(crate) fn tell<R: Wait>(&mut self, rt: &R) {
+        if self.changed {
+            self.changed = false;
+            if let Some(seat) = &self.seat {
+                seat.room.call(rt);
+            }
+        }
+    }
+
+    /// What the wire was called for has been done: the call is passed on.
+    pub(crate) fn pass_on<R: Wait>(&mut self, rt: &R) {
+        if self.called {
+            self.called = false;
+            if let Some(seat) = &self.seat {
+                seat.room.pass_on(rt);
+            }
+        }
+    }
+
+    /// Whether the wire may sleep now: where it was called, it may not.
+    pub(crate) fn lie_down(&mut self) -> bool {
+        self.sleeper.lie_down()
+    }
+
+    /// The wire is awake. Whether it was called since it looked last.
+    pub(crate) fn look(&mut self) -> bool {
+        self.sleeper.look()
+    }
+
+    /// The same behind a sleep, from which a call wakes.
+    pub(crate) fn rise(&mut self) -> bool {
+        let called = self.look();
+        if called {
+            self.called = true;
+        }
+        called
+    }
+
+    // The wire leaves its room.
+    fn leave(&mut self) {
+        let Some(seat) = self.seat.take() else {
+            return;
+        };
+        seat.member.gone.store(true, Ordering::SeqCst);
+        seat.room.leave(self.called);
+        self.called = false;
+        self.rooms.close(seat.room.name.as_str());
+    }
+}
+
+impl Drop for Place {
+    fn drop(mut self) {
+        self.leave();
+        let Place {
+            rooms: _,
+            sleeper: _,
+            seat: _,
+            changed: _,
+            called: _,
+        } = self;
+    }
+}

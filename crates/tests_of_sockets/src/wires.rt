@@ -1,0 +1,516 @@
+use crate::peers::{
+    PATIENT, connected, listening, read_by_peer, read_bytes, received, shaken, write_bytes,
+};
+use fluid_lines::{Recv, Wire};
+use fluid_socket::{SocketWire, Waits};
+use std::alloc::Global;
+use std::io::{Read, Write};
+use std::net::{Shutdown, TcpStream};
+use std::process::Abort;
+use std::sync::Wait;
+use std::thread;
+use std::time::Duration;
+
+// What the peer sends, what the wire answers, and what the peer reads.
+struct Row {
+    what: &'static str,
+    frames: &'static [u8],
+    answers: &'static str,
+    told: &'static str,
+}
+
+const ROWS: [Row; 12] = [
+    Row {
+        what: "a text, and a close with its code",
+        frames: b"\x81\x82\0\0\0\0hi\x88\x82\0\0\0\0\x03\xe8",
+        answers: "[hi].",
+        told: "1000",
+    },
+    Row {
+        what: "a close without a code",
+        frames: b"\x88\x80\0\0\0\0",
+        answers: ".",
+        told: "no code",
+    },
+    Row {
+        what: "a ping before a text and a pong behind it",
+        frames: b"\x89\x83\0\0\0\0abc\x81\x81\0\0\0\0a\x8a\x80\0\0\0\0",
+        answers: "[a]?",
+        told: "(3)",
+    },
+    Row {
+        what: "two texts at once, one of them empty",
+        frames: b"\x81\x80\0\0\0\0\x81\x81\0\0\0\0b",
+        answers: "[][b]?",
+        told: "",
+    },
+    Row {
+        what: "a binary message",
+        frames: b"\x82\x81\0\0\0\0a",
+        answers: "!",
+        told: "1003",
+    },
+    Row {
+        what: "the head of a text of 1,048,577 bytes",
+        frames: b"\x81\xff\0\0\0\0\0\x10\0\x01\0\0\0\0",
+        answers: "+1048577",
+        told: "1009",
+    },
+    Row {
+        what: "a text in three fragments",
+        frames: b"\x01\x81\0\0\0\0a\0\x81\0\0\0\0b\x80\x81\0\0\0\0c",
+        answers: "[abc]?",
+        told: "",
+    },
+    Row {
+        what: "bytes that are no UTF-8",
+        frames: b"\x81\x81\0\0\0\0\xff",
+        answers: "!",
+        told: "1007",
+    },
+    Row {
+        what: "half a frame, and silence",
+        frames: b"\x81\x82\0\0\0\0h",
+        answers: "?",
+        told: "",
+    },
+    Row {
+        what: "a frame without a mask",
+        frames: b"\x81\x01a",
+        answers: "!",
+        told: "1002",
+    },
+    Row {
+        what: "a reserved bit, as compression has it",
+        frames: b"\xc1\x81\0\0\0\0a",
+        answers: "!",
+        told: "1002",
+    },
+    Row {
+        what: "silence",
+        frames: b"",
+        answers: "?",
+        told: "",
+    },
+];
+
+#[test]
+fn messages_are_texts(rt: HostRuntime) {
+    let alloc = rt.alloc();
+    let mut front = listening(&rt, alloc, false, PATIENT);
+    for row in &ROWS {
+        let (stream, mut wire) = connected(&rt, alloc, &mut front);
+        let mut peer = shaken(&rt, alloc, stream, &mut wire);
+        write_bytes(&rt, peer.get_mut(), row.frames);
+        let answers = received(&rt, alloc, &mut wire, 20);
+        assert!(rt;
+            answers.as_str() == row.answers,
+            "{}: {}",
+            row.what,
+            answers.as_str()
+        );
+        let told = read_by_peer(&rt, alloc, &mut peer);
+        assert!(rt;
+            told.as_str() == row.told,
+            "{}: {}",
+            row.what,
+            told.as_str()
+        );
+    }
+    let (stream, mut wire) = connected(&rt, alloc, &mut front);
+    let mut peer = shaken(&rt, alloc, stream, &mut wire);
+    assert!(rt; wire.send(&rt, alloc, "one").is_ok());
+    assert!(rt; wire.send(&rt, alloc, "").is_ok());
+    drop(wire);
+    let told = read_by_peer(&rt, alloc, &mut peer);
+    assert!(rt;
+        told.as_str() == "[one][]1000",
+        "a wire that is let go is closed: {}",
+        told.as_str()
+    );
+    drop(front);
+}
+
+// A text that is more than the system holds for a peer.
+const LARGE: usize = 12_000_000;
+
+fn large(rt: &impl Abort, alloc: Global) -> String {
+    let letters = Vec::from_elem(alloc, b'a', LARGE).expect(rt, "memory");
+    String::from_utf8(letters).expect(rt, "text")
+}
+
+// How many bytes come in to the end.
+fn count_bytes(stream: &mut TcpStream) -> usize {
+    let mut chunk = [0u8; 65536];
+    let mut all = 0usize;
+    for _ in 0..u32::MAX {
+        match stream.read(&mut chunk) {
+            Ok(count) if count > 0 => all = all.saturating_add(count),
+            _ => break,
+        }
+    }
+    all
+}
+
+#[test]
+fn a_text_that_is_taken_late_arrives_whole(rt: HostRuntime) {
+    let alloc = rt.alloc();
+    let text = large(&rt, alloc);
+    // a line has its line feed; a message of this size has a head of ten bytes, and a close behind it of four
+    for (lines, more) in [(true, 1), (false, 14)] {
+        let mut front = listening(&rt, alloc, lines, PATIENT);
+        let (stream, mut wire) = connected(&rt, alloc, &mut front);
+        let mut stream = if lines {
+            stream
+        } else {
+            shaken(&rt, alloc, stream, &mut wire).into_inner()
+        };
+        let reader = thread::spawn(&rt, move || {
+            thread::sleep(&rt, Duration::from_millis(100));
+            count_bytes(&mut stream)
+        })
+        .expect(&rt, "a thread");
+        assert!(rt;
+            wire.send(&rt, alloc, text.as_str()).is_ok(),
+            "lines: {lines}"
+        );
+        drop(wire);
+        let count = reader.join(&rt);
+        assert!(rt; count == LARGE + more, "lines: {lines}, {count} bytes");
+        drop(front);
+    }
+}
+
+// What is sent, and what the wire answers. Then the peer ends.
+const LINES: [(&str, &[u8], &str); 8] = [
+    (
+        "two lines, and one without an end",
+        b"a\r\n\nb",
+        "[a][][b].",
+    ),
+    ("nothing", b"", "."),
+    ("a carriage return inside", b"a\rb\r\r\n", "[a\rb\r]."),
+    ("no UTF-8", b"a\n\xff\nb\n", "[a]!"),
+    ("a request of HTTP", b"POST / HTTP/1.1\r\nHost: x\r\n", "!"),
+    ("an old one", b"GET / HTTP/1.0\n", "!"),
+    (
+        "the same behind a line",
+        b"a\nGET / HTTP/1.1\n",
+        "[a][GET / HTTP/1.1].",
+    ),
+    ("another version", b"GET / HTTP/1.2\n", "[GET / HTTP/1.2]."),
+];
+
+#[test]
+fn lines_are_texts(rt: HostRuntime) {
+    let alloc = rt.alloc();
+    let mut front = listening(&rt, alloc, true, PATIENT);
+    for (what, bytes, want) in LINES {
+        let (mut stream, mut wire) = connected(&rt, alloc, &mut front);
+        write_bytes(&rt, &mut stream, bytes);
+        assert!(rt; wire.send(&rt, alloc, "out").is_ok(), "{what}");
+        assert!(rt; stream.shutdown(Shutdown::Write).is_ok());
+        let answers = received(&rt, alloc, &mut wire, 1000);
+        assert!(rt; answers.as_str() == want, "{what}: {}", answers.as_str());
+        drop(wire);
+        let told = read_bytes(&rt, alloc, &mut stream);
+        assert!(rt; told.as_slice() == b"out\n".as_slice(), "{what}");
+    }
+    drop(front);
+}
+
+// How a text goes out that is nothing but so many letters between these bytes, and the bytes of the text that comes in, or none
+// where it is too long.
+struct Long {
+    lines: bool,
+    head: &'static [u8],
+    letters: usize,
+    end: &'static [u8],
+    want: usize,
+}
+
+const LONG: [Long; 6] = [
+    Long {
+        lines: true,
+        head: b"",
+        letters: 1_048_576,
+        end: b"\r\n",
+        want: 1_048_576,
+    },
+    Long {
+        lines: true,
+        head: b"",
+        letters: 1_048_577,
+        end: b"\n",
+        want: 0,
+    },
+    Long {
+        lines: true,
+        head: b"",
+        letters: 1_048_578,
+        end: b"",
+        want: 0,
+    },
+    Long {
+        lines: true,
+        head: b"",
+        letters: 3_000_000,
+        end: b"",
+        want: 0,
+    },
+    Long {
+        lines: false,
+        head: b"\x81\xff\0\0\0\0\0\x10\0\0\0\0\0\0",
+        letters: 1_048_576,
+        end: b"",
+        want: 1_048_576,
+    },
+    Long {
+        lines: false,
+        head: b"\x01\x83\0\0\0\0abc\x80\xff\0\0\0\0\0\x0f\xff\xfe\0\0\0\0",
+        letters: 1_048_574,
+        end: b"",
+        want: 0,
+    },
+];
+
+// Writes a long text, in a thread, since nobody takes it whole at once.
+fn write_long<W: Write + Drop>(alloc: Global, stream: W, row: &Long) {
+    let mut stream = stream;
+    let letters = Vec::from_elem(alloc, b'a', row.letters);
+    if let Ok(letters) = letters {
+        let _ = stream.write_all(row.head);
+        let _ = stream.write_all(letters.as_slice());
+        let _ = stream.write_all(row.end);
+    }
+    drop(stream);
+}
+
+// How many bytes the next text has, or 0 where it is too long, as it says so.
+fn length_of_next<R: Wait + Abort>(rt: &R, alloc: Global, wire: &mut SocketWire) -> usize {
+    for _ in 0..100_000 {
+        match wire.recv(rt, alloc) {
+            Ok(Recv::Quiet) => {}
+            Ok(Recv::Text(text)) => return text.as_str().len(),
+            Ok(Recv::TooLong(1_048_577)) => return 0,
+            _ => break,
+        }
+    }
+    usize::MAX
+}
+
+#[test]
+fn a_text_that_is_too_long_is_refused(rt: HostRuntime) {
+    let alloc = rt.alloc();
+    for row in &LONG {
+        let mut front = listening(&rt, alloc, row.lines, PATIENT);
+        let (stream, mut wire) = connected(&rt, alloc, &mut front);
+        let stream = if row.lines {
+            stream
+        } else {
+            shaken(&rt, alloc, stream, &mut wire).into_inner()
+        };
+        let writer = thread::spawn(&rt, move || write_long(alloc, stream, row)).expect(
+            &rt, "a thread",
+        );
+        let length = length_of_next(&rt, alloc, &mut wire);
+        assert!(rt; length == row.want, "{} letters: {length}", row.letters);
+        drop(wire);
+        writer.join(&rt);
+        drop(front);
+    }
+}
+
+// An origin, and whether a page of it may connect.
+const ORIGINS: [(&str, bool); 16] = [
+    ("", true),
+    ("Origin: http://localhost\r\n", true),
+    ("Origin: http://localhost:8080\r\n", true),
+    ("Origin: https://127.0.0.1:1\r\n", true),
+    ("origin: http://[::1]\r\n", true),
+    ("Origin: http://[::1]:443\r\n", true),
+    ("Origin: null\r\n", false),
+    ("Origin: http://localhost.example.org\r\n", false),
+    ("Origin: http://localhost:80.example.org\r\n", false),
+    ("Origin: http://localhost:\r\n", false),
+    ("Origin: http://example.org\r\n", false),
+    ("Origin: http://127.0.0.1.example.org\r\n", false),
+    ("Origin: http://user@localhost\r\n", false),
+    ("Origin: localhost\r\n", false),
+    ("Origin: ://localhost\r\n", false),
+    (
+        "Origin: http://localhost\r\nOrigin: http://example.org\r\n",
+        false,
+    ),
+];
+
+#[test]
+fn pages_of_other_machines_are_refused(rt: HostRuntime) {
+    let alloc = rt.alloc();
+    let mut front = listening(&rt, alloc, false, PATIENT);
+    for (origin, welcome) in ORIGINS {
+        let (mut stream, mut wire) = connected(&rt, alloc, &mut front);
+        let head = format!(in alloc;
+            "GET / HTTP/1.1\r\nHost: localhost\r\nUpgrade: websocket\r\nConnection: Upgrade\r\nSec-WebSocket-Version: 13\r\nSec-WebSocket-Key: dGhlIHNhbXBsZSBub25jZQ==\r\nSec-WebSocket-Extensions: permessage-deflate\r\n{origin}\r\n"
+        ).expect(&rt, "memory");
+        write_bytes(&rt, &mut stream, head.as_bytes());
+        let answers = received(&rt, alloc, &mut wire, 1);
+        assert!(rt;
+            answers.as_str() == if welcome { "?" } else { "!" },
+            "{origin}: {}",
+            answers.as_str()
+        );
+        drop(wire);
+        let told = read_bytes(&rt, alloc, &mut stream);
+        let wanted: &[u8] = if welcome {
+            b"HTTP/1.1 101 "
+        } else {
+            b"HTTP/1.1 403 "
+        };
+        assert!(rt; told.as_slice().starts_with(wanted), "{origin}");
+    }
+    drop(front);
+}
+
+// Short waits.
+const HASTY: Waits = Waits {
+    tick_milliseconds: 5,
+    handshake_ticks: 3,
+    send_ticks: 4,
+    silent_ticks: 3,
+    pings: 2,
+};
+
+#[test]
+fn a_peer_that_says_nothing_is_left(rt: HostRuntime) {
+    let alloc = rt.alloc();
+    for (lines, want) in [(false, "!"), (true, "?")] {
+        let mut front = listening(&rt, alloc, lines, HASTY);
+        let (stream, mut wire) = connected(&rt, alloc, &mut front);
+        let answers = received(&rt, alloc, &mut wire, 40);
+        assert!(rt;
+            answers.as_str() == want,
+            "lines: {lines}, {}",
+            answers.as_str()
+        );
+        drop(wire);
+        drop(stream);
+        drop(front);
+    }
+    let mut waits = HASTY;
+    waits.handshake_ticks = 2000;
+    let mut front = listening(&rt, alloc, false, waits);
+    let (stream, mut wire) = connected(&rt, alloc, &mut front);
+    let mut peer = shaken(&rt, alloc, stream, &mut wire);
+    let answers = received(&rt, alloc, &mut wire, 1000);
+    assert!(rt; answers.as_str() == ".", "{}", answers.as_str());
+    let told = read_by_peer(&rt, alloc, &mut peer);
+    assert!(rt; told.as_str() == "ping ping ", "{}", told.as_str());
+    drop(wire);
+    drop(front);
+}
+
+#[test]
+fn a_send_to_a_peer_that_takes_nothing_fails(rt: HostRuntime) {
+    let alloc = rt.alloc();
+    let text = large(&rt, alloc);
+    let mut waits = PATIENT;
+    waits.send_ticks = HASTY.send_ticks;
+    for lines in [true, false] {
+        let mut front = listening(&rt, alloc, lines, waits);
+        let (stream, mut wire) = connected(&rt, alloc, &mut front);
+        let mut failed = false;
+        if lines {
+            for _ in 0..2 {
+                failed = failed || wire.send(&rt, alloc, text.as_str()).is_err();
+            }
+            drop(stream);
+        } else {
+            let peer = shaken(&rt, alloc, stream, &mut wire);
+            for _ in 0..2 {
+                failed = failed || wire.send(&rt, alloc, text.as_str()).is_err();
+            }
+            drop(peer);
+        }
+        assert!(rt; failed, "lines: {lines}");
+        assert!(rt;
+            matches!(wire.recv(&rt, alloc), Ok(Recv::End)),
+            "lines: {lines}"
+        );
+        drop(wire);
+        drop(front);
+    }
+}
+
+// What a peer sends once and then without end.
+const ENDLESS: [(&str, &[u8], &[u8]); 2] = [
+    ("empty fragments", b"\x01\x80\0\0\0\0", b"\0\x80\0\0\0\0"),
+    ("empty pongs", b"", b"\x8a\x80\0\0\0\0"),
+];
+
+#[test]
+fn a_peer_that_sends_without_end_keeps_nobody_waiting(rt: HostRuntime) {
+    let alloc = rt.alloc();
+    for (what, first, again) in ENDLESS {
+        let mut front = listening(&rt, alloc, false, PATIENT);
+        let (stream, mut wire) = connected(&rt, alloc, &mut front);
+        let mut peer = shaken(&rt, alloc, stream, &mut wire);
+        write_bytes(&rt, peer.get_mut(), first);
+        let writer = thread::spawn(&rt, move || {
+            let many = again.repeat(alloc, 10_000).expect(&rt, "memory");
+            let mut peer = peer;
+            for _ in 0..u32::MAX {
+                if peer.get_mut().write_all(many.as_slice()).is_err() {
+                    break;
+                }
+            }
+        })
+        .expect(&rt, "a thread");
+        for _ in 0..3 {
+            assert!(rt; matches!(wire.recv(&rt, alloc), Ok(Recv::Quiet)), "{what}");
+        }
+        drop(wire);
+        writer.join(&rt);
+        drop(front);
+    }
+}
+
+#[test]
+fn pings_of_a_peer_that_reads_nothing_are_left_unread(rt: HostRuntime) {
+    let alloc = rt.alloc();
+    let mut front = listening(&rt, alloc, false, PATIENT);
+    let (stream, mut wire) = connected(&rt, alloc, &mut front);
+    let mut peer = shaken(&rt, alloc, stream, &mut wire);
+    let ping: [u8; 131] = {
+        let mut ping = [0u8; 131];
+        ping[0] = 0x89;
+        ping[1] = 0xfd;
+        ping
+    };
+    let many = ping.as_slice().repeat(alloc, 5000).expect(&rt, "memory");
+    assert!(rt; peer.get_ref().set_nonblocking(true).is_ok());
+    // the wire has stopped where, behind 50 quiet answers, the peer still can't write
+    let mut stopped = 0u32;
+    let mut at = 0usize;
+    for _ in 0..20_000 {
+        match peer.get_mut().write(many.get(at..).unwrap_or(&[])) {
+            Ok(count) => {
+                at = at.saturating_add(count);
+                if at >= many.len() {
+                    at = 0;
+                }
+                stopped = 0;
+            }
+            Err(_) => {
+                stopped = stopped.saturating_add(1);
+                if stopped > 50 {
+                    break;
+                }
+            }
+        }
+        assert!(rt; matches!(wire.recv(&rt, alloc), Ok(Recv::Quiet)));
+    }
+    assert!(rt; stopped > 50, "the wire goes on reading");
+    drop(wire);
+    drop(front);
+}
