@@ -4,3 +4,6 @@ pub mod Attached
 pub mod Nodes
 pub mod Laid
 pub mod Marked
+pub mod Reading
+pub mod ReadBack
+pub mod Since

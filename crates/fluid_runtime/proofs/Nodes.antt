@@ -90,7 +90,7 @@ map_alike f g [] same = refl
 map_alike f g (x ∷ xs) same = ap₂ (λ y ys. y ∷ ys) (same 0 x (omega arith)) (map_alike f g xs (λ n d within. same (suc n) d (omega arith)))
 
 -- each entry is found under its key
-found_there : {V : Type 0} (m : Values V) (n : ℕ) (d : List ℕ × V) → n < length (entries m) → get m (get_or (entries m) n d).0 ≡ Some (get_or (entries m) n d).1
+pub found_there : {V : Type 0} (m : Values V) (n : ℕ) (d : List ℕ × V) → n < length (entries m) → get m (get_or (entries m) n d).0 ≡ Some (get_or (entries m) n d).1
 found_there m n d within = get-entries m _ ∙ find_at byte_order_total (get_or (entries m) n d).0 (entries m) n d (entries_sorted m) within refl
 
 same_node : (mark : Option ℕ) (slots : Slots) (at : List ℕ) (slot : Slot) → get slots at ≡ Some slot → node_at mark at slot ≡ node_since (changed_of mark slots) at (channel_of slot)

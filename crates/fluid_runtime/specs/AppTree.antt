@@ -39,7 +39,7 @@ tree_since changed channels = tree (children (map (λ e. (e.0, node_since change
 -- ---- reading: the channels, or the path of the first blob, in the order in which they stand, that is missing or outside its form
 
 infixl 1 ◌>>=◌
-abbrev ◌>>=◌ : {A B : Type 0} → Result A BlobFault → (A → Result B BlobFault) → Result B BlobFault
+abbrev pub ◌>>=◌ : {A B : Type 0} → Result A BlobFault → (A → Result B BlobFault) → Result B BlobFault
 Ok a >>= f = f a
 Err e >>= f = Err e
 

@@ -5,7 +5,10 @@ pub mod App
 pub mod Slots
 pub mod Codes
 pub mod Kinds
+pub mod Loaded
+pub mod Laws
 pub use Rattle.fluid_edits.specs.Forms
 pub use Rattle.fluid_edits.specs.Replay
 pub use Rattle.fluid_tree.specs.Summary
+pub use Rattle.fluid_handles.specs.Resolved
 pub use Rattle.fluid_json.specs.Unless

@@ -6,7 +6,8 @@ ghost use Rattle.fluid_types.specs.declared.messages.Message.{Message as AMessag
 ghost use Rattle.fluid_edits.specs.declared.edit.Edit.{Edit as AnEdit};
 ghost use Rattle.fluid_edits.specs.Forms.{edit_of};
 ghost use Rattle.fluid_edits.specs.Replay.{Channels, no_channels, attached, kind_of};
-ghost use Rattle.fluid_runtime.specs.App.{StandsFor, visible, after_message, left, changed_by, all_are, loaded};
+ghost use Rattle.fluid_runtime.specs.App.{StandsFor, visible, after_message, left, changed_by, all_are, loaded, loaded_if};
+ghost use Rattle.fluid_runtime.specs.AppTree as summaries;
 ghost use Rattle.fluid_runtime.specs.AppTree.{app_tree, tree_since};
 ghost use Rattle.fluid_runtime.specs.Kinds.{first_attached};
 ghost use Rattle.fluid_runtime.specs.Refused as refused;
@@ -14,12 +15,12 @@ ghost use Rattle.fluid_runtime.specs.Shown.{shown};
 
 use crate::fault::{EditFault, refusal};
 use crate::slots::{Slot, copy_slots, lay, take};
-use crate::{shown, summary};
+use crate::{loading, shown, summary};
 use fluid_edits::{ChannelKind, Edit, spelled_edit};
 use fluid_json::{Json, NoMemory, Text};
 use fluid_table::SortedMap;
 use fluid_tree::Node;
-use fluid_types::{Kind, Message};
+use fluid_types::{BlobFault, Kind, Message};
 use std::alloc::Global;
 use std::collections::VecDeque;
 use std::marker::Model;
@@ -169,6 +170,20 @@ impl App {
         ensures { IfOk result (λ node. node ≡ app_tree self.now.channels) }
     {
         summary::tree_of(alloc, &self.slots)
+    }
+
+    /// The channels that such a tree keeps, with nothing pending. Another tree is refused by the path of the first blob that
+    /// is missing or outside its form, in the order in which they stand.
+    pub fn from_tree(alloc: Global, tree: &Node) -> Result<App, BlobFault>
+        ensures { IsUnless BlobFault.NoMemory result (loaded_if (summaries.answer tree.now)) }
+    {
+        let slots = loading::slots_of(alloc, tree)?;
+        Ok(App {
+            slots,
+            taken: 0,
+            mark: None,
+            pending: VecDeque::new(alloc),
+        })
     }
 
     /// From now on `to_tree_since` tells which channels have changed. Takes no memory.

@@ -5,13 +5,16 @@
 //! pending edits, oldest first. What is shown is the replay of the one on the other, made when it is asked for.
 //!
 //! - `app`: `App`. `fault`: why an edit is refused. `slots`: the channels that stand. `shown`: what a client shows, as JSON.
-//! - `summary`: the tree in which a summary keeps the channels.
+//! - `summary`: the tree in which a summary keeps the channels. `loading`: the channels that such a tree keeps.
+//! - `laws`: what holds of the definitions.
 //!
 //! What edits and messages make of channels is defined in `fluid_edits` (`specs/Replay.antt`).
 #![tactic(auto)]
 
 mod app;
 mod fault;
+pub mod laws;
+mod loading;
 mod shown;
 mod slots;
 mod summary;

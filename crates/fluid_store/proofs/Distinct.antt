@@ -69,16 +69,16 @@ abbrev pub EachHolds : Held → Keyed → Type 0
 EachHolds held [] = Unit {0}
 EachHolds held (p ∷ ps) = Holds held p.1 × EachHolds held ps
 
-each_holds : (held : Held) (ps acc : Keyed) → AreDistinct ps → Holds held (joined (fold step acc ps)) → EachHolds held ps
+pub each_holds : (held : Held) (ps acc : Keyed) → AreDistinct ps → Holds held (joined (fold step acc ps)) → EachHolds held ps
 each_holds held [] acc distinct h = tt
 each_holds held (p ∷ ps) acc distinct h = (found_holds held (fold step (step acc p) ps) p.0 p.1 h (found_here ps acc p distinct.0), each_holds held ps (step acc p) distinct.1 h)
 
 -- ---- names that aren't refused
 
-has_slash : List ℕ → Bool
+pub has_slash : List ℕ → Bool
 has_slash = list_any (λ x. x == 47 || x == 0)
 
-plain_name : (n : List ℕ) → is_bad n ≡ false → has_slash n ≡ false
+pub plain_name : (n : List ℕ) → is_bad n ≡ false → has_slash n ≡ false
 unfolding has_slash
 plain_name n good = (or_parts (bytes_eq n [] || bytes_eq n (codes ".") || bytes_eq n (codes "..")) (has_slash n) good).1
 
@@ -90,7 +90,7 @@ slashed : (n : List ℕ) → has_slash (n ++ 47 ∷ []) ≡ true
 unfolding has_slash
 slashed n = list_any-append _ n (47 ∷ []) ∙ or-true _
 
-keys_apart : (b c : Bool) (n m : List ℕ) → has_slash n ≡ false → has_slash m ≡ false → n ≢ m → sort_key b n ≢ sort_key c m
+pub keys_apart : (b c : Bool) (n m : List ℕ) → has_slash n ≡ false → has_slash m ≡ false → n ≢ m → sort_key b n ≢ sort_key c m
 keys_apart false false n m p q differ e = differ e
 keys_apart true true n m p q differ e = differ (append_cancel_right n m (47 ∷ []) e)
 keys_apart false true n m p q differ e = let clash : false ≡ true = sym p ∙ ap has_slash e ∙ slashed m in cc

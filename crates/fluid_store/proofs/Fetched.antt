@@ -272,11 +272,11 @@ named law held id entries h = by_found (get held id) h
     by_found None h = cc
     by_found (Some bytes) h = by_read bytes (object_read bytes) refl h
 
-bind_ok : {A B : Type 0} (r : Result A StoreFault) (f : A → Result B StoreFault) (b : B) → Ok b ≡ (r >>= f) → (a : A) × ((Ok a ≡ r) × (Ok b ≡ f a))
+pub bind_ok : {A B : Type 0} (r : Result A StoreFault) (f : A → Result B StoreFault) (b : B) → Ok b ≡ (r >>= f) → (a : A) × ((Ok a ≡ r) × (Ok b ≡ f a))
 bind_ok (Ok a) f b h = (a, (refl, h))
 bind_ok (Err e) f b h = cc
 
-kind_by : (c : Bool) (x : Result Summary StoreFault) (e : StoreFault) (s : Summary) → Ok s ≡ cond c x (Err e) → (c ≡ true) × (Ok s ≡ x)
+pub kind_by : (c : Bool) (x : Result Summary StoreFault) (e : StoreFault) (s : Summary) → Ok s ≡ cond c x (Err e) → (c ≡ true) × (Ok s ≡ x)
 kind_by true x e s h = (refl, h)
 kind_by false x e s h = cc
 
@@ -287,10 +287,10 @@ kind_is false (Tree entries) s h k = cc
 
 module _ (law : IsOfBytes) (named_law : AreNamed) (held : Held) where
   -- what a node that was read of an object under an id is
-  abbrev Good : ℕ → List ℕ → Object → Summary → Type 0
+  abbrev pub Good : ℕ → List ℕ → Object → Summary → Type 0
   Good levels id o s = (Stands held id s × (depth s ≤ levels)) × (is_tree s ≡ is_tree_object o)
 
-  abbrev IsGood : ℕ → Type 0
+  abbrev pub IsGood : ℕ → Type 0
   IsGood levels = (id : List ℕ) (o : Object) (s : Summary) → object_at held id ≡ Some o → Ok s ≡ node_within held levels o → Good levels id o s
 
   all_good : (n : ℕ) → IsGood n → (entries : List ObjectEntry) (cs : Children) → Ok cs ≡ nodes_by (child_by held (node_within held n)) entries → AllStand held entries cs × (children_depth cs ≤ n)
@@ -322,7 +322,7 @@ module _ (law : IsOfBytes) (named_law : AreNamed) (held : Held) where
   no_tree : (id : List ℕ) (entries : List ObjectEntry) (s : Summary) → Ok s ≡ node_within held zero (Tree entries) → Good zero id (Tree entries) s
   no_tree id entries s h = let k = h ∙ sym (tree_too_deep held zero entries refl) in cc
 
-  good : (levels : ℕ) → IsGood levels
+  pub good : (levels : ℕ) → IsGood levels
   good levels id (Blob content) s here h = good_blob levels id content s here h
   good zero id (Tree entries) s here h = no_tree id entries s h
   good (suc n) id (Tree entries) s here h = good_tree n (good n) id entries s here h

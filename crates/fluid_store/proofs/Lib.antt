@@ -10,3 +10,4 @@ mod Fetched
 mod Looked
 mod Stays
 mod Whole
+mod Resolving

@@ -1,96 +1,288 @@
--- The objects of a tree's nodes, one after the other.
-use Rattle.std.proofs.Common.{◌≡◌, ℕ, zero, suc, ◌+◌, ◌<◌, ◌≤◌, List, [], ◌∷◌, ◌++◌, length, get_or, drop, fold, Some, None, String, Vec, Global, string_bytes, string_cmp, refl, sym, ap, ◌∙◌, arith, append_assoc, append-nil}
+-- The parts of a tree's nodes, one after the other.
+use Rattle.std.proofs.Common.{◌≡◌, ◌≢◌, ◌⊎◌, ℕ, zero, suc, ◌+◌, ◌<◌, ◌≤◌, inl, inr, List, [], ◌∷◌, ◌++◌, length, get_or, drop, map, Option, Some, None, Result, Ok, Err, String, Global, string_bytes, string_cmp, refl, sym, ap, subst, ◌∙◌, arith, append_assoc, append-nil}
+use Rattle.std.specs.Prelude.{IfOk, option_map}
+use Rattle.std.specs.Option.{unwrap_or}
+use Rattle.std.specs.Result.{IsErrAnd}
 use Rattle.std.proofs.lemmas.List.{at_drop_more, at_drop_all}
 use Rattle.std.specs.BTreeMap.{insert_entry}
 use Rattle.std.specs.Ordering.{match_ordering}
 use Rattle.std.specs.declared.cmp.Ordering.TheVariants.{Less, Equal, Greater}
 use Rattle.std.specs.FinMap.Entries.{put, by_order}
-use Rattle.sha1.specs.Sha1.{sha1}
-use Rattle.fluid_tree.specs.Summary.{Summary, blob, tree, handle, Children, children, is_tree, as_blob, as_children, depth, children_depth}
-use Rattle.fluid_tree.specs.Object.{object_bytes, tree_bytes, sort_key}
-use Rattle.fluid_tree.specs.declared.object.Object.TheVariants.{Blob}
+use Rattle.fluid_io.specs.Causes.{Tells}
+use Rattle.fluid_json.specs.Unless.{IsUnless}
+use Rattle.fluid_tree.specs.Names.{first_refused}
+use Rattle.fluid_tree.specs.Summary.{Summary, blob, tree, handle, Children, children, names, as_blob, as_children, as_handle}
+use Rattle.fluid_tree.specs.Object.{object_bytes, bytes_answer, unless_refused}
+use Rattle.fluid_tree.specs.declared.object.Object.TheVariants.{Tree as ObjectTree}
 use Rattle.fluid_tree.specs.declared.object.ObjectEntry.{ObjectEntry}
-use Rattle.fluid_store.specs.Held.{byte_order}
-use Rattle.fluid_store.specs.Listed.{own_bytes, own_entries, object_of, Keyed, in_key_order, joined, objects, keyed, keyed_of}
+use Rattle.fluid_tree.specs.declared.fault.TreeFault.{TreeFault}
+use Rattle.fluid_tree.specs.declared.fault.TreeFault.TheVariants.{TooDeep, BadName, NoMemory as Memory}
+use Rattle.fluid_store.specs.Held.{byte_order, Held}
+use Rattle.fluid_store.specs.Storing.{Storing}
+use Rattle.fluid_store.specs.Listed.{keyed_of}
+use Rattle.fluid_store.specs.Fetching.{◌>>=◌, Answers}
+use Rattle.fluid_store.specs.Keeping.{IsNoted, Adds}
+use Rattle.fluid_store.specs.Parts.{Leads, Named, blob_part, part_within, parts_within, tree_within, tree_part, entry_of, refusal, unrefused, part_over}
+use Rattle.fluid_store.specs.Uploading.{Lists, AddsSome, Uploads}
+use Rattle.fluid_store.specs.declared.listing.Part.{Part}
 use Rattle.fluid_store.specs.declared.listing.StoredObject.{StoredObject}
+use Rattle.fluid_store.specs.declared.fault.StoreFault.{StoreFault}
+use Rattle.fluid_store.specs.declared.fault.StoreFault.TheVariants.{StoreFailed, Clash, Missing, BadObject, Tree, NoPath, NoMemory}
+use Rattle.fluid_store.proofs.Added.{adds_nothing}
+use Rattle.fluid_store.proofs.Fetched.{tells_then, tells_both, tells_of, tells_all}
+
+-- ---- what a call that looks a tree over answers
+
+pub of_answers : {A : Type 0} (f : Held → Result A StoreFault) (old new : Storing) (r : Result A StoreFault) → Answers f old new r → Lists f old new r
+of_answers f old new (Ok a) s = s
+of_answers f old new (Err (StoreFailed note)) s = s
+of_answers f old new (Err (Missing id)) s = s
+of_answers f old new (Err (BadObject id place)) s = s
+of_answers f old new (Err (Tree fault)) s = s
+of_answers f old new (Err (Clash id kept bytes)) s = absurd s
+of_answers f old new (Err (NoPath path)) s = absurd s
+of_answers f old new (Err NoMemory) s = tt
+
+-- an answer of no call is told wherever the store tells what it holds
+pub pure : {A : Type 0} (f : Held → Result A StoreFault) (old new : Storing) (r : Result A StoreFault) → ((id kept bytes : List ℕ) → r ≢ Err (Clash id kept bytes))
+    → ((note : _) → r ≢ Err (StoreFailed note)) → ((held : Held) → r ≡ f held) → Lists f old new r
+pure f old new (Ok a) clash failed is = tells_all old.content _ is
+pure f old new (Err (StoreFailed note)) clash failed is = absurd (failed note refl)
+pure f old new (Err (Missing id)) clash failed is = tells_all old.content _ is
+pure f old new (Err (BadObject id place)) clash failed is = tells_all old.content _ is
+pure f old new (Err (Tree fault)) clash failed is = tells_all old.content _ is
+pure f old new (Err (NoPath path)) clash failed is = tells_all old.content _ is
+pure f old new (Err (Clash id kept bytes)) clash failed is = absurd (clash id kept bytes refl)
+pure f old new (Err NoMemory) clash failed is = tt
+
+module _ (old mid new : Storing) (same : mid.content ≡ old.content) (later : old.faults ≤ mid.faults) where
+  noted_since : (note : _) → IsNoted mid new note → IsNoted old new note
+  noted_since note n = record { before = omega (arith, later, n.before); after = n.after; rose = n.rose }
+
+  told_since : {A : Type 0} (h f : Held → Result A StoreFault) (r : Result A StoreFault) → Tells old.content (λ held. h held ≡ f held) → Tells mid.content (λ held. r ≡ h held) → Tells old.content (λ held. r ≡ f held)
+  told_since h f r carry s = tells_both old.content (λ held. h held ≡ f held) (λ held. r ≡ h held) (λ held. r ≡ f held) (λ held c k. k ∙ c) carry (tells_of old.content mid.content (λ held. r ≡ h held) same s)
+
+  -- what was answered later is the answer of the whole
+  pub lists_on : {A : Type 0} (h f : Held → Result A StoreFault) (r : Result A StoreFault) → Tells old.content (λ held. h held ≡ f held) → Lists h mid new r → Lists f old new r
+  lists_on h f (Ok a) carry s = told_since h f (Ok a) carry s
+  lists_on h f (Err (StoreFailed note)) carry s = noted_since note s
+  lists_on h f (Err (Missing id)) carry s = told_since h f (Err (Missing id)) carry s
+  lists_on h f (Err (BadObject id place)) carry s = told_since h f (Err (BadObject id place)) carry s
+  lists_on h f (Err (Tree fault)) carry s = told_since h f (Err (Tree fault)) carry s
+  lists_on h f (Err (Clash id kept bytes)) carry s = absurd s
+  lists_on h f (Err (NoPath path)) carry s = told_since h f (Err (NoPath path)) carry s
+  lists_on h f (Err NoMemory) carry s = tt
+
+  abbrev pub HandsOn : {A B : Type 0} → (Held → Result A StoreFault) → (Held → Result B StoreFault) → Held → Type 0
+  HandsOn h f held = (e : StoreFault) → Err e ≡ h held → Err e ≡ f held
+
+  told_fault : {A B : Type 0} (h : Held → Result A StoreFault) (f : Held → Result B StoreFault) (e : StoreFault) → Tells old.content (HandsOn h f) → Tells mid.content (λ held. Err e ≡ h held) → Tells old.content (λ held. Err e ≡ f held)
+  told_fault h f e carry s = tells_both old.content (HandsOn h f) (λ held. Err e ≡ h held) (λ held. Err e ≡ f held) (λ held c k. c e k) carry (tells_of old.content mid.content (λ held. Err e ≡ h held) same s)
+
+  -- a fault on the way is the answer of the whole
+  pub lists_stop : {A B : Type 0} (h : Held → Result A StoreFault) (f : Held → Result B StoreFault) (e : StoreFault) → Tells old.content (HandsOn h f) → Lists h mid new (Err e) → Lists f old new (Err e)
+  lists_stop h f (StoreFailed note) carry s = noted_since note s
+  lists_stop h f (Missing id) carry s = told_fault h f (Missing id) carry s
+  lists_stop h f (BadObject id place) carry s = told_fault h f (BadObject id place) carry s
+  lists_stop h f (Tree fault) carry s = told_fault h f (Tree fault) carry s
+  lists_stop h f (Clash id kept bytes) carry s = absurd s
+  lists_stop h f (NoPath path) carry s = told_fault h f (NoPath path) carry s
+  lists_stop h f NoMemory carry s = tt
+
+pub lists_handed : {A : Type 0} (f : Held → Result A StoreFault) (old new : Storing) (r : Result A StoreFault) (e : StoreFault) → IsErrAnd r (λ x. x ≡ e) → Lists f old new (Err e) → Lists f old new r
+lists_handed f old new (Ok a) e h s = absurd h
+lists_handed f old new (Err x) e h s = subst (λ y. Lists f old new (Err y)) (sym h) s
+
+pub wants_memory : {A : Type 0} (f : Held → Result A StoreFault) (old new : Storing) (r : Result A StoreFault) → IsErrAnd r (λ x. x ≡ NoMemory) → Lists f old new r
+wants_memory f old new r h = lists_handed f old new r NoMemory h tt
 
 -- ---- a node alone
 
-pub blob_listed : (s : Summary) (content : List ℕ) → Some content ≡ as_blob s → (own_bytes s ≡ object_bytes (Blob content)) × (objects s ≡ object_of (object_bytes (Blob content)) ∷ [])
-unfolding own_bytes objects
-blob_listed (blob c) content h = let e : content ≡ c = cc in (ap (λ x. object_bytes (Blob x)) (sym e), ap (λ x. object_of (object_bytes (Blob x)) ∷ []) (sym e))
-blob_listed (tree nodes) content h = cc
-blob_listed (handle path) content h = cc
+pub blob_within : (leads : Leads) (levels : ℕ) (s : Summary) (content : List ℕ) → Some content ≡ as_blob s → Ok (blob_part content) ≡ part_within leads levels s
+unfolding part_within
+blob_within leads zero (blob c) content is = let same : content ≡ c = cc in ap (λ x. Ok (blob_part x)) same
+blob_within leads (suc n) (blob c) content is = let same : content ≡ c = cc in ap (λ x. Ok (blob_part x)) same
+blob_within leads levels (tree nodes) content is = cc
+blob_within leads levels (handle path) content is = cc
 
-pub handle_listed : (s : Summary) → None ≡ as_blob s → None ≡ as_children s → (own_bytes s ≡ []) × (objects s ≡ [])
-unfolding own_bytes objects
-handle_listed (blob c) h k = cc
-handle_listed (tree nodes) h k = cc
-handle_listed (handle path) h k = (refl, refl)
+pub handle_within : (leads : Leads) (levels : ℕ) (s : Summary) (path : List (List ℕ)) → Some path ≡ as_handle s → leads path ≡ part_within leads levels s
+unfolding part_within
+handle_within leads levels (blob c) path is = cc
+handle_within leads levels (tree nodes) path is = cc
+handle_within leads zero (handle own) path is = let same : path ≡ own = cc in ap leads same
+handle_within leads (suc n) (handle own) path is = let same : path ≡ own = cc in ap leads same
+
+pub too_deep : (leads : Leads) (levels : ℕ) (s : Summary) (nodes : Children) → Some nodes ≡ as_children s → levels ≡ 0 → Err (Tree TooDeep) ≡ part_within leads levels s
+unfolding part_within
+too_deep leads zero (tree own) nodes is none = refl
+too_deep leads (suc n) s nodes is none = absurd (omega (arith, none))
+too_deep leads zero (blob c) nodes is none = cc
+too_deep leads zero (handle path) nodes is none = cc
+
+pub deeper : (leads : Leads) (levels n : ℕ) (s : Summary) (nodes : Children) → Some nodes ≡ as_children s → levels ≡ suc n → tree_within leads n nodes ≡ part_within leads levels s
+unfolding part_within
+deeper leads zero n s nodes is some = absurd (omega (arith, some))
+deeper leads (suc m) n (tree own) nodes is some =
+    let same : nodes ≡ own = cc in
+    let less : n ≡ m = omega (arith, some) in
+    (λ i. tree_within leads (less i) (same i))
+deeper leads (suc m) n (blob c) nodes is some = cc
+deeper leads (suc m) n (handle path) nodes is some = cc
 
 -- ---- the nodes of a tree
 
-abbrev Named : Type 0
-Named = List ℕ × Summary
+abbrev Nodes : Type 0
+Nodes = List (List ℕ × Summary)
 
-pub no_deeper : (ms : List Named) (i : ℕ) (m : Named) → i < length ms → m ≡ get_or ms i m → depth m.1 ≤ children_depth (children ms)
-no_deeper [] i m lt is = absurd (omega arith)
-no_deeper (n ∷ ms) zero m lt is = let e : depth m.1 ≡ depth n.1 = ap (λ (x : Named). depth x.1) is in omega (arith, e)
-no_deeper (n ∷ ms) (suc i) m lt is = let rest = no_deeper ms i m (omega arith) is in omega (arith, rest)
+-- the parts so far, and then those of the nodes left, are those of all
+abbrev pub Goes : Leads → ℕ → Nodes → ℕ → Named → Type 0
+Goes leads levels ms i done = parts_within leads levels (children ms) ≡ (parts_within leads levels (children (drop i ms)) >>= λ rest. Ok (done ++ rest))
 
-abbrev pub entry_of : Named → ObjectEntry
-entry_of m = record { name = m.0; tree = is_tree m.1; id = sha1 (own_bytes m.1) }
+again : {A : Type 0} (r : Result A StoreFault) → r ≡ (r >>= λ a. Ok a)
+again (Ok a) = refl
+again (Err e) = refl
 
-first_entry : (m : Named) (ms : List Named) → own_entries (children (m ∷ ms)) ≡ entry_of m ∷ own_entries (children ms)
-unfolding own_entries
-first_entry m ms = refl
+pub goes_start : (content : Option Held) (leads : Held → Leads) (levels : ℕ) (ms : Nodes) (parts : Named) → parts ≡ [] → Tells content (λ held. Goes (leads held) levels ms 0 parts)
+goes_start content leads levels ms parts none =
+    subst (λ ps. Tells content (λ held. Goes (leads held) levels ms 0 ps)) (sym none)
+    (tells_all content (λ held. Goes (leads held) levels ms 0 []) (λ held. again (parts_within (leads held) levels (children ms))))
 
-no_entries : own_entries (children []) ≡ []
-unfolding own_entries
-no_entries = refl
+first_part : (leads : Leads) (levels : ℕ) (m : List ℕ × Summary) (ms : Nodes)
+    → parts_within leads levels (children (m ∷ ms)) ≡ (part_within leads levels m.1 >>= λ part. parts_within leads levels (children ms) >>= λ parts. Ok ((m.0, part) ∷ parts))
+unfolding parts_within
+first_part leads levels m ms = refl
 
-pub entry_goes : (ms : List Named) (i : ℕ) (m : Named) (done : List ObjectEntry) → i < length ms → m ≡ get_or ms i m
-    → done ++ own_entries (children (drop i ms)) ≡ own_entries (children ms) → (done ++ entry_of m ∷ []) ++ own_entries (children (drop (i + 1) ms)) ≡ own_entries (children ms)
-entry_goes ms i m done lt is inv =
-    append_assoc done (entry_of m ∷ []) _
-    ∙ ap (λ es. done ++ es) (sym (at_drop_more (λ ns. own_entries (children ns)) ms i m lt ∙ ap (λ n. own_entries (children (n ∷ drop (i + 1) ms))) (sym is) ∙ first_entry m (drop (i + 1) ms)))
-    ∙ inv
+no_part : (leads : Leads) (levels : ℕ) → parts_within leads levels (children []) ≡ Ok []
+unfolding parts_within
+no_part leads levels = refl
 
-pub entries_end : (ms : List Named) (i : ℕ) (done : List ObjectEntry) → length ms ≤ i → done ++ own_entries (children (drop i ms)) ≡ own_entries (children ms) → done ≡ own_entries (children ms)
-entries_end ms i done le inv = sym (ap (λ es. done ++ es) (at_drop_all (λ ns. own_entries (children ns)) ms i le ∙ no_entries) ∙ append-nil done) ∙ inv
+module _ (leads : Leads) (levels : ℕ) (ms : Nodes) (i : ℕ) (m : List ℕ × Summary) (done : Named) (lt : i < length ms) (is : m ≡ get_or ms i m) (inv : Goes leads levels ms i done) where
+  at : parts_within leads levels (children (drop i ms)) ≡ (part_within leads levels m.1 >>= λ part. parts_within leads levels (children (drop (i + 1) ms)) >>= λ parts. Ok ((m.0, part) ∷ parts))
+  at =
+      at_drop_more (λ l. parts_within leads levels (children l)) ms i m lt
+      ∙ ap (λ x. parts_within leads levels (children (x ∷ drop (i + 1) ms))) (sym is) ∙ first_part leads levels m (drop (i + 1) ms)
 
-abbrev step : Keyed → List ℕ × List StoredObject → Keyed
-step sorted one = put byte_order one.0 one.1 sorted
+  pub node_fails : (fault : StoreFault) → Err fault ≡ part_within leads levels m.1 → Err fault ≡ parts_within leads levels (children ms)
+  node_fails fault h =
+      sym (inv ∙ ap (λ r. r >>= λ rest. Ok (done ++ rest)) (at ∙ ap (λ r. r >>= λ part. parts_within leads levels (children (drop (i + 1) ms)) >>= λ parts. Ok ((m.0, part) ∷ parts)) (sym h)))
 
-first_keyed : (m : Named) (ms : List Named) → keyed (children (m ∷ ms)) ≡ (sort_key (is_tree m.1) m.0, objects m.1) ∷ keyed (children ms)
-unfolding keyed
-first_keyed m ms = refl
+  behind : (r : Result Named StoreFault) (part : Part) → ((r >>= λ parts. Ok ((m.0, part) ∷ parts)) >>= λ rest. Ok (done ++ rest)) ≡ (r >>= λ rest. Ok ((done ++ (m.0, part) ∷ []) ++ rest))
+  behind (Ok parts) part = ap Ok (sym (append_assoc done ((m.0, part) ∷ []) parts))
+  behind (Err e) part = refl
 
-none_keyed : keyed (children []) ≡ []
-unfolding keyed
-none_keyed = refl
+  pub node_goes : (part : Part) → Ok part ≡ part_within leads levels m.1 → Goes leads levels ms (i + 1) (done ++ (m.0, part) ∷ [])
+  node_goes part h =
+      inv
+      ∙ ap (λ r. r >>= λ rest. Ok (done ++ rest)) (at ∙ ap (λ r. r >>= λ p. parts_within leads levels (children (drop (i + 1) ms)) >>= λ parts. Ok ((m.0, p) ∷ parts)) (sym h))
+      ∙ behind (parts_within leads levels (children (drop (i + 1) ms))) part
 
-pub keyed_goes : (ms : List Named) (i : ℕ) (m : Named) (done more : Keyed) → i < length ms → m ≡ get_or ms i m → more ≡ put byte_order (sort_key (is_tree m.1) m.0) (objects m.1) done
-    → fold step done (keyed (children (drop i ms))) ≡ in_key_order (keyed (children ms)) → fold step more (keyed (children (drop (i + 1) ms))) ≡ in_key_order (keyed (children ms))
-keyed_goes ms i m done more lt is grown inv =
-    ap (λ d. fold step d (keyed (children (drop (i + 1) ms)))) grown
-    ∙ sym (at_drop_more (λ ns. fold step done (keyed (children ns))) ms i m lt ∙ ap (λ n. fold step done (keyed (children (n ∷ drop (i + 1) ms)))) (sym is) ∙ ap (fold step done) (first_keyed m (drop (i + 1) ms)))
-    ∙ inv
+pub node_more : (content : Option Held) (leads : Held → Leads) (levels : ℕ) (ms : Nodes) (i : ℕ) (m : List ℕ × Summary) (done more : Named) (name : List ℕ) (part : Part) → i < length ms
+    → m ≡ get_or ms i m → name ≡ m.0 → more ≡ done ++ (name, part) ∷ [] → Tells content (λ held. Goes (leads held) levels ms i done)
+    → Tells content (λ held. Ok part ≡ part_within (leads held) levels m.1) → Tells content (λ held. Goes (leads held) levels ms (i + 1) more)
+node_more content leads levels ms i m done more name part lt is named grown inv one =
+    let list : more ≡ done ++ (m.0, part) ∷ [] = grown ∙ ap (λ x. done ++ (x, part) ∷ []) named in
+    subst (λ ps. Tells content (λ held. Goes (leads held) levels ms (i + 1) ps)) (sym list)
+    (tells_both content (λ held. Goes (leads held) levels ms i done) (λ held. Ok part ≡ part_within (leads held) levels m.1) (λ held. Goes (leads held) levels ms (i + 1) (done ++ (m.0, part) ∷ []))
+    (λ held h k. node_goes (leads held) levels ms i m done lt is h part k) inv one)
 
-pub keyed_end : (ms : List Named) (i : ℕ) (done : Keyed) → length ms ≤ i → fold step done (keyed (children (drop i ms))) ≡ in_key_order (keyed (children ms)) → done ≡ in_key_order (keyed (children ms))
-keyed_end ms i done le inv = sym (at_drop_all (λ ns. fold step done (keyed (children ns))) ms i le ∙ ap (fold step done) none_keyed) ∙ inv
+pub node_stops : (content : Option Held) (leads : Held → Leads) (levels : ℕ) (ms : Nodes) (i : ℕ) (m : List ℕ × Summary) (done : Named) → i < length ms → m ≡ get_or ms i m
+    → Tells content (λ held. Goes (leads held) levels ms i done)
+    → Tells content (λ held. (e : StoreFault) → Err e ≡ part_within (leads held) levels m.1 → Err e ≡ parts_within (leads held) levels (children ms))
+node_stops content leads levels ms i m done lt is inv = tells_then content (λ held. Goes (leads held) levels ms i done) _ (λ held h e k. node_fails (leads held) levels ms i m done lt is h e k) inv
 
--- a map from texts puts a list where the list by keys does
-pub put_keyed : (ms : List (String Global × Vec StoredObject Global)) (k : String Global) (v : Vec StoredObject Global) → keyed_of (insert_entry string_cmp ms k v) ≡ put byte_order (string_bytes k) v.items (keyed_of ms)
+pub nodes_end : (leads : Leads) (levels : ℕ) (ms : Nodes) (i : ℕ) (done : Named) → length ms ≤ i → Goes leads levels ms i done → Ok done ≡ parts_within leads levels (children ms)
+nodes_end leads levels ms i done le inv =
+    sym (inv ∙ ap (λ r. r >>= λ rest. Ok (done ++ rest)) (at_drop_all (λ l. parts_within leads levels (children l)) ms i le ∙ no_part leads levels) ∙ ap Ok (append-nil done))
+
+-- ---- a tree
+
+pub names_fail : (leads : Leads) (levels : ℕ) (nodes : Children) (fault : StoreFault) → IsUnless NoMemory (Err fault) (unrefused (first_refused [] (names nodes)))
+    → (fault ≡ NoMemory) ⊎ (Err fault ≡ tree_within leads levels nodes)
+names_fail leads levels nodes fault (inl e) = inl cc
+names_fail leads levels nodes fault (inr e) = inr (ap (λ r. r >>= λ ok. parts_within leads levels nodes >>= λ parts. Ok (tree_part parts)) e)
+
+pub names_pass : (leads : Leads) (levels : ℕ) (nodes : Children) (u : Unit {0}) → IsUnless NoMemory (Ok u) (unrefused (first_refused [] (names nodes)))
+    → (parts_within leads levels nodes >>= λ parts. Ok (tree_part parts)) ≡ tree_within leads levels nodes
+names_pass leads levels nodes u (inl e) = cc
+names_pass leads levels nodes u (inr e) = ap (λ r. r >>= λ ok. parts_within leads levels nodes >>= λ parts. Ok (tree_part parts)) e
+
+-- ---- a map from texts puts a list where the list by keys does
+
+pub put_keyed : (ms : List (String Global × List StoredObject)) (k : String Global) (v : List StoredObject) → keyed_of (insert_entry string_cmp ms k v) ≡ put byte_order (string_bytes k) v (keyed_of ms)
 put_keyed [] k v = refl
 put_keyed (m ∷ ms) k v =
     elim (string_cmp k m.0) as (λ o. keyed_of (match_ordering o ((k, v) ∷ m ∷ ms) ((m.0, v) ∷ ms) (m ∷ insert_entry string_cmp ms k v))
-    ≡ by_order o ((string_bytes k, v.items) ∷ keyed_of (m ∷ ms)) ((string_bytes m.0, v.items) ∷ keyed_of ms) ((string_bytes m.0, m.1.items) ∷ put byte_order (string_bytes k) v.items (keyed_of ms))) [
+    ≡ by_order o ((string_bytes k, v) ∷ keyed_of (m ∷ ms)) ((string_bytes m.0, v) ∷ keyed_of ms) ((string_bytes m.0, m.1) ∷ put byte_order (string_bytes k) v (keyed_of ms))) [
       | Less ↦ refl
       | Equal ↦ refl
-      | Greater ↦ ap (λ l. (string_bytes m.0, m.1.items) ∷ l) (put_keyed ms k v)
+      | Greater ↦ ap (λ l. (string_bytes m.0, m.1) ∷ l) (put_keyed ms k v)
     ]
 
-pub tree_listed : (nodes : Children) → (own_bytes (tree nodes) ≡ tree_bytes (own_entries nodes)) × (objects (tree nodes) ≡ joined (in_key_order (keyed nodes)) ++ object_of (own_bytes (tree nodes)) ∷ [])
-unfolding own_bytes objects
-tree_listed nodes = (refl, refl)
+-- ---- the parts of a tree, put together
+
+pub entries_go : (done : List ObjectEntry) (part : List ℕ × Part) (parts : Named) (all : List ObjectEntry) → done ++ map entry_of (part ∷ parts) ≡ all
+    → (done ++ entry_of part ∷ []) ++ map entry_of parts ≡ all
+entries_go done part parts all is = append_assoc done (entry_of part ∷ []) (map entry_of parts) ∙ is
+
+pub on_ok : {A E : Type 0} (P Q : A → Type 0) (r : Result A E) → ((a : A) → P a → Q a) → IfOk r P → IfOk r Q
+on_ok P Q (Ok a) then h = then a h
+on_ok P Q (Err e) then h = tt
+
+pub tree_goes : (leads : Leads) (levels : ℕ) (nodes : Children) (u : Unit {0}) (parts : Named) (part : Part) → IsUnless NoMemory (Ok u) (unrefused (first_refused [] (names nodes)))
+    → Ok parts ≡ parts_within leads levels nodes → part ≡ tree_part parts → Ok part ≡ tree_within leads levels nodes
+tree_goes leads levels nodes u parts part names_are all is = ap Ok is ∙ ap (λ r. r >>= λ ps. Ok (tree_part ps)) all ∙ names_pass leads levels nodes u names_are
+
+pub blob_there : {B : Type 0} (now : B → List ℕ) (r : Option B) (d : B) (s : Summary) → None ≡ as_children s → None ≡ as_handle s → option_map now r ≡ as_blob s → Some (now (unwrap_or r d)) ≡ as_blob s
+blob_there now None d (blob c) h k is = cc
+blob_there now None d (tree nodes) h k is = cc
+blob_there now None d (handle path) h k is = cc
+blob_there now (Some b) d s h k is = is
+
+-- ---- names
+
+by_unless : (found : Option (List ℕ)) (own bytes : List ℕ) → Ok bytes ≡ unless_refused found own → unrefused found ≡ Ok tt
+by_unless None own bytes is = refl
+by_unless (Some name) own bytes is = cc
+
+pub names_good : (entries : List ObjectEntry) (ns : List (List ℕ)) (bytes : List ℕ) → map (λ e. e.name) entries ≡ ns → IsUnless Memory (Ok bytes) (bytes_answer (ObjectTree entries))
+    → Ok tt ≡ unrefused (first_refused [] ns)
+unfolding bytes_answer
+names_good entries ns bytes are (inl e) = cc
+names_good entries ns bytes are (inr e) = sym (by_unless (first_refused [] ns) _ bytes (e ∙ ap (λ l. unless_refused (first_refused [] l) (object_bytes (ObjectTree entries))) are))
+
+by_fault : (found : Option (List ℕ)) (own : List ℕ) (fault : TreeFault) → Err fault ≡ unless_refused found own → Err (refusal fault) ≡ unrefused found
+by_fault None own fault is = cc
+by_fault (Some name) own fault is = let same : fault ≡ BadName name = cc in ap (λ f. Err (refusal f)) same
+
+pub names_bad : (entries : List ObjectEntry) (ns : List (List ℕ)) (fault : TreeFault) → map (λ e. e.name) entries ≡ ns → IsUnless {T = List ℕ} Memory (Err fault) (bytes_answer (ObjectTree entries))
+    → IsUnless NoMemory (Err (refusal fault)) (unrefused (first_refused [] ns))
+unfolding bytes_answer
+names_bad entries ns fault are (inl e) = inl (let same : fault ≡ Memory = cc in ap (λ f. Err (refusal f)) same)
+names_bad entries ns fault are (inr e) = inr (by_fault (first_refused [] ns) _ fault (e ∙ ap (λ l. unless_refused (first_refused [] l) (object_bytes (ObjectTree entries))) are))
+
+-- ---- an upload that ends before the first object is put
+
+first_of_any : {E : Type 0} (r : Result Part E) → IfOk r (λ part. (behind : List StoredObject) × (part.objects ≡ [] ++ behind))
+first_of_any (Ok part) = (part.objects, refl)
+first_of_any (Err e) = tt
+
+nothing_added : (base : Option (List ℕ)) (node : Summary) (old new : Storing) → new.content ≡ old.content → AddsSome base node old new
+nothing_added base node old new same = record {
+  front = [];
+  adds = subst (λ c. Adds [] old.content c) (sym same) (adds_nothing old.content);
+  are_first = tells_all old.content _ (λ held. first_of_any (part_over held base node));
+}
+
+pub upload_refused : (base : Option (List ℕ)) (node : Summary) (old new : Storing) (fault : StoreFault) → new.content ≡ old.content
+    → Lists (λ held. part_over held base node) old new (Err fault) → Uploads base node old new (Err fault)
+upload_refused base node old new (StoreFailed note) same h = (h, nothing_added base node old new same)
+upload_refused base node old new (Clash id kept bytes) same h = absurd h
+upload_refused base node old new (Missing id) same h = record { is_fault = h; same = same }
+upload_refused base node old new (BadObject id place) same h = record { is_fault = h; same = same }
+upload_refused base node old new (Tree fault) same h = record { is_fault = h; same = same }
+upload_refused base node old new (NoPath path) same h = record { is_fault = h; same = same }
+upload_refused base node old new NoMemory same h = nothing_added base node old new same
+
+pub upload_handed : (base : Option (List ℕ)) (node : Summary) (old new : Storing) (r : Result (List ℕ) StoreFault) (e : StoreFault) → IsErrAnd r (λ x. x ≡ e) → Uploads base node old new (Err e) → Uploads base node old new r
+upload_handed base node old new (Ok a) e h s = absurd h
+upload_handed base node old new (Err x) e h s = subst (λ y. Uploads base node old new (Err y)) (sym h) s

@@ -1,6 +1,5 @@
 -- Objects that were added are those that are put, up to the first clash.
 use Rattle.std.proofs.Common.{◌≡◌, ◌≢◌, ℕ, Bool, true, false, cond, List, [], ◌∷◌, ◌++◌, Option, Some, None, Result, Ok, Err, bytes_eq, refl, sym, ap, subst, ◌∙◌, ⊎_elim, append-nil}
-use Rattle.std.specs.Option.{option_map}
 use Rattle.std.specs.Ordering.{eq_by_cmp}
 use Rattle.std.specs.FinMap.{get, insert, get-insert}
 use Rattle.std.proofs.lemmas.Bool.{cases_Bool}
@@ -8,7 +7,7 @@ use Rattle.std.proofs.lemmas.Slice.Eq.{bytes_eq-Decides}
 use Rattle.fluid_io.specs.Causes.{Tells}
 use Rattle.fluid_store.specs.Held.{byte_order, Held, Keeps}
 use Rattle.fluid_store.specs.Storing.{Storing}
-use Rattle.fluid_store.specs.Keeping.{with_all, Holds, Adds, Clashes, StopsBy, Stores}
+use Rattle.fluid_store.specs.Keeping.{with_all, Holds, Adds, Clashes, Stores}
 use Rattle.fluid_store.specs.Putting.{Putting, behind, put_first, putting, IsPutting}
 use Rattle.fluid_store.specs.declared.listing.StoredObject.{StoredObject}
 use Rattle.fluid_store.specs.declared.fault.StoreFault.{StoreFault}

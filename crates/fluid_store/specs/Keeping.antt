@@ -4,14 +4,8 @@ use Rattle.std.specs.Option.{option_map}
 use Rattle.std.specs.FinMap.{get, insert}
 use Rattle.fluid_io.specs.Causes.{Rose, Tells}
 use Rattle.fluid_io.specs.declared.faults.FaultNote.{FaultNote}
-use Rattle.fluid_tree.specs.Summary.{Summary}
-use Rattle.fluid_tree.specs.Identity.{id_answer}
-use Rattle.fluid_tree.specs.declared.fault.TreeFault.{TreeFault}
-use Rattle.fluid_tree.specs.declared.fault.TreeFault.TheVariants.{BadName, TooDeep, BadObject as BadObject_, HandleLeft, Attachment, NoMemory as Memory, BadForm}
 use Rattle.fluid_store.specs.Held.{Held, Keeps}
 use Rattle.fluid_store.specs.Storing.{Storing, IsCounted, IsPut}
-use Rattle.fluid_store.specs.Standing.{Stands}
-use Rattle.fluid_store.specs.Listed.{objects}
 use Rattle.fluid_store.specs.declared.listing.StoredObject.{StoredObject}
 use Rattle.fluid_store.specs.declared.fault.StoreFault.{StoreFault}
 use Rattle.fluid_store.specs.declared.fault.StoreFault.TheVariants.{StoreFailed, Clash, Missing, BadObject, Tree, NoPath, NoMemory}
@@ -130,39 +124,3 @@ Stores os old new (Err fault) = StopsBy os old new fault
 pub record StoresObject {A : Type 0} (o : StoredObject) (old new : Storing) (result : Result A StoreFault) : Type 0 where
   pub stores : Stores (o ∷ []) old new result
   pub memory : result ≡ Err NoMemory → new.content ≡ old.content
-
--- ---- a whole summary tree
-
--- the id is the tree's, and the tree stands under it: its objects were added
-pub record Uploaded (node : Summary) (old new : Storing) (id : List ℕ) : Type 0 where
-  pub is_id : id_answer node ≡ Ok id
-  pub adds : Adds (objects node) old.content new.content
-  pub stands : Tells new.content (λ held. Stands held id node)
-
--- the fault of an upload for the first fault of the tree: a handle is one, of its path
-abbrev pub refusal : TreeFault → StoreFault
-refusal (BadName name) = Tree (BadName name)
-refusal TooDeep = Tree TooDeep
-refusal (BadObject_ place) = Tree (BadObject_ place)
-refusal (HandleLeft path) = NoPath path
-refusal Attachment = Tree Attachment
-refusal BadForm = Tree BadForm
-refusal Memory = NoMemory
-
--- the tree is refused by its first fault, before anything was looked at or put
-pub record Refused (node : Summary) (old new : Storing) (fault : StoreFault) : Type 0 where
-  pub first : TreeFault
-  pub is_first : id_answer node ≡ Err first
-  pub is_told : fault ≡ refusal first
-  pub same : new ≡ old
-
--- an upload, by its answer
-abbrev pub Uploads : Summary → Storing → Storing → Result (List ℕ) StoreFault → Type 0
-Uploads node old new (Ok id) = Uploaded node old new id
-Uploads node old new (Err (Tree fault)) = Refused node old new (Tree fault)
-Uploads node old new (Err (NoPath path)) = Refused node old new (NoPath path)
-Uploads node old new (Err (StoreFailed note)) = StopsBy (objects node) old new (StoreFailed note)
-Uploads node old new (Err (Clash id kept bytes)) = StopsBy (objects node) old new (Clash id kept bytes)
-Uploads node old new (Err (Missing other)) = ⊥
-Uploads node old new (Err (BadObject other place)) = ⊥
-Uploads node old new (Err NoMemory) = StopsBy (objects node) old new NoMemory

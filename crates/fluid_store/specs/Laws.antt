@@ -1,5 +1,5 @@
 -- What the definitions say of a store that grows, and of the smallest stores.
-use Rattle.std.specs.Prelude.{◌≡◌, ℕ, zero, ◌^◌, ◌<◌, ◌≤◌, List, length, true, false, Ok}
+use Rattle.std.specs.Prelude.{◌≡◌, ℕ, zero, ◌^◌, ◌<◌, ◌≤◌, List, length, true, false, Option, Ok}
 use Rattle.std.specs.FinMap.{empty, insert}
 use Rattle.std.specs.Str.{IsUtf8}
 use Rattle.fluid_tree.specs.Identity.{id_answer}
@@ -7,6 +7,9 @@ use Rattle.fluid_tree.specs.Object.{object_bytes}
 use Rattle.fluid_tree.specs.Summary.{Summary, blob, tree, handle, Children, no_children, child, depth}
 use Rattle.fluid_tree.specs.declared.object.Object.TheVariants.{Blob}
 use Rattle.fluid_store.specs.Held.{Held, Keeps}
+use Rattle.fluid_store.specs.Parts.{part_over}
+use Rattle.fluid_store.specs.Uploading.{IsEarlier, StandsResolved}
+use Rattle.fluid_store.specs.declared.listing.Part.{Part}
 use Rattle.fluid_store.specs.Keeping.{Holds}
 use Rattle.fluid_store.specs.Listed.{own_bytes, objects}
 use Rattle.fluid_store.specs.Standing.{Stands}
@@ -49,3 +52,9 @@ abbrev mutual
 -- a tree whose objects are held, as they are after it was uploaded, is complete under its id
 abbrev pub IsCompleteWhereHeld : Type 0
 IsCompleteWhereHeld = (held : Held) (node : Summary) (id : List ℕ) → id_answer node ≡ Ok id → Holds held (objects node) → IsReadable node → is_complete held 32 id ≡ true
+
+-- where the objects of a tree's part are added to what is held, the tree stands with its handles resolved
+abbrev pub IsResolvedStanding : Type 0
+IsResolvedStanding =
+    (old new : Held) (base : Option (List ℕ)) (earlier : Option Summary) (node : Summary) (part : Part) → Ok part ≡ part_over old base node → IsEarlier old base earlier
+    → Keeps old new → Holds new part.objects → StandsResolved new earlier node part.place.id

@@ -7,4 +7,8 @@ pub mod Keeping
 pub mod Putting
 pub mod Fetching
 pub mod Complete
+pub mod Following
+pub mod Parts
+pub mod Uploading
 pub mod Laws
+pub use Rattle.fluid_handles.specs.Resolved

@@ -1,5 +1,5 @@
 -- The objects of a summary tree without handles, in the order in which they are put.
-use Rattle.std.specs.Prelude.{ℕ, List, [], ◌∷◌, ◌++◌, map, fold, flat_map, String, Vec, string_bytes}
+use Rattle.std.specs.Prelude.{ℕ, List, [], ◌∷◌, ◌++◌, map, fold, flat_map, String, string_bytes}
 use Rattle.std.specs.declared.alloc.Global.{Global}
 use Rattle.std.specs.FinMap.Entries.{put}
 use Rattle.sha1.specs.Sha1.{sha1}
@@ -51,5 +51,5 @@ unfoldable mutual
   keyed (child name node nodes) = (sort_key (is_tree node) name, objects node) ∷ keyed nodes
 
 -- the lists in a map from texts
-abbrev pub keyed_of : List (String Global × Vec StoredObject Global) → Keyed
-keyed_of = map (λ one. (string_bytes one.0, one.1.items))
+abbrev pub keyed_of : List (String Global × List StoredObject) → Keyed
+keyed_of = map (λ one. (string_bytes one.0, one.1))

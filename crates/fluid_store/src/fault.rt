@@ -26,8 +26,7 @@ pub enum StoreFault {
     BadObject(Id, u64),
     /// The summary tree itself is refused.
     Tree(TreeFault),
-    /// A handle names this place. Handles aren't looked up in an earlier tree yet, so the first one is refused wherever
-    /// it points.
+    /// A handle has this path, and there is no earlier tree, or the path leads nowhere in it.
     NoPath(Path),
     NoMemory,
 }

@@ -1,6 +1,6 @@
 //! What holds of the definitions, said by functions that do nothing.
 
-ghost use Rattle.fluid_store.specs.Laws.{GoesOnStanding, IsCompleteWhereHeld, IsFetchedStanding, NothingIsComplete, OneBlob, StaysComplete};
+ghost use Rattle.fluid_store.specs.Laws.{GoesOnStanding, IsCompleteWhereHeld, IsFetchedStanding, IsResolvedStanding, NothingIsComplete, OneBlob, StaysComplete};
 
 use fluid_tree::laws::{
     names_that_are_read_are_names, objects_are_read_back, only_objects_are_read,
@@ -42,4 +42,12 @@ pub fn what_is_uploaded_is_complete()
     ensures { IsCompleteWhereHeld }
 {
     objects_are_read_back();
+}
+
+/// Where the objects of a tree were added, the tree stands with its handles resolved in the earlier one.
+pub fn what_is_resolved_stands()
+    ensures { IsResolvedStanding }
+{
+    only_objects_are_read();
+    names_that_are_read_are_names();
 }

@@ -1,35 +1,72 @@
 //! Puts objects one after the other, and a whole summary tree.
-ghost use Rattle.std.specs.Prelude.{◌≡◌};
+ghost use Rattle.std.specs.Prelude.{◌≡◌, IfOk, Option, option_map};
 ghost use Rattle.fluid_io.specs.Causes.{Tells};
-ghost use Rattle.fluid_store.specs.Keeping.{Counts, Stores, Uploads, refusal};
+ghost use Rattle.fluid_store.specs.Fetching.{Answers, Reads};
+ghost use Rattle.fluid_store.specs.Following.{known_if};
+ghost use Rattle.fluid_store.specs.Keeping.{Counts, Stores};
+ghost use Rattle.fluid_store.specs.Parts.{earlier_if, part_over};
 ghost use Rattle.fluid_store.specs.Putting.{putting, IsPutting};
+ghost use Rattle.fluid_store.specs.Uploading.{IsEarlier, Lists, StandsResolved, Uploads};
+ghost use Rattle.fluid_tree.specs.Summary.{Summary};
 
+use crate::following::{Earlier, earlier_at};
 use crate::keeping::keep;
-use crate::listing::{StoredObject, list_node};
+use crate::laws::what_is_resolved_stands;
+use crate::listing::{Part, StoredObject, list_node};
 use crate::{Objects, StoreFault};
-use fluid_tree::{Id, Node, TreeFault, id_of};
+use fluid_tree::{Id, MOST_TREES, Node};
 use std::alloc::Global;
 
 /// Puts the objects of a summary tree, and answers its id. Those of a tree's nodes are put, in the order of its
-/// entries, before the tree's own; an object that is held is never changed. The tree is looked at whole before the first
-/// object is put, so its own first fault leaves the store alone. Handles aren't looked up in a base yet: the first one is
-/// `NoPath`.
+/// entries, before the tree's own; an object that is held is never changed. A handle stands for what its path leads to in the
+/// earlier tree with the id `base`, for which nothing is put; where there is none, or its path leads nowhere, that is `NoPath`.
+/// The tree is looked at whole before the first object is put, so its own first fault leaves the store alone.
 pub fn upload<O: Objects>(
     alloc: Global,
     objects: &mut O,
     node: &Node,
-    _base: Option<&Id>,
+    base: Option<&Id>,
 ) -> Result<Id, StoreFault>
     ensures counts { Counts (O.seen objects.old) (O.seen objects.new) }
-    ensures does { Uploads node.now (O.seen objects.old) (O.seen objects.new) result }
+    ensures does { Uploads (option_map (λ id. id.now) base.entry) node.now (O.seen objects.old) (O.seen objects.new) result }
+    ensures stands { IfOk result (λ id. Tells (O.seen objects.old).content (λ held. (earlier : Option Summary) →
+        IsEarlier held (option_map (λ id. id.now) base.entry) earlier → Tells (O.seen objects.new).content (λ now. StandsResolved now earlier node.now id))) }
 {
-    let id = match id_of(alloc, node) {
-        Ok(id) => id,
-        Err(fault) => return Err(refusal(fault)),
-    };
-    let listed = list_node(alloc, node)?;
-    store_objects(alloc, objects, listed.objects.as_slice())?;
-    Ok(id)
+    what_is_resolved_stands();
+    let part = list_over(alloc, objects, base, node)?;
+    store_objects(alloc, objects, part.objects.as_slice())?;
+    Ok(part.place.id)
+}
+
+// The part of a tree over an earlier one.
+fn list_over<O: Objects>(
+    alloc: Global,
+    objects: &mut O,
+    base: Option<&Id>,
+    node: &Node,
+) -> Result<Part, StoreFault>
+    ensures reads { Reads (O.seen objects.old) (O.seen objects.new) }
+    ensures says { Lists (λ held. part_over held (option_map (λ id. id.now) base.entry) node.now) (O.seen objects.old) (O.seen objects.new) result }
+{
+    let earlier = earlier_if(alloc, objects, base)?;
+    list_node(alloc, objects, &earlier, MOST_TREES, node)
+}
+
+fn earlier_if<O: Objects>(
+    alloc: Global,
+    objects: &mut O,
+    base: Option<&Id>,
+) -> Result<Option<Earlier>, StoreFault>
+    ensures reads { Reads (O.seen objects.old) (O.seen objects.new) }
+    ensures says { Answers (λ held. earlier_if held (option_map (λ id. id.now) base.entry)) (O.seen objects.old) (O.seen objects.new) (known_if result) }
+{
+    match base {
+        Some(id) => {
+            let earlier = earlier_at(alloc, objects, id)?;
+            Ok(Some(earlier))
+        }
+        None => Ok(None),
+    }
 }
 
 /// Puts these objects, one after the other, each under its id, or finds it there, and ends at the first fault. An object that is
@@ -48,15 +85,4 @@ pub fn store_objects<O: Objects>(
         keep(alloc, objects, &object.id, object.bytes.as_slice())?;
     }
     Ok(())
-}
-
-// The fault for the first fault of a summary tree.
-fn refusal(fault: TreeFault) -> StoreFault
-    ensures { result ≡ refusal fault }
-{
-    match fault {
-        TreeFault::HandleLeft(path) => StoreFault::NoPath(path),
-        TreeFault::NoMemory => StoreFault::NoMemory,
-        other => StoreFault::Tree(other),
-    }
 }

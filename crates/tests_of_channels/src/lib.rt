@@ -4,4 +4,8 @@
 #[cfg(test)]
 mod play;
 #[cfg(test)]
+mod random;
+#[cfg(test)]
 mod shows;
+#[cfg(test)]
+mod trees;

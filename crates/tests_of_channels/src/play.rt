@@ -7,12 +7,15 @@
 //     back        takes the newest edit back
 //     mark        from now on `since` tells what has changed
 //     show        what is shown; tree: the summary's tree; since: the tree that tells what has changed
+//     load T      goes on with the channels of a summary's tree, where it is one: else `bad`, a blank and the path
+//     load-blob   the same of a blob
 //
 // An edit E is `attach A KIND`, `set A KEY JSON`, `delete A KEY`, `clear A` or `add A N`.
-use fluid_json::{Json, NoMemory, Text, print, read};
+use crate::trees::{outline, tree_of};
+use fluid_json::{Bytes, Json, Text, print, read};
 use fluid_runtime::{App, ChannelKind, Edit, EditFault};
 use fluid_tree::Node;
-use fluid_types::{Address, Kind, Message};
+use fluid_types::{Address, BlobFault, Kind, Message};
 use std::alloc::Global;
 use std::process::Abort;
 
@@ -40,6 +43,7 @@ fn told(rt: &impl Abort, alloc: Global, app: &mut App, line: &str) -> Text {
             contents(rt, alloc, rest),
             false,
         ),
+        Some(("load", rest)) => loaded(rt, alloc, app, &tree_of(rt, alloc, rest)),
         Some(("hear", rest)) => {
             let json = read(alloc, rest).expect(rt, "JSON");
             applied(rt, alloc, app, Kind::Op, json, false)
@@ -58,6 +62,7 @@ fn asked(rt: &impl Abort, alloc: Global, app: &mut App, line: &str) -> Text {
             app.mark();
             copied(rt, alloc, "")
         }
+        "load-blob" => loaded(rt, alloc, app, &Node::blob(Bytes::new(Vec::new(alloc)))),
         "show" => {
             let json = app.visible(alloc).expect(rt, "memory");
             print(alloc, &json).expect(rt, "memory")
@@ -68,7 +73,21 @@ fn asked(rt: &impl Abort, alloc: Global, app: &mut App, line: &str) -> Text {
     }
 }
 
-fn copied(rt: &impl Abort, alloc: Global, text: &str) -> Text {
+fn loaded(rt: &impl Abort, alloc: Global, app: &mut App, tree: &Node) -> Text {
+    match App::from_tree(alloc, tree) {
+        Ok(read) => {
+            *app = read;
+            copied(rt, alloc, "")
+        }
+        Err(BlobFault::BadBlob(path)) => {
+            let path = path.as_str();
+            Text::new(format!(in alloc; "bad {path}").expect(rt, "memory"))
+        }
+        Err(BlobFault::NoMemory) => copied(rt, alloc, "NoMemory"),
+    }
+}
+
+pub(crate) fn copied(rt: &impl Abort, alloc: Global, text: &str) -> Text {
     Text::copied(alloc, text).expect(rt, "memory")
 }
 
@@ -88,7 +107,8 @@ fn edited(rt: &impl Abort, alloc: Global, app: &mut App, line: &str) -> Text {
     copied(rt, alloc, answer)
 }
 
-fn applied(
+/// The next message, of this kind and with these contents.
+pub(crate) fn applied(
     rt: &impl Abort,
     alloc: Global,
     app: &mut App,
@@ -145,43 +165,4 @@ fn edit_of(rt: &impl Abort, alloc: Global, line: &str) -> Edit {
         "clear" => Edit::Clear(address),
         _ => Edit::Increment(address, rest.parse().expect(rt, "a number")),
     }
-}
-
-/// The tree in one line: `name(..)` for a tree, `name=content` for a blob, `name@` for a handle.
-pub(crate) fn outline(rt: &impl Abort, alloc: Global, tree: &Node) -> Text {
-    let mut out = String::new(alloc);
-    put_outline(alloc, &mut out, tree).expect(rt, "memory");
-    Text::new(out)
-}
-
-fn put_outline(alloc: Global, out: &mut String, tree: &Node) -> Result<(), NoMemory> {
-    let Some(channels) = tree.as_tree() else {
-        return Ok(());
-    };
-    for (name, node) in channels {
-        out.push_str(name.as_str())?;
-        let Some(parts) = node.as_tree() else {
-            out.push_str("@ ")?;
-            continue;
-        };
-        out.push('(')?;
-        for (part, blob) in parts {
-            out.push_str(part.as_str())?;
-            out.push('=')?;
-            put_blob(out, blob)?;
-            out.push(' ')?;
-        }
-        out.push_str(") ")?;
-    }
-    Ok(())
-}
-
-fn put_blob(out: &mut String, blob: &Node) -> Result<(), NoMemory> {
-    let Some(content) = blob.as_blob() else {
-        return Ok(());
-    };
-    if let Ok(text) = str::from_utf8(content) {
-        out.push_str(text)?;
-    }
-    Ok(())
 }

@@ -218,3 +218,98 @@ fn what_has_changed_since_a_mark(rt: HostRuntime) -> Result<(), Fail> {
     );
     Ok(())
 }
+
+#[test]
+fn summaries_that_are_read_or_refused(rt: HostRuntime) -> Result<(), Fail> {
+    play(
+        &rt,
+        rt.alloc(),
+        &[
+            ("load ", ""),
+            ("show", "{}"),
+            ("load-blob", "bad "),
+            (
+                r#"load m: content={"k":[1]} kind=map; n: content={"value":"-5"} kind=counter"#,
+                "",
+            ),
+            (
+                "show",
+                r#"{"m":{"kind":"map","value":{"k":[1]}},"n":{"kind":"counter","value":"-5"}}"#,
+            ),
+            (
+                "since",
+                r#"m(content={"k":[1]} kind=map ) n(content={"value":"-5"} kind=counter ) "#,
+            ),
+            ("edit set m k 2", "edited"),
+            ("other add n 7", ""),
+            (
+                "show",
+                r#"{"m":{"kind":"map","value":{"k":2}},"n":{"kind":"counter","value":"2"}}"#,
+            ),
+            // no tree, no address
+            ("load m=x", "bad m"),
+            ("load m@", "bad m"),
+            ("load m.n: content={} kind=map", "bad m.n"),
+            (
+                "load m: content={} kind=map; m: content={} kind=map",
+                "bad m",
+            ),
+            // what is missing, and what is there beside
+            ("load m", "bad m/content"),
+            ("load m: kind=map", "bad m/content"),
+            ("load m: content={}", "bad m/kind"),
+            ("load m: a=1 content={} kind=map", "bad m/a"),
+            ("load m: a=1", "bad m/a"),
+            ("load m: content={} i=1 kind=map", "bad m/i"),
+            ("load m: content={} kind=map z=1", "bad m/z"),
+            // blobs and what isn't one
+            ("load m: content@ kind=map", "bad m/content"),
+            ("load m: content kind=map", "bad m/content"),
+            ("load m: content={} kind@", "bad m/kind"),
+            // without a kind in its form any content is inside it
+            ("load m: content=x kind=map", "bad m/content"),
+            ("load m: content=x", "bad m/kind"),
+            ("load m: content=x kind=list", "bad m/kind"),
+            ("load m: content=x kind", "bad m/kind"),
+            // texts that aren't the printed ones
+            (r#"load m: content={"b":1,"a":1} kind=map"#, "bad m/content"),
+            (r#"load m: content={"a":01} kind=map"#, "bad m/content"),
+            (r#"load m: content={"value":"1"} kind=map"#, ""),
+            (
+                r#"load n: content={"value":1} kind=counter"#,
+                "bad n/content",
+            ),
+            (
+                r#"load n: content={"value":"01"} kind=counter"#,
+                "bad n/content",
+            ),
+            (
+                r#"load n: content={"value":"-0"} kind=counter"#,
+                "bad n/content",
+            ),
+            (
+                r#"load n: content={"value":"1","z":1} kind=counter"#,
+                "bad n/content",
+            ),
+            // plus or minus 2^120
+            (
+                r#"load n: content={"value":"1329227995784915872903807060280344576"} kind=counter"#,
+                "",
+            ),
+            (
+                r#"load n: content={"value":"-1329227995784915872903807060280344577"} kind=counter"#,
+                "bad n/content",
+            ),
+            // the first in order, of several
+            (
+                "load a: content={} kind=map; b: kind=map; c=x",
+                "bad b/content",
+            ),
+            (
+                "show",
+                r#"{"n":{"kind":"counter","value":"1329227995784915872903807060280344576"}}"#,
+            ),
+        ],
+    );
+    Ok(())
+}

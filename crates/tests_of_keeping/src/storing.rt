@@ -67,7 +67,16 @@ fn stored(alloc: Global, objects: &mut MemoryObjects, bytes: &[u8]) -> Told {
 }
 
 fn uploaded(alloc: Global, objects: &mut MemoryObjects, node: &Node) -> Told {
-    let answer = upload(alloc, objects, node, None);
+    uploaded_over(alloc, objects, node, None)
+}
+
+fn uploaded_over(
+    alloc: Global,
+    objects: &mut MemoryObjects,
+    node: &Node,
+    base: Option<&Id>,
+) -> Told {
+    let answer = upload(alloc, objects, node, base);
     let told = match &answer {
         Ok(id) => Told::Done(*id),
         Err(fault) => fault_of(fault),
@@ -444,5 +453,107 @@ fn what_is_held_otherwise_is_told(rt: HostRuntime) {
         Told::NotWhole,
         Told::Bad(blob, 8),
     );
+    drop(objects);
+}
+
+// An earlier tree, with a tree in a tree.
+const EARLIER: &str =
+    r#"{"type":1,"tree":{"k":{"type":1,"tree":{"l":{"type":1,"tree":{"n":{"type":2,"content":"x"}}}}},"m":{"type":2,"content":"y"}}}"#;
+
+// Handles, and the tree that they stand for; or else none, where the first of them leads nowhere.
+const OVER_EARLIER: [(&str, &str); 8] = [
+    // a tree, a blob, and both where they stood
+    (
+        r#"{"type":1,"tree":{"k":{"type":3,"handle":"k"},"m":{"type":2,"content":"z"}}}"#,
+        r#"{"type":1,"tree":{"k":{"type":1,"tree":{"l":{"type":1,"tree":{"n":{"type":2,"content":"x"}}}}},"m":{"type":2,"content":"z"}}}"#,
+    ),
+    (
+        r#"{"type":1,"tree":{"a":{"type":3,"handle":"m"},"b":{"type":1,"tree":{}}}}"#,
+        r#"{"type":1,"tree":{"a":{"type":2,"content":"y"},"b":{"type":1,"tree":{}}}}"#,
+    ),
+    (
+        r#"{"type":1,"tree":{"k":{"type":3,"handle":"k"},"m":{"type":3,"handle":"/m"}}}"#,
+        EARLIER,
+    ),
+    // deeper ones, and one alone
+    (
+        r#"{"type":1,"tree":{"m":{"type":3,"handle":"k/l/n"},"o":{"type":3,"handle":"k/l"}}}"#,
+        r#"{"type":1,"tree":{"m":{"type":2,"content":"x"},"o":{"type":1,"tree":{"n":{"type":2,"content":"x"}}}}}"#,
+    ),
+    (
+        r#"{"type":3,"handle":"k/l"}"#,
+        r#"{"type":1,"tree":{"n":{"type":2,"content":"x"}}}"#,
+    ),
+    // no such name, in a tree and in a blob
+    (r#"{"type":1,"tree":{"a":{"type":3,"handle":"a"}}}"#, ""),
+    (r#"{"type":1,"tree":{"a":{"type":3,"handle":"k/m"}}}"#, ""),
+    (r#"{"type":1,"tree":{"a":{"type":3,"handle":"m/n"}}}"#, ""),
+];
+
+#[test]
+fn handles_stand_for_what_they_lead_to(rt: HostRuntime) {
+    let alloc = rt.alloc();
+    for (handles, wanted) in OVER_EARLIER {
+        assert_over(&rt, alloc, handles, wanted);
+    }
+}
+
+fn assert_over(rt: &impl Abort, alloc: Global, handles: &str, wanted: &str) {
+    let mut objects = store(rt, alloc, 0);
+    let earlier = put_text(rt, alloc, &mut objects, EARLIER);
+    let node = node(rt, alloc, handles);
+    let told = uploaded_over(alloc, &mut objects, &node, Some(&earlier));
+    assert!(rt;
+        uploaded(alloc, &mut objects, &node) == Told::NoPath,
+        "{handles}"
+    );
+    drop(node);
+    assert_resolved(rt, alloc, &mut objects, told, wanted);
+    drop(objects);
+}
+
+// What stands is whole, and put again it is there already.
+fn assert_resolved(
+    rt: &impl Abort,
+    alloc: Global,
+    objects: &mut MemoryObjects,
+    told: Told,
+    wanted: &str,
+) {
+    if wanted.is_empty() {
+        assert!(rt; told == Told::NoPath);
+        return;
+    }
+    let whole = node(rt, alloc, wanted);
+    let at = id_of(alloc, &whole).ok().expect(rt, "an id");
+    assert!(rt; told == Told::Done(at), "{wanted}");
+    assert_told(rt, alloc, objects, &at, Told::Whole, Told::Done(at));
+    let held = objects.count();
+    assert!(rt;
+        uploaded(alloc, objects, &whole) == Told::Done(at),
+        "{wanted}"
+    );
+    assert!(rt; objects.count() == held, "{wanted}");
+    drop(whole);
+}
+
+fn put_text(rt: &impl Abort, alloc: Global, objects: &mut MemoryObjects, text: &str) -> Id {
+    let node = node(rt, alloc, text);
+    match uploaded(alloc, objects, &node) {
+        Told::Done(id) => id,
+        _ => panic!(rt; "an upload"),
+    }
+}
+
+#[test]
+fn an_earlier_tree_is_held(rt: HostRuntime) {
+    let alloc = rt.alloc();
+    let mut objects = store(&rt, alloc, 0);
+    let absent = id(&rt, HELLO_ID);
+    let sample = node(&rt, alloc, SAMPLE);
+    let told = uploaded_over(alloc, &mut objects, &sample, Some(&absent));
+    assert!(rt; told == Told::Missing(absent));
+    assert!(rt; objects.count() == 0);
+    drop(sample);
     drop(objects);
 }

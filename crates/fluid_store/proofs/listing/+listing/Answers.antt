@@ -1,57 +1,82 @@
-use Rattle.std.proofs.Common.{◌≡◌, ◌++◌, ◌∷◌, [], ◌+◌, drop, string_bytes, arith, ap, ap₂, sym, subst, ◌∙◌}
-use Rattle.std.specs.FinMap.Entries.{put}
-use Rattle.sha1.specs.Sha1.{sha1}
-use Rattle.fluid_tree.specs.Object.{sort_key, tree_bytes}
-use Rattle.fluid_tree.specs.Summary.{children, tree, is_tree}
-use Rattle.fluid_store.specs.Held.{byte_order}
-use Rattle.fluid_store.specs.Listed.{own_bytes, own_entries, objects, object_of, joined, keyed_of}
-use Rattle.fluid_store.proofs.Lists.{blob_listed, handle_listed, no_deeper, entry_goes, entries_end, keyed_goes, keyed_end, put_keyed, tree_listed}
+use Rattle.std.proofs.Common.{◌≡◌, suc, ◌-◌, Ok, Some, arith, ap, refl, ◌∙◌, option_map}
+use Rattle.fluid_tree.specs.Summary.{children}
+use Rattle.fluid_store.specs.Following.{known_all}
+use Rattle.fluid_store.specs.Parts.{leads_in, part_within, parts_within, tree_within}
+use Rattle.fluid_store.proofs.Fetched.{tells_all, tells_then, tells_of}
+use Rattle.fluid_store.proofs.Lists.{Goes, lists_on, lists_stop, lists_handed, too_deep, deeper, handle_within, blob_within, blob_there, node_more, node_stops, nodes_end, tree_goes}
 use Rattle.fluid_store.proofs.listing.+listing.Goals as goal
 
-pub list_node-returns-in-Some : goal.list_node-returns-in-Some
-list_node-returns-in-Some t c =
-    let known = blob_listed c.args.node.now c.in-Some.content.now c.in-Some.ensures in
-    let bytes : c.in_ok-bytes.bytes.items ≡ own_bytes c.args.node.now = c.in_ok-bytes.ensures ∙ sym known.0 in
-    let listed = c.in_ok-listed.ensures in
-    let none : c.new.result.items ≡ [] = c.new.ensures.items in
-    let of_bytes = ap object_of c.in_ok-bytes.ensures in
-    (listed.0 ∙ ap sha1 bytes, listed.1 ∙ (λ i. none i ++ of_bytes i ∷ []) ∙ sym known.1)
+pub list_node-returns-then-levels-eq0-clause-says : goal.list_node-returns-then-levels-eq0-clause-says
+list_node-returns-then-levels-eq0-clause-says g t c =
+    tells_all (g.O.Objects.seen c.args.objects.now).content _
+    (λ held. too_deep (leads_in held (option_map known_all c.args.earlier.now)) c.args.levels c.args.node.now (children c.in-Some.nodes.now) c.in-Some.ensures c.if-levels-eq0.true)
 
-pub list_node-returns : goal.list_node-returns
-list_node-returns t c =
-    let known = handle_listed c.args.node.now c.in_default.ensures c.in_default-as_tree.ensures in
-    (c.of.ensures ∙ ap sha1 (sym known.0), c.new-2.ensures.items ∙ sym known.1)
+pub list_node-returns-in-Some-clause-says : goal.list_node-returns-in-Some-clause-says
+list_node-returns-in-Some-clause-says g t c =
+    let old = g.O.Objects.seen c.args.objects.now in
+    let new = g.O.Objects.seen c.list_tree.new.objects in
+    let nodes = children c.in-Some.nodes.now in
+    let levels = c.args.levels in
+    let less : levels ≡ suc (levels - 1) = omega arith in
+    lists_on old old new refl (omega arith) (λ held. tree_within (leads_in held (option_map known_all c.args.earlier.now)) (levels - 1) nodes)
+    (λ held. part_within (leads_in held (option_map known_all c.args.earlier.now)) levels c.args.node.now) c.list_tree.result
+    (tells_all old.content _ (λ held. deeper (leads_in held (option_map known_all c.args.earlier.now)) levels (levels - 1) c.args.node.now nodes c.in-Some.ensures less)) c.list_tree.ensures.says
 
-pub list_tree-list_node-requires : goal.list_tree-list_node-requires
-list_tree-list_node-requires t c = (omega (arith, c.decreases, no_deeper c.args.nodes.now c.loop-name.name-index c.loop-name-item.result (omega arith) c.loop-name-item.is), tt)
+pub list_node-returns-in-Some-as_handle-clause-says : goal.list_node-returns-in-Some-as_handle-clause-says
+list_node-returns-in-Some-as_handle-clause-says g t c =
+    let old = g.O.Objects.seen c.args.objects.now in
+    let new = g.O.Objects.seen c.list_handle.new.objects in
+    let path = c.in-Some-as_handle.path.now in
+    lists_on old old new refl (omega arith) (λ held. leads_in held (option_map known_all c.args.earlier.now) path)
+    (λ held. part_within (leads_in held (option_map known_all c.args.earlier.now)) c.args.levels c.args.node.now) c.list_handle.result
+    (tells_all old.content _ (λ held. handle_within (leads_in held (option_map known_all c.args.earlier.now)) c.args.levels c.args.node.now path c.in-Some-as_handle.ensures))
+    c.list_handle.ensures.says
 
-pub list_tree-loop-name-preserved : goal.list_tree-loop-name-preserved
-list_tree-loop-name-preserved t c =
-    let ms = c.args.nodes.now in
-    let i = c.loop-name.name-index in
+pub list_node-returns-clause-says : goal.list_node-returns-clause-says
+list_node-returns-clause-says g t c =
+    tells_all (g.O.Objects.seen c.args.objects.now).content _
+    (λ held.
+    ap Ok c.in_ok-part.ensures
+    ∙ blob_within (leads_in held (option_map known_all c.args.earlier.now)) c.args.levels c.args.node.now c.unwrap_or.result.now
+    (ap (λ b. Some b.now) c.unwrap_or.ensures ∙ blob_there (λ b. b.now) c.as_blob.result _ c.args.node.now c.in_default.ensures c.in_default-as_handle.ensures c.as_blob.ensures))
+
+pub list_nodes-returns-in_err-part-clause-says : goal.list_nodes-returns-in_err-part-clause-says
+list_nodes-returns-in_err-part-clause-says g t c =
+    let old = g.O.Objects.seen c.args.objects.now in
+    let mid = g.O.Objects.seen c.loop-name.objects in
+    let new = g.O.Objects.seen c.list_node.new.objects in
+    let before = c.loop-name.invariant.reads in
     let m = c.loop-name-item.result in
-    let done = c.loop-name.entries.items in
-    let before = c.loop-name.below.entries in
-    let name : c.in_ok-name.name ≡ m.0 = c.in_ok-name.ensures in
-    let kind : c.is_tree.result ≡ is_tree m.1 = c.is_tree.ensures in
-    let id : c.in_ok-listed.listed.id ≡ sha1 (own_bytes m.1) = c.in_ok-listed.ensures.0 in
-    let below : c.in_ok-listed.listed.objects.items ≡ objects m.1 = c.in_ok-listed.ensures.1 in
-    let key : string_bytes c.in_ok-key.key ≡ sort_key (is_tree m.1) m.0 = c.in_ok-key.ensures ∙ ap₂ sort_key kind name in
+    lists_handed (λ held. parts_within (leads_in held (option_map known_all c.args.earlier.now)) c.args.levels (children c.args.nodes.now)) old new c.from_residual.result c.in_err-part.field-0.0
+    c.from_residual.ensures.1
+    (lists_stop old mid new before.content before.faults (λ held. part_within (leads_in held (option_map known_all c.args.earlier.now)) c.args.levels m.1)
+    (λ held. parts_within (leads_in held (option_map known_all c.args.earlier.now)) c.args.levels (children c.args.nodes.now)) c.in_err-part.field-0.0
+    (node_stops old.content (λ held. leads_in held (option_map known_all c.args.earlier.now)) c.args.levels c.args.nodes.now c.loop-name.name-index m c.loop-name.parts (omega arith)
+    c.loop-name-item.is c.loop-name.invariant.goes) c.in_err-part.ensures.says)
+
+pub list_nodes-loop-name-preserved : goal.list_nodes-loop-name-preserved
+list_nodes-loop-name-preserved g t c =
+    let old = g.O.Objects.seen c.args.objects.now in
+    let mid = g.O.Objects.seen c.loop-name.objects in
+    let before = c.loop-name.invariant.reads in
+    let next = c.list_node.ensures.reads in
     record {
-      entries =
-          subst (λ es. es ++ own_entries (children (drop (i + 1) ms)) ≡ own_entries (children ms)) (sym (c.in_ok-push.ensures.items ∙ (λ k. done ++ record { name = name k; tree = kind k; id = id k } ∷ [])))
-          (entry_goes ms i m done (omega arith) c.loop-name-item.is c.loop-name.invariant.entries);
-      below =
-          keyed_goes ms i m (keyed_of before) (keyed_of c.insert.new.self.entries) (omega arith) c.loop-name-item.is
-          (ap keyed_of c.in_ok-insert.ensures.entries ∙ put_keyed before c.in_ok-key.key c.in_ok-listed.listed.objects ∙ (λ k. put byte_order (key k) (below k) (keyed_of before))) c.loop-name.invariant.below;
+      reads = record { content = next.content ∙ before.content; faults = omega (arith, before.faults, next.faults); gets = omega (arith, before.gets, next.gets) };
+      goes =
+          node_more old.content (λ held. leads_in held (option_map known_all c.args.earlier.now)) c.args.levels c.args.nodes.now c.loop-name.name-index c.loop-name-item.result c.loop-name.parts c.push.new.self
+          c.in_ok-name.name c.in_ok-part.part (omega arith) c.loop-name-item.is c.in_ok-name.ensures c.in_ok-push.ensures c.loop-name.invariant.goes
+          (tells_of old.content mid.content _ before.content c.in_ok-part.ensures.says);
     }
 
-pub list_tree-returns : goal.list_tree-returns
-list_tree-returns t c =
-    let ms = c.args.nodes.now in
-    let i = c.loop-name.name-index in
-    let known = tree_listed (children ms) in
-    let entries : c.loop-name.entries.items ≡ own_entries (children ms) = entries_end ms i c.loop-name.entries.items (omega arith) c.loop-name.invariant.entries in
-    let bytes : c.in_ok-bytes.bytes.items ≡ own_bytes (tree (children ms)) = c.in_ok-bytes.ensures ∙ ap tree_bytes (c.as_slice.ensures.value ∙ entries) ∙ sym known.0 in
-    let below = c.in_ok-objects.ensures ∙ ap joined (keyed_end ms i (keyed_of c.loop-name.below.entries) (omega arith) c.loop-name.invariant.below) in
-    (c.in_ok-listed-2.ensures.0 ∙ ap sha1 bytes, c.in_ok-listed-2.ensures.1 ∙ (λ k. below k ++ object_of (bytes k) ∷ []) ∙ sym known.1)
+pub list_nodes-returns-clause-says : goal.list_nodes-returns-clause-says
+list_nodes-returns-clause-says g t c =
+    let content = (g.O.Objects.seen c.args.objects.now).content in
+    tells_then content (λ held. Goes (leads_in held (option_map known_all c.args.earlier.now)) c.args.levels c.args.nodes.now c.loop-name.name-index c.loop-name.parts) _
+    (λ held inv. nodes_end (leads_in held (option_map known_all c.args.earlier.now)) c.args.levels c.args.nodes.now c.loop-name.name-index c.loop-name.parts (omega arith) inv) c.loop-name.invariant.goes
+
+pub list_tree-returns-clause-says : goal.list_tree-returns-clause-says
+list_tree-returns-clause-says g t c =
+    let old = g.O.Objects.seen c.args.objects.now in
+    tells_then old.content (λ held. Ok c.in_ok-parts.parts ≡ parts_within (leads_in held (option_map known_all c.args.earlier.now)) c.args.levels (children c.args.nodes.now)) _
+    (λ held all. tree_goes (leads_in held (option_map known_all c.args.earlier.now)) c.args.levels (children c.args.nodes.now) _ c.in_ok-parts.parts c.in_ok-part.part c.in_ok-check_names.ensures all c.in_ok-part.ensures)
+    c.in_ok-parts.ensures.says

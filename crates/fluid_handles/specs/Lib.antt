@@ -1,0 +1,3 @@
+pub mod Resolved
+pub mod Laws
+pub use Rattle.fluid_tree.specs.Summary

@@ -1,0 +1,26 @@
+//! What holds of the definitions, said by functions that do nothing.
+
+ghost use Rattle.fluid_runtime.specs.Laws.{IsMarked, IsReadBack, IsResolved, StaysSince};
+
+use fluid_counter::laws::content_is_read_back as counters_are_read_back;
+use fluid_map::laws::content_is_read_back as maps_are_read_back;
+
+/// The channels that the tree of a summary keeps are read back, where counters lie within plus or minus 2^120 and the values
+/// of maps are at most 99 deep.
+pub fn channels_are_read_back()
+    ensures { IsReadBack }
+{
+    maps_are_read_back();
+    counters_are_read_back();
+}
+
+/// A channel that is said not to have changed since a mark is the one of the mark.
+pub fn unchanged_channels_stay()
+    ensures marked { IsMarked }
+    ensures stays { StaysSince }
+{}
+
+/// The handles of a tree that tells what has changed since a mark name the right nodes of the tree at the mark.
+pub fn handles_are_resolved()
+    ensures { IsResolved }
+{}
