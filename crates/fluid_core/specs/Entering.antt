@@ -16,6 +16,8 @@ use Rattle.fluid_scribe.specs.State as scribe
 use Rattle.fluid_scribe.specs.Jobs.{answer_in, job_in}
 use Rattle.fluid_scribe.specs.Scribing as scribing
 use Rattle.fluid_scribe.specs.declared.job.Job.{Job}
+use Rattle.fluid_scribe.specs.declared.ready.ScribeReady.{ScribeReady}
+use Rattle.fluid_scribe.specs.contracts.ready.ScribeReady as notes
 use Rattle.fluid_ticket.specs.State as ticket
 use Rattle.fluid_ticket.specs.Ledger as ledger
 use Rattle.fluid_ticket.specs.declared.ready.Change.{Change}
@@ -81,10 +83,17 @@ job_of s = on_order s.sequencer.sequence (job_in s.scribe)
 -- what the sequencer prepared, and what the scribe prepared for the message, where there is one
 pub record Prepared : Type 0 where
   pub ticket : ticket.Prepared
-  pub note : Option scribing.Prepared
+  pub note : Option ScribeReady
+
+abbrev pub prepared_code : Coded Prepared
+prepared_code =
+    code_by (Verdict × (Change × Option ScribeReady)) (coded× verdicts.the_row.coded (coded× changes.the_row.coded (coded_option notes.the_row.coded)))
+    (λ p. (p.ticket.verdict, (p.ticket.change, p.note)))
+    (λ parts. record { ticket = record { verdict = parts.0; change = parts.1.0 }; note = parts.1.1 })
+    (λ _. refl)
 
 -- what the scribe prepares for the message of a verdict
-abbrev pub note_for : ScribeState → Verdict → Option scribing.Prepared
+abbrev pub note_for : ScribeState → Verdict → Option ScribeReady
 note_for s (Sequenced m) = Some (scribing.prepared s m)
 note_for s (Nacked nack) = None
 note_for s Dropped = None
@@ -106,7 +115,7 @@ pub record Entering : Type 0 where
   pub notes : ℕ
 
 -- there is room for the message, where there is one
-abbrev pub HasRoom : Option scribing.Prepared → ℕ → Type 0
+abbrev pub HasRoom : Option ScribeReady → ℕ → Type 0
 HasRoom None room = Unit {0}
 HasRoom (Some note) room = 0 < room
 
@@ -121,10 +130,10 @@ pub record IsPreparedIn (c : Entering) (ready : Prepared) : Type 0 where
 -- ---- for private clauses
 
 -- the scribe's part behind what it prepared, whichever message that was
-abbrev pub CanTake : scribing.Scribing → Option scribing.Prepared → Type 0
+abbrev pub CanTake : scribing.Scribing → Option ScribeReady → Type 0
 CanTake s None = Unit {0}
 CanTake s (Some note) = scribing.IsPreparedIn s note
 
 -- it took the message of a verdict
-abbrev pub Takes : (old new : ScribeState) → Option scribing.Prepared → Type 0
+abbrev pub Takes : (old new : ScribeState) → Option ScribeReady → Type 0
 Takes old new note = (verdict : Verdict) → note ≡ note_for old verdict → new ≡ fold scribe.after old (messages_of verdict)

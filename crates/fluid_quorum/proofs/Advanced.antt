@@ -34,7 +34,7 @@ pub record IsSettled (q : Quorum) : Type 0 where
   pub none : filter (is_due q.minimum) q.pending ≡ []
   pub rest : filter (λ p. not (is_due q.minimum p)) q.pending ≡ q.pending
 
-none_left : {X : Type 0} (p : X → Bool) (xs : List X) → (filter p (filter (λ x. not (p x)) xs) ≡ []) × (filter (λ x. not (p x)) (filter (λ x. not (p x)) xs) ≡ filter (λ x. not (p x)) xs)
+pub none_left : {X : Type 0} (p : X → Bool) (xs : List X) → (filter p (filter (λ x. not (p x)) xs) ≡ []) × (filter (λ x. not (p x)) (filter (λ x. not (p x)) xs) ≡ filter (λ x. not (p x)) xs)
 none_left p [] = (refl, refl)
 none_left p (x ∷ xs) = by (p x) refl (none_left p xs)
   where
@@ -46,12 +46,12 @@ none_left p (x ∷ xs) = by (p x) refl (none_left p xs)
 behind-settled : (q : Quorum) (number minimum : ℕ) → IsSettled (Behind q number minimum)
 behind-settled q number minimum = let left = none_left (is_due minimum) q.pending in record { none = left.0; rest = left.1 }
 
-idle : (q : Quorum) (number : ℕ) → IsSettled q → after q (noop number q.minimum) ≡ record q { number = number }
+pub idle : (q : Quorum) (number : ℕ) → IsSettled q → after q (noop number q.minimum) ≡ record q { number = number }
 idle q number settled =
     after-noop q number q.minimum
     ∙ ap₂ (λ (ps : List Proposal) (due : List Proposal). record q { number = number; pending = ps; values = fold (with_accepted number) q.values due }) settled.rest settled.none
 
-same_after : (q : Quorum) (n : ℕ) (m : Message) → after (record q { number = n }) m ≡ after q m
+pub same_after : (q : Quorum) (n : ℕ) (m : Message) → after (record q { number = n }) m ≡ after q m
 unfolding after
 same_after q n m = refl
 
@@ -189,7 +189,7 @@ stands-same ms q number minimum same stands = subst (λ l. StandsFor l q) (sym (
 
 -- ---- along an order
 
-after-number : (q : Quorum) (m : Message) → (after q m).number ≡ m.number
+pub after-number : (q : Quorum) (m : Message) → (after q m).number ≡ m.number
 unfolding after
 after-number q m = refl
 
@@ -214,3 +214,14 @@ noops_to-numbered q number minimum true is = rw is (noops-numbered (number - q.n
 pub advanced-stands : (ms : List Message) (q : Quorum) (number minimum : ℕ) → StandsFor ms q → StandsFor (ms ++ noops_to q number minimum) (advanced q number minimum)
 unfolding advanced
 advanced-stands ms q number minimum stands = stands-all (noops_to q number minimum) ms q (noops_to-numbered q number minimum _ refl) stands
+
+-- it has the number
+last-number : (xs : List Message) (q : Quorum) (m : Message) → (fold after q (xs ++ m ∷ [])).number ≡ m.number
+last-number [] q m = after-number q m
+last-number (x ∷ xs) q m = last-number xs (after q x) m
+
+pub advanced-at : (q : Quorum) (number minimum : ℕ) → q.number < number → q.minimum ≤ minimum → (advanced q number minimum).number ≡ number
+unfolding advanced
+advanced-at q number minimum lt le =
+    ap (λ (p : Quorum). p.number) (ap (fold after q) (are_noops q number minimum lt le))
+    ∙ last-number (noops (number - q.number - 1) (q.number + 1) q.minimum) q (noop number minimum)

@@ -1,5 +1,5 @@
 -- What is kept in memory for quorums, for private clauses.
-use Rattle.std.specs.Prelude.{◌≡◌, ℕ, List, drop, Option, Some, None, option_map, unwrap_or}
+use Rattle.std.specs.Prelude.{◌≡◌, ℕ, nat_le, false, List, [], ◌∷◌, drop, Option, Some, None, option_map, unwrap_or}
 use Rattle.std.specs.Option.{option_map_or}
 use Rattle.std.specs.List.{last_or}
 use Rattle.fluid_types.specs.declared.messages.Message.{Message}
@@ -29,7 +29,12 @@ state_with b pending acks = record { base = b.quorum; behind = b.behind; minima 
 pub record IsBrought (number : ℕ) (behind : List Message) (minima : Minima) (old : Quorum) (from : Place) (new : Quorum) (to : Place) : Type 0 where
   pub is : record { quorum = new; behind = drop to.messages behind; minima = drop to.changes minima } ≡ brought number old (drop from.messages behind) (drop from.changes minima)
 
+-- none of them has a number up to this one at the front
+abbrev pub IsPast : ℕ → List Message → Type 0
+IsPast number [] = Unit {0}
+IsPast number (m ∷ ms) = nat_le m.number number ≡ false
+
 -- a quorum took in the changes of the minimum up to a number, and then more
 pub record IsReached (number : ℕ) (minima : Minima) (old : Quorum) (from : ℕ) (more : Quorum → Quorum) (new : Quorum) (to : ℕ) : Type 0 where
   pub quorum : new ≡ more (reached number old (drop from minima)).quorum
-  pub minima : drop to minima ≡ (reached number old (drop from minima)).minima
+  pub left : drop to minima ≡ (reached number old (drop from minima)).minima

@@ -1,5 +1,6 @@
 // What is answered to a summary and what is to be done about it, where nothing lags behind.
 ghost use Rattle.std.specs.Prelude.{◌≡◌, List, None, IfOk, option_map, option_copied};
+ghost use Rattle.std.specs.List.{last_or};
 ghost use Rattle.fluid_types.specs.Blobs.{blobs_of};
 ghost use Rattle.fluid_rules.specs.Scribe.{protocol};
 ghost use Rattle.fluid_scribe.specs.State.{brought};
@@ -67,7 +68,7 @@ fn job_of(
 {
     let proposed = proposed_by(alloc, summarize)?;
     let reference = reference_of(summarize);
-    let needs_storage = may_be_acknowledged(alloc, &acks.last().copied(), reference, &proposed)?;
+    let needs_storage = may_be_acknowledged(alloc, &last_ack(acks), reference, &proposed)?;
     let protocol = protocol_at(alloc, tail, reference)?;
     Ok(Job {
         summary: summarize.number,
@@ -93,7 +94,7 @@ fn answer_to(
         return Ok(Answer::Refused(SummaryRule::Malformed));
     };
     let reference = reference_of(summarize);
-    if let Some(rule) = refused_by(alloc, &acks.last().copied(), reference, &proposed)? {
+    if let Some(rule) = refused_by(alloc, &last_ack(acks), reference, &proposed)? {
         return Ok(Answer::Refused(rule));
     }
     if !found {
@@ -110,6 +111,12 @@ fn protocol_at(alloc: Global, tail: &Tail, number: u64) -> Result<Node, NoMemory
 {
     let quorum = tail.quorum_at(alloc, number)?;
     protocol_of(alloc, &quorum)
+}
+
+fn last_ack(acks: &[SummaryRef]) -> Option<SummaryRef>
+    ensures { result ≡ last_or None acks.now }
+{
+    acks.last().copied()
 }
 
 // What a summarize asks to be the application's tree.

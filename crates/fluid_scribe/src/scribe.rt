@@ -1,5 +1,5 @@
 // The scribe.
-ghost use Rattle.std.specs.Prelude.{◌≡◌, ◌==◌, find, option_map, option_copied, ◌+◌, ◌-◌, ◌*◌, ◌^◌, ◌≤◌, ◌<◌, ◌++◌, ◌∷◌, [], length, vec_len, vec_capacity, deque_len, deque_capacity, if◌then◌else◌, option_to_list, Some, None, IfOk, OnOk};
+ghost use Rattle.std.specs.Prelude.{◌≡◌, ◌==◌, find, option_map, option_copied, ◌+◌, ◌-◌, ◌*◌, ◌^◌, ◌≤◌, ◌<◌, ◌++◌, ◌∷◌, [], length, IfOk, OnOk};
 ghost use Rattle.fluid_types.specs.Ledger.{Ledger, order, messages_of};
 ghost use Rattle.fluid_types.specs.declared.entries.Raw.{Raw};
 ghost use Rattle.fluid_types.specs.declared.messages.Message.{Message as AMessage};
@@ -15,7 +15,7 @@ use crate::answering::{answer_now, job_now};
 use crate::job::Job;
 use crate::reading::{ack_of, answered_by, kept_of};
 use crate::ready::ScribeReady;
-use crate::tail::Tail;
+use crate::tail::{Parts, Tail};
 use crate::waiting::{add_one, copied_acks, copied_messages, least_reference, sorted, wait};
 use fluid_json::NoMemory;
 use fluid_quorum::{Acks, Minima, Quorum, ScribeState};
@@ -38,7 +38,8 @@ pub struct Scribe {
 }
 
 impl Model for Scribe {
-    ghost use Rattle.std.specs.Prelude.{◌≡◌, ℕ, ◌-◌, ◌^◌, refl, vec_len, vec_capacity, deque_len, deque_capacity};
+    ghost use Rattle.std.specs.Prelude.{◌≡◌, ℕ, ◌-◌, ◌^◌, refl, vec_len, vec_capacity};
+    ghost use Rattle.std.specs.VecDeque.{deque_len, deque_capacity};
     ghost use Rattle.std.specs.Coded.{code_by, coded×, coded_ℕ};
     ghost use Rattle.fluid_quorum.specs.declared.state.ScribeState.{ScribeState as AState};
     ghost use Rattle.fluid_quorum.specs.contracts.state.ScribeState as states;
@@ -106,7 +107,11 @@ impl Scribe {
     pub fn parts(&self, alloc: Global) -> Result<ScribeState, NoMemory>
         ensures { IfOk result (λ state. state ≡ self.now.state) }
     {
-        let (base, behind, minima) = self.tail.parts(alloc)?;
+        let Parts {
+            base,
+            behind,
+            minima,
+        } = self.tail.parts(alloc)?;
         let pending = copied_messages(alloc, &self.waiting)?;
         let acks = copied_acks(alloc, &self.acks)?;
         Ok(ScribeState {
@@ -195,6 +200,7 @@ impl Scribe {
         Ok(())
     }
 
+    #[tactic(auto, unfolding(crate::specs::Scribing::prepared))]
     fn ready_for(&self, alloc: Global, message: &Message) -> Result<ScribeReady, NoMemory>
         ensures { IfOk result (λ ready. ready ≡ prepared self.now.state message.now) }
     {

@@ -1,7 +1,8 @@
 // What is kept of an order for its quorums: the one at a base, and what stands behind it.
-ghost use Rattle.std.specs.Prelude.{◌≡◌, ◌+◌, ◌-◌, ◌<◌, ◌≤◌, ◌++◌, ◌∷◌, [], drop, length, option_to_list, deque_len, deque_capacity, None, IfOk, OnOk, OnErr};
-ghost use Rattle.fluid_scribe.specs.State.{with_next, reached, brought, changes};
-ghost use Rattle.fluid_scribe.specs.Tails.{kept, seen, last_minimum, IsBrought, IsReached};
+ghost use Rattle.std.specs.Prelude.{◌≡◌, ◌+◌, ◌-◌, ◌<◌, ◌≤◌, ◌++◌, ◌∷◌, [], drop, length, option_to_list, None, if◌then◌else◌, ◌==◌, IfOk, OnOk, OnErr};
+ghost use Rattle.std.specs.VecDeque.{deque_len, deque_capacity};
+ghost use Rattle.fluid_scribe.specs.State.{with_next, risen, reached, brought};
+ghost use Rattle.fluid_scribe.specs.Tails.{kept, seen, last_minimum, IsBrought, IsPast, IsReached};
 
 use fluid_json::NoMemory;
 use fluid_quorum::{Minima, Quorum};
@@ -17,6 +18,14 @@ pub(crate) struct Tail {
     pub(crate) minima: VecDeque<(u64, u64)>,
     /// The number to which the base is still to be brought.
     pub(crate) due: Option<u64>,
+}
+
+/// Its parts as lists.
+#[derive(Drop)]
+pub(crate) struct Parts {
+    pub(crate) base: Quorum,
+    pub(crate) behind: Messages,
+    pub(crate) minima: Minima,
 }
 
 /// How many of the messages and of the changes behind a base a quorum has.
@@ -113,14 +122,18 @@ impl Tail {
     }
 
     /// Its parts once more, with the base where it is to be.
-    pub(crate) fn parts(&self, alloc: Global) -> Result<(Quorum, Messages, Minima), NoMemory>
-        ensures { IfOk result (λ parts. record { quorum = parts.0; behind = parts.1.0; minima = parts.1.1 } ≡ seen self.now) }
+    pub(crate) fn parts(&self, alloc: Global) -> Result<Parts, NoMemory>
+        ensures { IfOk result (λ parts. record { quorum = parts.base; behind = parts.behind; minima = parts.minima } ≡ seen self.now) }
     {
         let mut base = self.base.copy(alloc)?;
         let place = self.bring_due(alloc, &mut base)?;
         let behind = copied_messages(alloc, &self.behind, place.messages)?;
         let minima = copied_changes(alloc, &self.minima, place.changes)?;
-        Ok((base, Messages::new(behind), Minima::new(minima)))
+        Ok(Parts {
+            base,
+            behind: Messages::new(behind),
+            minima: Minima::new(minima),
+        })
     }
 
     // Brings a copy of the base to where it is to be.
@@ -151,18 +164,35 @@ fn bring(
     place: &mut Place,
 ) -> Result<(), NoMemory>
     ensures done { OnOk result (IsBrought number behind.now.items minima.now.items quorum.old place.old quorum.new place.new) }
+    ensures way { OnErr result (brought number quorum.new (drop place.new.messages behind.now.items) (drop place.new.changes minima.now.items)
+        ≡ brought number quorum.old (drop place.old.messages behind.now.items) (drop place.old.changes minima.now.items)) }
+{
+    take_all(alloc, quorum, behind, minima, number, place)?;
+    reach(quorum, minima, number, &mut place.changes)
+}
+
+// Takes in the messages up to a number, and the changes of the minimum before each.
+fn take_all(
+    alloc: Global,
+    quorum: &mut Quorum,
+    behind: &VecDeque<Message>,
+    minima: &VecDeque<(u64, u64)>,
+    number: u64,
+    place: &mut Place,
+) -> Result<(), NoMemory>
+    ensures done { OnOk result (IsPast number (drop place.new.messages behind.now.items)) }
     ensures way { brought number quorum.new (drop place.new.messages behind.now.items) (drop place.new.changes minima.now.items)
         ≡ brought number quorum.old (drop place.old.messages behind.now.items) (drop place.old.changes minima.now.items) }
 {
     for index in place.messages..behind.len() {
         let message = &behind[index];
         if message.number > number {
-            break;
+            return Ok(());
         }
         take(alloc, quorum, message, minima, &mut place.changes)?;
         place.messages = index + 1;
     }
-    reach(quorum, minima, number, &mut place.changes)
+    Ok(())
 }
 
 // Takes in the changes of the minimum before a message, and the message.
@@ -173,7 +203,7 @@ fn take(
     minima: &VecDeque<(u64, u64)>,
     changes: &mut usize,
 ) -> Result<(), NoMemory>
-    ensures done { OnOk result (IsReached (message.now.number - 1) minima.now.items quorum.old changes.old (λ r. with_next r message.now) quorum.new changes.new) }
+    ensures done { OnOk result (IsReached (message.now.number - 1) minima.now.items quorum.old changes.old (λ q. with_next q message.now) quorum.new changes.new) }
     ensures way { OnErr result (reached (message.now.number - 1) quorum.new (drop changes.new minima.now.items)
         ≡ reached (message.now.number - 1) quorum.old (drop changes.old minima.now.items)) }
 {
@@ -188,20 +218,36 @@ fn reach(
     number: u64,
     changes: &mut usize,
 ) -> Result<(), NoMemory>
-    ensures done { OnOk result (IsReached number minima.now.items quorum.old changes.old (λ r. r) quorum.new changes.new) }
+    ensures done { OnOk result (IsReached number minima.now.items quorum.old changes.old (λ q. q) quorum.new changes.new) }
     ensures way { OnErr result (reached number quorum.new (drop changes.new minima.now.items)
         ≡ reached number quorum.old (drop changes.old minima.now.items)) }
+{
+    rise(quorum, minima, number, changes)?;
+    let minimum = quorum.minimum();
+    quorum.advance(number, minimum)
+}
+
+// Takes in the changes of the minimum up to a number.
+fn rise(
+    quorum: &mut Quorum,
+    minima: &VecDeque<(u64, u64)>,
+    number: u64,
+    changes: &mut usize,
+) -> Result<(), NoMemory>
+    ensures done { OnOk result (risen number quorum.new (drop changes.new minima.now.items)
+        ≡ record { quorum = quorum.new; minima = drop changes.new minima.now.items }) }
+    ensures way { risen number quorum.new (drop changes.new minima.now.items)
+        ≡ risen number quorum.old (drop changes.old minima.now.items) }
 {
     for index in *changes..minima.len() {
         let (at, minimum) = minima[index];
         if at > number {
-            break;
+            return Ok(());
         }
         quorum.advance(at, minimum)?;
         *changes = index + 1;
     }
-    let minimum = quorum.minimum();
-    quorum.advance(number, minimum)
+    Ok(())
 }
 
 // Takes a message in where it has the next number, and leaves it out where it hasn't.
@@ -210,7 +256,10 @@ fn take_next(alloc: Global, quorum: &mut Quorum, message: &Message) -> Result<()
     ensures unchanged { OnErr result (quorum.new ≡ quorum.old) }
 {
     let last = quorum.number();
-    if message.number <= last || message.number - last != 1 {
+    if message.number <= last {
+        return Ok(());
+    }
+    if message.number - last != 1 {
         return Ok(());
     }
     quorum.apply(alloc, message)
@@ -220,7 +269,7 @@ fn take_next(alloc: Global, quorum: &mut Quorum, message: &Message) -> Result<()
 fn drop_front<T: Drop>(queue: &mut VecDeque<T>, count: usize)
     ensures { queue.new.items ≡ drop count queue.old.items }
 {
-    for _ in 0..count {
+    for _index in 0..count {
         queue.pop_front();
     }
 }
