@@ -11,7 +11,8 @@ use Rattle.fluid_quorum.specs.declared.state.ScribeState.{ScribeState}
 use Rattle.fluid_rules.specs.Rules.{IsLegal}
 use Rattle.fluid_rules.specs.Scribe.{acks}
 use Rattle.fluid_scribe.specs.State.{heard, Minima, changes, least_with, Brought, brought, with_base, minimum_in, base_in, with_message, after, start, state_of}
-use Rattle.fluid_scribe.specs.Tails.{state_with, last_minimum}
+use Rattle.fluid_scribe.specs.Tails.{kept, seen, state_with}
+use Rattle.fluid_scribe.specs.declared.tail.Tail.{Tail}
 use Rattle.fluid_scribe.specs.Scribing.{Scribing, prepared, spare_at, unanswered_at, heard_in, summarize_in}
 use Rattle.fluid_scribe.specs.Ledger.{StandsFor}
 use Rattle.fluid_scribe.specs.declared.ready.ScribeReady.{ScribeReady}
@@ -105,3 +106,7 @@ pub stands-push : (s t : Scribing) (m : Message) → t.state ≡ after s.state m
 stands-push s t m is l entry legal stands said = record {
   is = is ∙ ap (λ u. after u m) stands.is ∙ sym (state-grows l entry legal ∙ rw said refl);
 }
+
+-- where nothing lags behind, what is seen is what is in memory
+pub state-now : (t : Tail) (waiting : List Message) (known : List SummaryRef) → t.due ≡ None → state_with (seen t) waiting known ≡ state_with (kept t) waiting known
+state-now t waiting known none = rw none refl

@@ -16,7 +16,7 @@ use crate::job::Job;
 use crate::reading::{ack_of, answered_by, kept_of};
 use crate::ready::ScribeReady;
 use crate::tail::{Parts, Tail};
-use crate::waiting::{add_one, copied_acks, copied_messages, least_reference, sorted, wait};
+use crate::waiting::{add_one, copied_acks, copied_messages, least_reference, lesser, sorted, wait};
 use fluid_json::NoMemory;
 use fluid_quorum::{Acks, Minima, Quorum, ScribeState};
 use fluid_rules::Answer;
@@ -153,7 +153,7 @@ impl Scribe {
         self.tail.push(number, minimum, heard);
         self.least = wait(&mut self.waiting, self.least, answered, summarize);
         add_one(&mut self.acks, ack);
-        self.tail.due = Some(minimum.min(self.least));
+        self.tail.due = Some(lesser(minimum, self.least));
     }
 
     /// What is to be done about the pending summarize; None exactly where none is pending.

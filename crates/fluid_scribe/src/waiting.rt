@@ -1,5 +1,5 @@
 // The summarize messages that wait for an answer.
-ghost use Rattle.std.specs.Prelude.{◌≡◌, ◌==◌, ◌-◌, ◌^◌, ◌<◌, ◌≤◌, ◌++◌, find, None, IfOk, option_copied, option_to_list, vec_len, vec_capacity};
+ghost use Rattle.std.specs.Prelude.{◌≡◌, ◌==◌, ◌-◌, ◌^◌, ◌<◌, ◌≤◌, ◌++◌, min, find, None, IfOk, option_copied, option_to_list, vec_len, vec_capacity};
 ghost use Rattle.fluid_scribe.specs.State.{least_with};
 ghost use Rattle.fluid_scribe.specs.Scribing.{unanswered_at, heard_in, summarize_in};
 
@@ -93,6 +93,14 @@ pub(crate) fn least_reference(waiting: &[Message]) -> u64
         least = least.min(reference_of(summarize));
     }
     least
+}
+
+/// The lesser of a minimum and a least reference.
+pub(crate) fn lesser(minimum: u64, least: u64) -> u64
+    ensures lesser { result ≡ min minimum least }
+    ensures fits { minimum ≤ 2 ^ 64 - 1 }
+{
+    minimum.min(least)
 }
 
 /// Adds one, where there is one and room for it.
