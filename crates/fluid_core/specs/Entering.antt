@@ -8,6 +8,7 @@ use Rattle.fluid_types.specs.declared.verdicts.Verdict.{Verdict}
 use Rattle.fluid_types.specs.declared.verdicts.Verdict.TheVariants.{Sequenced, Nacked, Dropped, Absorbed}
 use Rattle.fluid_types.specs.contracts.verdicts.Verdict as verdicts
 use Rattle.fluid_types.specs.Ledger.{Ledger, order, messages_of}
+use Rattle.fluid_clients.specs.Table.{Parts}
 use Rattle.fluid_quorum.specs.declared.state.ScribeState.{ScribeState}
 use Rattle.fluid_rules.specs.Rules.{IsLegal}
 use Rattle.fluid_rules.specs.declared.answers.Answer.{Answer}
@@ -27,6 +28,10 @@ use Rattle.fluid_ticket.specs.contracts.ready.Change as changes
 pub record State : Type 0 where
   pub sequencer : ticket.State
   pub scribe : ScribeState
+
+-- a sequencer's parts as its state
+abbrev pub sequencer_of : Parts → ticket.State
+sequencer_of p = record { sequence = p.sequence; last_minimum = p.minimum; rows = p.rows }
 
 -- no entries yet
 abbrev pub start : State

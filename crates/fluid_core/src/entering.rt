@@ -6,11 +6,12 @@ ghost use Rattle.fluid_types.specs.declared.entries.Raw.{Raw as ARaw};
 ghost use Rattle.fluid_rules.specs.Rules.{minimum as minimum_by_rules, verdict as verdict_by_rules};
 ghost use Rattle.fluid_rules.specs.Scribe.{acks as acks_by_rules};
 ghost use Rattle.fluid_scribe.specs.Jobs.{job as job_by_rules};
-ghost use Rattle.fluid_ticket.specs.State.{minimum, HasMinimumUpTo};
-ghost use Rattle.fluid_core.specs.Entering.{start, asked, on_order, job_of, note_for, after, prepared, IsPreparedIn, StandsFor, CanTake, Takes, IsUpTo};
+ghost use Rattle.fluid_ticket.specs.State.{minimum, HasMinimumUpTo, IsSound, within_order};
+ghost use Rattle.fluid_core.specs.Entering.{start, sequencer_of, asked, on_order, job_of, note_for, after, prepared, IsPreparedIn, StandsFor, CanTake, Takes, IsUpTo};
 
-use fluid_clients::Clients;
+use fluid_clients::{Clients, SequencerState};
 use fluid_json::NoMemory;
+use fluid_quorum::ScribeState;
 use fluid_scribe::{Answer, Job, Scribe, ScribeReady, SummaryRef};
 use fluid_ticket::{Ready, Sequencer};
 use fluid_types::{Raw, Verdict};
@@ -41,6 +42,13 @@ impl Model for Core {
       clients = c.sequencer.spare;
       notes = c.scribe.spare;
     } };
+}
+
+/// What a core is made of.
+#[derive(Drop)]
+pub struct CoreParts {
+    pub sequencer: SequencerState,
+    pub scribe: ScribeState,
 }
 
 /// An entry with its verdict, prepared in a state of a core and not yet committed.
@@ -87,6 +95,39 @@ impl Core {
             sequencer: Sequencer::new(alloc),
             scribe: Scribe::new(alloc),
         }
+    }
+
+    /// The core that goes on from these parts, whatever they are; what lies outside the order counts for nothing. Takes no memory.
+    pub fn of_parts(sequencer: SequencerState, scribe: ScribeState) -> Core
+        ensures within { result.state ≡ record { sequencer = within_order (sequencer_of sequencer); scribe = scribe } }
+        ensures sound { IsSound (sequencer_of sequencer) → result.state ≡ record { sequencer = sequencer_of sequencer; scribe = scribe } }
+    {
+        let SequencerState {
+            sequence,
+            minimum,
+            clients,
+        } = sequencer;
+        let ScribeState {
+            base,
+            behind,
+            minima,
+            pending,
+            acks,
+        } = scribe;
+        Core {
+            sequencer: Sequencer::of_parts(sequence, minimum, clients),
+            scribe: Scribe::of_parts(base, behind, minima, pending, acks),
+        }
+    }
+
+    /// Its parts, with their own memory.
+    pub fn parts(&self, alloc: Global) -> Result<CoreParts, NoMemory>
+        ensures sequencer { IfOk result (λ parts. sequencer_of parts.sequencer ≡ self.now.state.sequencer) }
+        ensures scribe { IfOk result (λ parts. parts.scribe ≡ self.now.state.scribe) }
+    {
+        let sequencer = self.sequencer.parts(alloc)?;
+        let scribe = self.scribe.parts(alloc)?;
+        Ok(CoreParts { sequencer, scribe })
     }
 
     /// The last sequence number, 0 before the first message. Takes no memory.

@@ -7,4 +7,4 @@
 mod entering;
 pub mod laws;
 
-pub use entering::{Core, CoreReady};
+pub use entering::{Core, CoreParts, CoreReady};
