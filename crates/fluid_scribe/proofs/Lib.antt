@@ -7,3 +7,4 @@ pub mod Walked
 pub mod Waits
 pub mod Judged
 pub mod Taken
+pub mod Handled

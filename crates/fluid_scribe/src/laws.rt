@@ -1,5 +1,5 @@
 //! What holds of the definitions, said by functions that do nothing.
-ghost use Rattle.fluid_scribe.specs.Laws.{StartsSo, StateGrows, AnswersByRules, JobByRules};
+ghost use Rattle.fluid_scribe.specs.Laws.{StartsSo, StateGrows, AnswersByRules, JobByRules, HandlesAreIds};
 
 use fluid_tree::laws::ids_are_read_back;
 
@@ -18,3 +18,8 @@ pub fn answers_by_rules()
 {
     ids_are_read_back();
 }
+
+/// What is acknowledged has an id of 20 bytes.
+pub fn handles_are_ids()
+    ensures { HandlesAreIds }
+{}
