@@ -2,3 +2,4 @@ mod Entries
 mod Maps
 mod Places
 pub mod Laws
+pub mod Down

@@ -2,7 +2,7 @@
 use Rattle.std.specs.Prelude.{ℕ, Option, Some, None, List, map, min}
 use Rattle.std.specs.List.{reduce}
 use Rattle.std.specs.Option.{option_map_or}
-use Rattle.std.specs.FinMap.{FinMap, from_sorted, get, insert, values, code}
+use Rattle.std.specs.FinMap.{FinMap, entries, from_sorted, get, insert, values, code}
 use Rattle.std.specs.Coded.{Coded, code_by, coded×, coded_ℕ, coded_list, coded_bool}
 use Rattle.std.specs.Prelude.{Bool, refl}
 pub use Rattle.fluid_table.specs.Table.{byte_order}
@@ -33,6 +33,13 @@ change_row id f rows = option_map_or (λ row. insert rows id (f row)) (get rows 
 abbrev pub least_with : Rows → List ℕ → ℕ → Option ℕ
 least_with rows id reference = least (change_row id (λ row. record row { reference = reference }) rows)
 
+-- the row with a reference above a number put down to it, and the rows with each so
+abbrev pub row_up_to : ℕ → Row → Row
+row_up_to most row = record row { reference = min row.reference most }
+
+abbrev pub rows_up_to : ℕ → Rows → Rows
+rows_up_to most rows = rows_of (map (λ entry. (entry.0, row_up_to most entry.1)) (entries rows))
+
 -- the lesser of two numbers, either of which may be missing
 abbrev pub lesser : Option ℕ → Option ℕ → Option ℕ
 lesser None other = other
@@ -59,3 +66,20 @@ abbrev pub table_code : Coded Table
 table_code =
     code_by (Rows × ℕ) (coded× (code (coded_list coded_ℕ) row_code) coded_ℕ) (λ table. (table.rows, table.spare))
     (λ parts. record { rows = parts.0; spare = parts.1 }) (λ _. refl)
+
+-- ---- a sequencer's parts
+
+-- the last sequence number, the minimum of the last message, and the rows of the joined clients
+pub record Parts : Type 0 where
+  pub sequence : ℕ
+  pub minimum : ℕ
+  pub rows : Rows
+
+abbrev pub rows_code : Coded Rows
+rows_code = code (coded_list coded_ℕ) row_code
+
+-- as a tuple of them
+abbrev pub parts_code : Coded Parts
+parts_code =
+    code_by (ℕ × (ℕ × Rows)) (coded× coded_ℕ (coded× coded_ℕ rows_code)) (λ parts. (parts.sequence, (parts.minimum, parts.rows)))
+    (λ fields. record { sequence = fields.0; minimum = fields.1.0; rows = fields.1.1 }) (λ _. refl)

@@ -4,8 +4,11 @@
 //! logarithm of the clients; the least reference is found by a scan.
 //!
 //! - `table`: `Clients` and its `Row`.
+//! - `state`: `SequencerState`, what a sequencer is made of.
 #![tactic(auto)]
 
+mod state;
 mod table;
 
+pub use state::SequencerState;
 pub use table::{Clients, Row};

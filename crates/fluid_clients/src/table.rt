@@ -3,7 +3,7 @@ ghost use Rattle.std.specs.Prelude.{◌≡◌, ◌+◌, ◌<◌, ◌≤◌, IsTr
 ghost use Rattle.std.specs.List.{reduce};
 ghost use Rattle.std.specs.Option.{option_copied};
 ghost use Rattle.std.specs.FinMap.{empty, get, insert, remove, len, keys, is_sorted};
-ghost use Rattle.fluid_clients.specs.Table.{byte_order, rows_of, change_row, least, least_with, lesser};
+ghost use Rattle.fluid_clients.specs.Table.{byte_order, rows_of, change_row, least, least_with, lesser, row_up_to, rows_up_to};
 ghost use Rattle.fluid_clients.specs.Place.{IsAt, IsGap};
 
 use fluid_json::NoMemory;
@@ -178,6 +178,14 @@ impl Clients {
         }
     }
 
+    /// Puts each reference that is above a number down to it.
+    pub fn put_down(&mut self, most: u64)
+        ensures down { self.new.rows ≡ rows_up_to most self.old.rows }
+        ensures spare { self.old.spare ≤ self.new.spare }
+    {
+        put_each_down(&mut self.rows, most);
+    }
+
     /// Makes room for one more client.
     pub fn reserve(&mut self) -> Result<(), NoMemory>
         ensures same { self.new.rows ≡ self.old.rows }
@@ -230,6 +238,15 @@ fn gap(rows: &[(ClientId, Row)], id: &ClientId) -> usize
     match place(rows, id) {
         Ok(at) => at,
         Err(gap) => gap,
+    }
+}
+
+// Puts each reference that is above a number down to it.
+fn put_each_down(rows: &mut [(ClientId, Row)], most: u64)
+    ensures { rows.new ≡ map (λ entry. (entry.0, row_up_to most entry.1)) rows.old }
+{
+    for entry in rows.iter_mut() {
+        entry.1.reference = entry.1.reference.min(most);
     }
 }
 

@@ -1,10 +1,19 @@
 -- The job of a core is on one of its messages.
-use Rattle.std.proofs.Common.{◌≡◌, ℕ, suc, ◌≤◌, Bool, true, false, if◌then◌else◌, List, [], ◌∷◌, ◌++◌, length, Option, Some, None, option_map, slice_get, Result, Ok, Err, IfOk, IfSome, sym, subst, arith, All}
+use Rattle.std.proofs.Common.{◌≡◌, ℕ, suc, ◌+◌, ◌≤◌, nat_le, Bool, true, false, ◌&&◌, if◌then◌else◌, List, [], ◌∷◌, ◌++◌, length, Option, Some, None, option_map, slice_get, refl, sym, ap, ◌∙◌, arith, All}
+use Rattle.std.specs.Prelude.{IfSome}
+use Rattle.std.proofs.lemmas.Bool.{le-leb}
 use Rattle.fluid_types.specs.declared.messages.Message.{Message}
+use Rattle.fluid_types.specs.Ledger.{Ledger, order, seq}
 use Rattle.fluid_types.proofs.Numbers.{numbered_least, numbered_most}
+use Rattle.fluid_rules.specs.Rules.{IsLegal}
 use Rattle.fluid_rules.specs.Scribe.{unanswered, pending}
-use Rattle.fluid_scribe.specs.Jobs.{job_of, job}
-use Rattle.fluid_core.specs.Entering.{State, IsLevel, IsUpTo}
+use Rattle.fluid_scribe.specs.Jobs.{job_of as job_for, job_in, job}
+use Rattle.fluid_scribe.specs.declared.job.Job.{Job}
+use Rattle.fluid_scribe.proofs.Sequenced.{legal-sequenced, sequenced-numbered}
+use Rattle.fluid_scribe.proofs.ByRules.{job-by_rules}
+use Rattle.fluid_core.specs.Entering.{State, on_order, job_of, StandsFor, IsUpTo}
+use Rattle.fluid_core.proofs.Entered.{stands-scribe, stands-sequencer}
+use Rattle.fluid_ticket.proofs.Ledgers.{number_of}
 
 first_waits : (P : Message → Type 0) (waits : Bool) (m : Message) (ms : List Message) → P m → IfSome (slice_get ms 0) P →
     IfSome (slice_get ((if waits then m ∷ [] else []) ++ ms) 0) P
@@ -17,20 +26,18 @@ unfolding unanswered
 pending_is P [] all = tt
 pending_is P (m ∷ ms) all = first_waits P _ m (unanswered ms) (all 0 m (omega arith)) (pending_is P ms (λ k d lt. all (suc k) d (omega arith)))
 
--- and what holds of its number holds of its job's
-of_number : (P : ℕ → Type 0) (ms : List Message) (o : Option Message) → IfSome o (λ m. P m.number) → IfSome (option_map (job_of ms) o) (λ job. P job.summary)
-unfolding job_of
-of_number P ms None is = is
-of_number P ms (Some m) is = is
+-- and then the job is on the order
+on-order : (ms : List Message) (last : ℕ) (o : Option Message) → IfSome o (λ m. (1 ≤ m.number) × (m.number ≤ last)) → on_order last (option_map (job_for ms) o) ≡ option_map (job_for ms) o
+unfolding job_for
+on-order ms last None within = refl
+on-order ms last (Some m) within = rw (le-leb 1 m.number within.0, le-leb m.number last within.1) refl
 
-pub job_sequenced : (s : State) → IsLevel s → IfSome (job s.messages) (λ job. IsUpTo s.sequencer.sequence job.summary)
-job_sequenced s level =
-    let most : All (λ m. m.number ≤ s.sequencer.sequence) s.messages =
-    numbered_most s.messages 1 s.sequencer.sequence level.first (omega (arith, level.level)) in
-    of_number (IsUpTo s.sequencer.sequence) s.messages (pending s.messages)
-    (pending_is (λ m. IsUpTo s.sequencer.sequence m.number) s.messages (λ k d lt. (numbered_least s.messages 1 level.first k d lt, most k d lt)))
-
--- what holds of an answer holds of each answer that is this one
-pub is_this : {A E : Type 0} (P : A → Type 0) (result : Result A E) (answer : A) → IfOk result (λ given. given ≡ answer) → P answer → IfOk result P
-is_this P (Ok given) answer is h = subst P (sym is) h
-is_this P (Err fault) answer is h = tt
+pub stands-job : (s : State) (l : Ledger) → StandsFor s l → job_of s ≡ job (order l)
+unfolding job_of seq
+stands-job s l stands =
+    let numbered = sequenced-numbered (order l) 0 0 (legal-sequenced l stands.legal) in
+    let within : All (λ m. (1 ≤ m.number) × (m.number ≤ length (order l))) (order l) =
+    λ i d lt. (numbered_least (order l) 1 numbered i d lt, numbered_most (order l) 1 (length (order l)) numbered (omega arith) i d lt) in
+    ap (λ n. on_order n (job_in s.scribe)) (number_of s.sequencer l (stands-sequencer s l stands))
+    ∙ ap (on_order (seq l)) (ap job_in (stands-scribe s l stands) ∙ job-by_rules l stands.legal)
+    ∙ on-order (order l) (length (order l)) (pending (order l)) (pending_is _ (order l) within)

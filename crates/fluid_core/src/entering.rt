@@ -1,18 +1,18 @@
 //! Sequencer and scribe together.
 ghost use Rattle.std.specs.Prelude.{◌≡◌, ◌+◌, ◌-◌, ◌^◌, ◌<◌, ◌≤◌, ◌++◌, ◌∷◌, [], IfOk, IfSome};
 ghost use Rattle.fluid_types.specs.Fits.{IsInRange};
-ghost use Rattle.fluid_types.specs.Ledger.{Ledger, seq as last_sequence};
+ghost use Rattle.fluid_types.specs.Ledger.{Ledger, order, seq as last_sequence};
 ghost use Rattle.fluid_types.specs.declared.entries.Raw.{Raw as ARaw};
 ghost use Rattle.fluid_rules.specs.Rules.{minimum as minimum_by_rules, verdict as verdict_by_rules};
-ghost use Rattle.fluid_quorum.specs.Order.{AreFirst};
-ghost use Rattle.fluid_rules.specs.Scribe.{acks};
-ghost use Rattle.fluid_scribe.specs.Jobs.{job};
-ghost use Rattle.fluid_ticket.specs.State.{minimum, HasMinimumUpTo};
-ghost use Rattle.fluid_core.specs.Entering.{start, answer_for, note_of, with_note, after, prepared, IsPreparedIn, StandsFor, noted, CanTake, IsUpTo};
+ghost use Rattle.fluid_rules.specs.Scribe.{acks as acks_by_rules};
+ghost use Rattle.fluid_scribe.specs.Jobs.{job as job_by_rules};
+ghost use Rattle.fluid_ticket.specs.State.{minimum, HasMinimumUpTo, IsSound, within_order};
+ghost use Rattle.fluid_core.specs.Entering.{start, sequencer_of, asked, on_order, job_of, note_for, after, prepared, IsPreparedIn, StandsFor, CanTake, Takes, IsUpTo};
 
-use fluid_clients::Clients;
+use fluid_clients::{Clients, SequencerState};
 use fluid_json::NoMemory;
-use fluid_scribe::{Answer, Job, Scribe, ScribeNote, SummaryRef};
+use fluid_quorum::ScribeState;
+use fluid_scribe::{Answer, Job, Scribe, ScribeReady, SummaryRef};
 use fluid_ticket::{Ready, Sequencer};
 use fluid_types::{Raw, Verdict};
 use std::alloc::Global;
@@ -26,101 +26,62 @@ pub struct Core {
 }
 
 impl Model for Core {
-    ghost use Rattle.std.specs.Prelude.{ℕ, List, refl};
-    ghost use Rattle.std.specs.Coded.{code_by, coded×, coded_ℕ, coded_list};
-    ghost use Rattle.fluid_types.specs.declared.messages.Message.{Message};
-    ghost use Rattle.fluid_types.specs.contracts.messages.Message as messages;
+    ghost use Rattle.std.specs.Prelude.{ℕ, refl};
+    ghost use Rattle.std.specs.Coded.{code_by, coded×, coded_ℕ};
+    ghost use Rattle.fluid_quorum.specs.declared.state.ScribeState.{ScribeState};
+    ghost use Rattle.fluid_quorum.specs.contracts.state.ScribeState as states;
     ghost use Rattle.fluid_ticket.specs.State.{State, state_code};
-    ghost use Rattle.fluid_core.specs.Entering.{Entering, IsLevel};
+    ghost use Rattle.fluid_core.specs.Entering.{Entering};
 
     ghost Value = { Entering };
 
-    ghost coded = { code_by (State × (List Message × (ℕ × ℕ))) (coded× state_code (coded× (coded_list messages.the_row.coded) (coded× coded_ℕ coded_ℕ))) (λ e. (e.state.sequencer, (e.state.messages, (e.clients, e.notes)))) (λ p. record { state = record { sequencer = p.0; messages = p.1.0 }; clients = p.1.1.0; notes = p.1.1.1 }) (λ _. refl) };
+    ghost coded = { code_by (State × (ScribeState × (ℕ × ℕ))) (coded× state_code (coded× states.the_row.coded (coded× coded_ℕ coded_ℕ))) (λ e. (e.state.sequencer, (e.state.scribe, (e.clients, e.notes)))) (λ p. record { state = record { sequencer = p.0; scribe = p.1.0 }; clients = p.1.1.0; notes = p.1.1.1 }) (λ _. refl) };
 
     ghost view = { λ c. record {
-      state = record { sequencer = c.sequencer.state; messages = c.scribe.messages };
+      state = record { sequencer = c.sequencer.state; scribe = c.scribe.state };
       clients = c.sequencer.spare;
       notes = c.scribe.spare;
     } };
-
-    ghost invariant = { λ c. IsLevel (record { sequencer = c.sequencer.state; messages = c.scribe.messages }) };
 }
 
-/// An entry with its verdict, prepared in a state of a core and not yet entered.
+/// What a core is made of.
 #[derive(Drop)]
-pub struct CoreEntry {
-    ready: Ready,
-    note: Option<ScribeNote>,
+pub struct CoreParts {
+    pub sequencer: SequencerState,
+    pub scribe: ScribeState,
 }
 
-impl Model for CoreEntry {
-    ghost use Rattle.fluid_core.specs.Entering.{Prepared, prepared_code, with_note};
-
-    ghost Value = { Prepared };
-
-    ghost coded = { prepared_code };
-
-    ghost view = { λ e. record { ticket = e.ready; note = with_note e.ready.verdict e.note } };
-}
-
-impl CoreEntry {
-    /// The verdict that the entry gets when it is entered. Takes no memory.
-    pub fn verdict(&self) -> &Verdict
-        ensures { result.now ≡ self.now.ticket.verdict }
-    {
-        self.ready.verdict()
-    }
-
-    fn into_parts(self) -> (Ready, Option<ScribeNote>)
-        ensures ready { result.0 ≡ self.ticket }
-        ensures note { with_note result.0.verdict result.1 ≡ self.note }
-    {
-        let CoreEntry { ready, note } = self;
-        (ready, note)
-    }
-}
-
-/// An entry with its verdict, which is given back when it is committed, prepared in a state of a core and not yet committed.
+/// An entry with its verdict, prepared in a state of a core and not yet committed.
 #[derive(Drop)]
 pub struct CoreReady {
-    entry: CoreEntry,
-    verdict: Verdict,
+    ready: Ready,
+    note: Option<ScribeReady>,
 }
 
 impl Model for CoreReady {
-    ghost use Rattle.std.specs.Prelude.{◌≡◌};
     ghost use Rattle.fluid_core.specs.Entering.{Prepared, prepared_code};
 
     ghost Value = { Prepared };
 
     ghost coded = { prepared_code };
 
-    ghost view = { λ r. r.entry };
-
-    ghost invariant = { λ r. r.verdict ≡ r.entry.ticket.verdict };
+    ghost view = { λ r. record { ticket = r.ready; note = r.note } };
 }
 
 impl CoreReady {
-    fn new(entry: CoreEntry, verdict: Verdict) -> CoreReady
-        requires { verdict ≡ entry.ticket.verdict }
-        ensures { result ≡ entry }
-    {
-        CoreReady { entry, verdict }
-    }
-
     /// The verdict that the entry gets when it is committed. Takes no memory.
     pub fn verdict(&self) -> &Verdict
         ensures { result.now ≡ self.now.ticket.verdict }
     {
-        &self.verdict
+        self.ready.verdict()
     }
 
-    fn into_parts(self) -> (CoreEntry, Verdict)
-        ensures entry { result.0 ≡ self }
-        ensures verdict { result.1 ≡ self.ticket.verdict }
+    fn into_parts(self) -> (Ready, Option<ScribeReady>)
+        ensures ready { result.0 ≡ self.ticket }
+        ensures note { result.1 ≡ self.note }
     {
-        let CoreReady { entry, verdict } = self;
-        (entry, verdict)
+        let CoreReady { ready, note } = self;
+        (ready, note)
     }
 }
 
@@ -134,6 +95,39 @@ impl Core {
             sequencer: Sequencer::new(alloc),
             scribe: Scribe::new(alloc),
         }
+    }
+
+    /// The core that goes on from these parts, whatever they are; what lies outside the order counts for nothing. Takes no memory.
+    pub fn of_parts(sequencer: SequencerState, scribe: ScribeState) -> Core
+        ensures within { result.state ≡ record { sequencer = within_order (sequencer_of sequencer); scribe = scribe } }
+        ensures sound { IsSound (sequencer_of sequencer) → result.state ≡ record { sequencer = sequencer_of sequencer; scribe = scribe } }
+    {
+        let SequencerState {
+            sequence,
+            minimum,
+            clients,
+        } = sequencer;
+        let ScribeState {
+            base,
+            behind,
+            minima,
+            pending,
+            acks,
+        } = scribe;
+        Core {
+            sequencer: Sequencer::of_parts(sequence, minimum, clients),
+            scribe: Scribe::of_parts(base, behind, minima, pending, acks),
+        }
+    }
+
+    /// Its parts, with their own memory.
+    pub fn parts(&self, alloc: Global) -> Result<CoreParts, NoMemory>
+        ensures sequencer { IfOk result (λ parts. sequencer_of parts.sequencer ≡ self.now.state.sequencer) }
+        ensures scribe { IfOk result (λ parts. parts.scribe ≡ self.now.state.scribe) }
+    {
+        let sequencer = self.sequencer.parts(alloc)?;
+        let scribe = self.scribe.parts(alloc)?;
+        Ok(CoreParts { sequencer, scribe })
     }
 
     /// The last sequence number, 0 before the first message. Takes no memory.
@@ -162,19 +156,25 @@ impl Core {
 
     /// The summaries that were acknowledged, oldest first. Takes no memory.
     pub fn acks(&self) -> &[SummaryRef]
-        ensures { result.now ≡ acks self.now.state.messages }
+        ensures acks { result.now ≡ self.now.state.scribe.acks }
+        ensures stands { (ledger : Ledger) → StandsFor self.now.state ledger → result.now ≡ acks_by_rules (order ledger) }
     {
         self.scribe.acks()
     }
 
-    /// What is to be done about the pending summarize; None exactly where none is pending.
+    /// What is to be done about the pending summarize; None exactly where none is pending. One with a number that no message has
+    /// counts for nothing.
     pub fn job(&mut self, alloc: Global) -> Result<Option<Job>, NoMemory>
-        ensures same { self.new ≡ self.old }
-        ensures job { IfOk result (λ given. given ≡ job self.old.state.messages) }
+        ensures same { self.new.state ≡ self.old.state }
+        ensures room { (self.old.clients ≤ self.new.clients) × (self.old.notes ≤ self.new.notes) }
+        ensures job { IfOk result (λ given. given ≡ job_of self.old.state) }
         ensures sequenced { IfOk result (λ given.
             IfSome given (λ job. IsUpTo self.old.state.sequencer.sequence job.summary)) }
+        ensures stands { (ledger : Ledger) → StandsFor self.old.state ledger →
+            IfOk result (λ given. given ≡ job_by_rules (order ledger)) }
     {
-        self.scribe.job(alloc)
+        let job = self.scribe.job(alloc)?;
+        Ok(on_order(self.sequencer.seq(), job))
     }
 
     /// Gives a raw entry its verdict and makes every growth that this verdict needs. The state stays.
@@ -189,9 +189,10 @@ impl Core {
         ensures verdict { (ledger : Ledger) → StandsFor self.old.state ledger →
             IfOk result (λ ready. ready.ticket.verdict ≡ verdict_by_rules ledger raw.now) }
     {
-        let entry = self.prepare_entry(alloc, raw)?;
-        let verdict = entry.verdict().copy(alloc)?;
-        Ok(CoreReady::new(entry, verdict))
+        let answer = asked(alloc, &mut self.scribe, raw)?;
+        let ready = self.sequencer.prepare(alloc, raw, &answer)?;
+        let note = note_for(alloc, &mut self.scribe, ready.verdict())?;
+        Ok(CoreReady { ready, note })
     }
 
     /// Enters what was prepared, and gives its verdict. Takes no memory.
@@ -202,48 +203,18 @@ impl Core {
         ensures stands { (ledger : Ledger) (raw : ARaw) → ready ≡ prepared self.old.state raw → StandsFor self.old.state ledger →
             (result ≡ verdict_by_rules ledger raw) × StandsFor self.new.state (ledger ++ (raw, result) ∷ []) }
     {
-        let (entry, verdict) = ready.into_parts();
-        self.enter(entry);
-        verdict
-    }
-
-    /// The same as `prepare` for who needs no verdict behind the entry: its message isn't copied, but for a summarize, which is to
-    /// wait for its answer.
-    pub fn prepare_entry(&mut self, alloc: Global, raw: &Raw) -> Result<CoreEntry, NoMemory>
-        requires few { self.old.state.sequencer.sequence < 2 ^ 53 - 1 }
-        requires in_range { IsInRange raw.now }
-        ensures same { self.new.state ≡ self.old.state }
-        ensures room { (self.old.clients ≤ self.new.clients) × (self.old.notes ≤ self.new.notes) }
-        ensures entry { IfOk result (λ entry. entry ≡ prepared self.old.state raw.now) }
-        ensures bounded { IfOk result (λ entry. HasMinimumUpTo (self.old.state.sequencer.sequence + 1) entry.ticket.verdict) }
-        ensures enterable { IfOk result (IsPreparedIn self.new) }
-        ensures verdict { (ledger : Ledger) → StandsFor self.old.state ledger →
-            IfOk result (λ entry. entry.ticket.verdict ≡ verdict_by_rules ledger raw.now) }
-    {
-        let answer = answer_for(alloc, &mut self.scribe, raw)?;
-        let ready = self.sequencer.prepare(alloc, raw, &answer)?;
-        let note = note_of(alloc, &mut self.scribe, ready.verdict())?;
-        Ok(CoreEntry { ready, note })
-    }
-
-    /// Enters what was prepared; its message moves to the scribe. Takes no memory.
-    pub fn enter(&mut self, entry: CoreEntry)
-        requires { IsPreparedIn self.old entry }
-        ensures after { (raw : ARaw) → entry ≡ prepared self.old.state raw → self.new.state ≡ after self.old.state raw entry.ticket.verdict }
-        ensures stands { (ledger : Ledger) (raw : ARaw) → entry ≡ prepared self.old.state raw → StandsFor self.old.state ledger →
-            (entry.ticket.verdict ≡ verdict_by_rules ledger raw) × StandsFor self.new.state (ledger ++ (raw, entry.ticket.verdict) ∷ []) }
-    {
-        let (ready, note) = entry.into_parts();
+        let (ready, note) = ready.into_parts();
         let verdict = self.sequencer.commit(ready);
-        take(&mut self.scribe, verdict, note);
+        take(&mut self.scribe, note);
+        verdict
     }
 }
 
 // The scribe's answer to a report; no other entry asks for one.
-fn answer_for(alloc: Global, scribe: &mut Scribe, raw: &Raw) -> Result<Answer, NoMemory>
-    requires { AreFirst scribe.old.messages }
-    ensures same { scribe.new ≡ scribe.old }
-    ensures answer { IfOk result (λ answer. answer ≡ answer_for scribe.old.messages raw.now) }
+fn asked(alloc: Global, scribe: &mut Scribe, raw: &Raw) -> Result<Answer, NoMemory>
+    ensures same { scribe.new.state ≡ scribe.old.state }
+    ensures spare { scribe.old.spare ≤ scribe.new.spare }
+    ensures answer { IfOk result (λ answer. answer ≡ asked scribe.old.state raw.now) }
 {
     match raw {
         Raw::Report { summary, found, .. } => scribe.answer(alloc, *summary, *found),
@@ -251,40 +222,44 @@ fn answer_for(alloc: Global, scribe: &mut Scribe, raw: &Raw) -> Result<Answer, N
     }
 }
 
-// What the scribe keeps beside the message of a verdict, where it has one.
-fn note_of(
+// A job on a number that no message has counts for nothing.
+fn on_order(last: u64, job: Option<Job>) -> Option<Job>
+    ensures is { result ≡ on_order last job }
+    ensures sequenced { IfSome result (λ job. IsUpTo last job.summary) }
+{
+    let job = job?;
+    if job.summary < 1 || last < job.summary {
+        return None;
+    }
+    Some(job)
+}
+
+// What the scribe takes of the message of a verdict, where it has one.
+fn note_for(
     alloc: Global,
     scribe: &mut Scribe,
     verdict: &Verdict,
-) -> Result<Option<ScribeNote>, NoMemory>
-    ensures same { scribe.new.messages ≡ scribe.old.messages }
+) -> Result<Option<ScribeReady>, NoMemory>
+    ensures same { scribe.new.state ≡ scribe.old.state }
     ensures spare { scribe.old.spare ≤ scribe.new.spare }
-    ensures note { IfOk result (λ note. note ≡ note_of scribe.old.messages verdict.now) }
-    ensures takable { IfOk result (λ note. CanTake scribe.new (with_note verdict.now note)) }
+    ensures note { IfOk result (λ note. note ≡ note_for scribe.old.state verdict.now) }
+    ensures takable { IfOk result (λ note. CanTake scribe.new note) }
 {
     match verdict {
         Verdict::Sequenced(message) => {
-            let note = scribe.note(alloc, message)?;
+            let note = scribe.prepare(alloc, message)?;
             Ok(Some(note))
         }
         Verdict::Nacked(_) | Verdict::Dropped | Verdict::Absorbed => Ok(None),
     }
 }
 
-// Takes the message of a verdict with what was to be kept beside it, where there is one.
-fn take(scribe: &mut Scribe, verdict: Verdict, note: Option<ScribeNote>)
-    requires { CanTake scribe.old (with_note verdict note) }
-    ensures { scribe.new.messages ≡ scribe.old.messages ++ noted (with_note verdict note) }
+// Takes what was prepared of a message, where there is one.
+fn take(scribe: &mut Scribe, note: Option<ScribeReady>)
+    requires { CanTake scribe.old note }
+    ensures { Takes scribe.old.state scribe.new.state note }
 {
-    // (an arm for each verdict, so that each proof knows its case)
-    match verdict {
-        Verdict::Sequenced(message) => {
-            if let Some(note) = note {
-                scribe.take(message, note);
-            }
-        }
-        Verdict::Nacked(_) => {}
-        Verdict::Dropped => {}
-        Verdict::Absorbed => {}
+    if let Some(note) = note {
+        scribe.commit(note);
     }
 }

@@ -3,6 +3,7 @@ mod Approvals
 mod Pushed
 mod Due
 mod Taken
+pub mod Advanced
 mod Objects
 mod Sorted
 mod Written

@@ -48,7 +48,7 @@ left-bounded p last ps h = All-filter p (λ q. q.number ≤ last) ps h
 
 -- ---- how many are due
 
-counted : (p : Proposal → Bool) (ps : List Proposal) (k : ℕ) → k ≤ length ps → take k ps ≡ filter p ps → k ≡ length (filter p ps)
+pub counted : (p : Proposal → Bool) (ps : List Proposal) (k : ℕ) → k ≤ length ps → take k ps ≡ filter p ps → k ≡ length (filter p ps)
 counted p ps k le is = sym (length-take-le k ps le) ∙ ap length is
 
 few : (p : Proposal → Bool) (o : Option Proposal) → length (filter p (option_to_list o)) ≤ 1

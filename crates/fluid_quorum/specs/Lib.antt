@@ -1,5 +1,6 @@
 pub mod Order
 pub mod After
+pub mod Noops
 pub mod Kept
 pub mod Codes
 pub mod Rows

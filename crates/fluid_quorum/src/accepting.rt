@@ -51,6 +51,7 @@ pub(crate) fn accept(
     ensures order { IsInKeyOrder values.new.items }
     ensures values { values_of values.new.items ≡ fold (with_accepted approval) (values_of values.old.items) (take due pending.old.items) }
     ensures pending { pending.new.items ≡ drop due pending.old.items }
+    ensures room { vec_len values.new + vec_capacity values.old ≤ vec_len values.old + due + vec_capacity values.new }
 {
     for proposal in pending.drain(..due) {
         let Proposal { number, key, value } = proposal;

@@ -3,6 +3,7 @@ ghost use Rattle.std.specs.Prelude.{◌≡◌, ◌+◌, [], ◌∷◌, ◌++◌,
 ghost use Rattle.std.specs.FinMap.{empty, get, values};
 ghost use Rattle.fluid_types.specs.declared.messages.Message.{Message as AMessage};
 ghost use Rattle.fluid_quorum.specs.After.{after};
+ghost use Rattle.fluid_quorum.specs.Noops.{noops_to, advanced};
 ghost use Rattle.fluid_quorum.specs.Order.{StandsFor};
 
 use crate::accepting::{KeyValue, accept, due, enter};
@@ -74,6 +75,38 @@ impl Quorum {
         );
         self.number = message.number;
         self.minimum = message.minimum;
+        Ok(())
+    }
+
+    /// Takes in what noop messages up to a number would say, all with the present minimum but the last, which has this one.
+    /// Nothing changes where the number isn't above the present one, or the minimum is below it. After `NoMemory` the quorum is
+    /// as it was.
+    pub fn advance(&mut self, number: u64, minimum: u64) -> Result<(), NoMemory>
+        ensures stands { (ms : List AMessage) → StandsFor ms self.old →
+            OnOk result (StandsFor (ms ++ noops_to self.old number minimum) self.new) }
+        ensures after { OnOk result (self.new ≡ advanced self.old number minimum) }
+        ensures unchanged { OnErr result (self.new ≡ self.old) }
+    {
+        if number <= self.number {
+            return Ok(());
+        }
+        if minimum < self.minimum {
+            return Ok(());
+        }
+        let accepted = due(&self.pending, minimum);
+        self.values.reserve(accepted)?;
+        // What is due already is accepted by the next message, and what only this minimum reaches by the last.
+        let first = due(&self.pending, self.minimum);
+        accept(
+            &mut self.values,
+            &mut self.pending,
+            first,
+            self.number + 1,
+        );
+        let accepted = due(&self.pending, minimum);
+        accept(&mut self.values, &mut self.pending, accepted, number);
+        self.number = number;
+        self.minimum = minimum;
         Ok(())
     }
 

@@ -1,5 +1,10 @@
-mod Waiting
-mod Judged
-mod Kept
 mod Versions
-mod Orders
+pub mod Sequenced
+pub mod Behind
+pub mod Grown
+pub mod ByRules
+pub mod Walked
+pub mod Waits
+pub mod Judged
+pub mod Taken
+pub mod Handled

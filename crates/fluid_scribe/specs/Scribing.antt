@@ -1,54 +1,63 @@
--- A scribe as contracts see it: the messages that it took, oldest first, and for how many more there is room already.
-use Rattle.std.specs.Prelude.{◌≡◌, ℕ, ◌<◌, min, List, Option, Some, None, if◌then◌else◌}
+-- A scribe as contracts see it: what it keeps of the messages that it took, and for how many more there is room already. There is
+-- none while what is in memory lags behind.
+use Rattle.std.specs.Prelude.{◌≡◌, ℕ, ◌<◌, ◌==◌, min, Bool, not, ◌||◌, List, filter, Option, Some, None, if◌then◌else◌}
+use Rattle.fluid_types.specs.declared.messages.Kind.{Kind}
 use Rattle.fluid_types.specs.declared.messages.Message.{Message}
-use Rattle.fluid_tree.specs.declared.id.SummaryRef.{SummaryRef}
-use Rattle.fluid_rules.specs.Scribe.{is_summarize, unanswered, acks, ack_of}
-use Rattle.fluid_scribe.specs.declared.ready.ScribeNote.{ScribeNote}
+use Rattle.fluid_quorum.specs.declared.state.ScribeState.{ScribeState}
+use Rattle.fluid_rules.specs.Scribe.{is_summarize, answered_by}
+use Rattle.fluid_scribe.specs.State.{is_heard, ack_in}
+use Rattle.fluid_scribe.specs.declared.ready.ScribeReady.{ScribeReady}
 
 pub record Scribing : Type 0 where
-  pub messages : List Message
+  pub state : ScribeState
   pub spare : ℕ
-
--- the least of the rooms that a message may need
-abbrev pub least_room : ℕ → ℕ → ℕ → ℕ
-least_room messages waiting acks = min messages (min waiting acks)
 
 -- ---- a message that is prepared
 
--- the message, once more where it is a summarize, and the acknowledgement that it makes
-pub record Prepared : Type 0 where
+-- all of a message is kept where it is a summarize or a quorum hears it
+abbrev pub is_kept : Kind → Bool
+is_kept kind = is_heard kind || is_summarize kind
+
+abbrev pub kept_of : Message → Option Message
+kept_of m = if is_kept m.kind then Some m else None
+
+-- what a scribe takes of a message
+unfoldable pub prepared : ScribeState → Message → ScribeReady
+prepared s m = record {
+  number = m.number;
+  minimum = m.minimum;
+  answered = answered_by m;
+  kept = kept_of m;
+  ack = ack_in s.pending m;
+}
+
+-- the ready is that of a message behind those that were taken, and there is room for it
+pub record IsPreparedIn (s : Scribing) (ready : ScribeReady) : Type 0 where
   pub message : Message
-  pub waiting : Option Message
-  pub ack : Option SummaryRef
-
--- what is kept beside a message behind these
-abbrev pub note_of : List Message → Message → ScribeNote
-note_of messages m = record { waiting = if is_summarize m.kind then Some m else None; ack = ack_of messages m }
-
--- a message with what is kept beside it
-abbrev pub with_note : Message → ScribeNote → Prepared
-with_note m note = record { message = m; waiting = note.waiting; ack = note.ack }
-
-abbrev pub prepared : List Message → Message → Prepared
-prepared messages m = with_note m (note_of messages m)
-
--- the ready is that of its message behind those that were taken, and there is room for it
-pub record IsPreparedIn (s : Scribing) (ready : Prepared) : Type 0 where
-  pub is : ready ≡ prepared s.messages ready.message
+  pub is : ready ≡ prepared s.state message
   pub room : 0 < s.spare
 
-abbrev pub Parts : Type 0
-Parts = Message × (Option Message × Option SummaryRef)
+-- ---- for private clauses
 
-abbrev pub parts_of : Prepared → Parts
-parts_of p = (p.message, (p.waiting, p.ack))
+-- the least of the rooms that a message may need
+abbrev pub least_room : ℕ → ℕ → ℕ → ℕ → ℕ
+least_room behind minima pending acks = min behind (min minima (min pending acks))
 
-abbrev pub of_parts : Parts → Prepared
-of_parts parts = record { message = parts.0; waiting = parts.1.0; ack = parts.1.1 }
+-- there is none while the base is still to be brought to a number
+abbrev pub spare_at : Option ℕ → ℕ → ℕ
+spare_at None room = room
+spare_at (Some number) room = 0
 
--- ---- what holds of every scribe
+-- the summarize messages that are left behind an answer
+abbrev pub unanswered_at : Option ℕ → List Message → List Message
+unanswered_at None waiting = waiting
+unanswered_at (Some number) waiting = filter (λ s. not (number == s.number)) waiting
 
--- the summarize messages that wait and the acknowledgements are kept beside the messages
-pub record IsKept (messages waiting : List Message) (known : List SummaryRef) : Type 0 where
-  pub waiting_are : waiting ≡ unanswered messages
-  pub acks_are : known ≡ acks messages
+-- of what was kept of a message, what a quorum hears, and the summarize
+abbrev pub heard_in : Option Message → Option Message
+heard_in None = None
+heard_in (Some m) = if is_summarize m.kind then None else Some m
+
+abbrev pub summarize_in : Option Message → Option Message
+summarize_in None = None
+summarize_in (Some m) = if is_summarize m.kind then Some m else None

@@ -1,10 +1,13 @@
 // What one message says of a summary.
 ghost use Rattle.std.specs.Prelude.{◌≡◌, IfOk};
+ghost use Rattle.fluid_scribe.specs.State.{ack_in};
+ghost use Rattle.fluid_scribe.specs.Scribing.{kept_of, is_kept};
 ghost use Rattle.fluid_rules.specs.Scribe.{is_answer, handling, proposing, proposed_by, reference_of, naming, answered_by};
 
+use crate::waiting::numbered;
 use fluid_json::{Json, NoMemory, Text};
 use fluid_rules::Proposed;
-use fluid_tree::Id;
+use fluid_tree::{Id, SummaryRef};
 use fluid_types::{Field, Kind, Message, body};
 use std::alloc::Global;
 
@@ -74,4 +77,37 @@ fn naming(contents: &Json) -> Option<u64>
     let number = proposal.member(Field::SummarySequenceNumber.name())?;
     let number = number.as_whole()?;
     u64::try_from(number).ok()
+}
+
+/// The acknowledgement that a message makes, where these wait.
+pub(crate) fn ack_of(waiting: &[Message], message: &Message) -> Option<SummaryRef>
+    ensures { result ≡ ack_in waiting.now message.now }
+{
+    if message.kind != Kind::SummaryAck {
+        return None;
+    }
+    let handle = handling(&message.contents)?;
+    let number = answered_by(message)?;
+    let summarize = numbered(waiting, number)?;
+    Some(SummaryRef {
+        handle,
+        number: reference_of(summarize),
+    })
+}
+
+/// A message once more, where it is a summarize or a quorum hears it.
+pub(crate) fn kept_of(alloc: Global, message: &Message) -> Result<Option<Message>, NoMemory>
+    ensures { IfOk result (λ kept. kept ≡ kept_of message.now) }
+{
+    if !is_kept(message.kind) {
+        return Ok(None);
+    }
+    let copy = message.copy(alloc)?;
+    Ok(Some(copy))
+}
+
+fn is_kept(kind: Kind) -> bool
+    ensures { result ≡ is_kept kind }
+{
+    matches!(kind, Kind::Join | Kind::Leave | Kind::Propose | Kind::Summarize)
 }

@@ -1,9 +1,7 @@
 // The tree of a version: what the application asked for, and the order's state.
-ghost use Rattle.std.specs.Prelude.{◌≡◌, ◌+◌, List, [], ◌∷◌, ◌++◌, take, Ok, IfOk, OnOk, codes};
-ghost use Rattle.fluid_types.specs.declared.messages.Message.{Message as AMessage};
-ghost use Rattle.fluid_types.specs.Quorum.{Quorum as AQuorum, quorum_of};
-ghost use Rattle.fluid_types.specs.Blobs.{blobs, blobs_of};
-ghost use Rattle.fluid_quorum.specs.Order.{AreFirst, StandsFor};
+ghost use Rattle.std.specs.Prelude.{◌≡◌, [], ◌∷◌, Ok, IfOk, codes};
+ghost use Rattle.fluid_types.specs.Quorum.{Quorum as AQuorum};
+ghost use Rattle.fluid_types.specs.Blobs.{blobs_of};
 ghost use Rattle.fluid_tree.specs.Identity.{id_answer};
 ghost use Rattle.fluid_tree.specs.Object.{bytes_answer};
 ghost use Rattle.fluid_rules.specs.Scribe.{protocol, tree_entry, version};
@@ -12,51 +10,14 @@ ghost use Rattle.fluid_scribe.specs.Versions.{IsState, HasId, HasBytes};
 use fluid_json::{Bytes, NoMemory, Text};
 use fluid_quorum::Quorum;
 use fluid_tree::{Id, Node, Object, ObjectEntries, ObjectEntry, TreeFault, id_of, object_bytes};
-use fluid_types::Message;
 use std::alloc::Global;
 
-/// The four blobs of the order's state behind its first messages, so many of them, where the messages are an order's.
-pub(crate) fn protocol_at(alloc: Global, order: &[Message], number: u64) -> Result<Node, NoMemory>
-    ensures protocol { AreFirst order.now → IfOk result (λ tree. tree ≡ protocol (blobs order.now number)) }
-    ensures state { IfOk result IsState }
+/// The four blobs of a quorum.
+pub(crate) fn protocol_of(alloc: Global, quorum: &Quorum) -> Result<Node, NoMemory>
+    ensures { IfOk result (λ tree. tree ≡ protocol (blobs_of quorum.now)) }
 {
-    let first = first_of(order, number);
-    let quorum = quorum_of(alloc, first)?;
     let state = quorum.to_blobs(alloc)?;
     Ok(state)
-}
-
-// The first messages, so many of them; all where there are no more.
-fn first_of(order: &[Message], number: u64) -> &[Message]
-    ensures { result.now ≡ take number order.now }
-{
-    match usize::try_from(number) {
-        Ok(number) if number < order.len() => &order[..number],
-        _ => order,
-    }
-}
-
-// The quorum of some messages, where they are the first of an order.
-fn quorum_of(alloc: Global, messages: &[Message]) -> Result<Quorum, NoMemory>
-    ensures { AreFirst messages.now → IfOk result (λ quorum. quorum ≡ quorum_of messages.now) }
-{
-    let mut quorum = Quorum::new(alloc);
-    for message in messages {
-        take_next(alloc, &mut quorum, message)?;
-    }
-    Ok(quorum)
-}
-
-// Takes a message in where it has the next number, and leaves it out where it hasn't.
-fn take_next(alloc: Global, quorum: &mut Quorum, message: &Message) -> Result<(), NoMemory>
-    ensures { message.now.number ≡ quorum.old.number + 1 →
-        (ms : List AMessage) → StandsFor ms quorum.old → OnOk result (StandsFor (ms ++ message.now ∷ []) quorum.new) }
-{
-    let last = quorum.number();
-    if message.number <= last || message.number - last != 1 {
-        return Ok(());
-    }
-    quorum.apply(alloc, message)
 }
 
 /// The id of a version: that of the tree of `.app`, with this id, and `.protocol`, which is this tree.

@@ -6,3 +6,4 @@ pub mod Ledgers
 pub mod JoinedRows
 pub mod Heard
 pub mod Commits
+pub mod Within

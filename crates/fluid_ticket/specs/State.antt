@@ -1,5 +1,5 @@
 -- What is kept of the entries so far, the verdict of the next one in it, and what that verdict makes of it.
-use Rattle.std.specs.Prelude.{◌≡◌, ℕ, ◌+◌, ◌-◌, ◌^◌, ◌<◌, ◌≤◌, ℤ, pos, negsuc, nat_lt, nat_le, int_lt, Bool, true, false, not, ◌&&◌, ◌||◌, if◌then◌else◌, List, [], ◌∷◌, length, Option, Some, None, is_some, IsSome, unwrap_or, option_map, refl}
+use Rattle.std.specs.Prelude.{◌≡◌, ℕ, min, ◌+◌, ◌-◌, ◌^◌, ◌<◌, ◌≤◌, ℤ, pos, negsuc, nat_lt, nat_le, int_lt, Bool, true, false, not, ◌&&◌, ◌||◌, if◌then◌else◌, List, [], ◌∷◌, length, Option, Some, None, is_some, IsSome, unwrap_or, option_map, refl}
 use Rattle.std.specs.Coded.{Coded, code_by, coded×, coded_ℕ, coded_list}
 use Rattle.std.specs.FinMap.{empty, get, insert, remove, code}
 use Rattle.fluid_types.specs.declared.entries.Raw.{Raw}
@@ -18,7 +18,7 @@ use Rattle.fluid_rules.specs.Scribe.{is_summarize}
 use Rattle.fluid_rules.specs.declared.answers.Answer.{Answer}
 use Rattle.fluid_rules.specs.declared.answers.Answer.TheVariants.{Dropped as unanswered}
 use Rattle.fluid_clients.specs.declared.table.Row.{Row}
-use Rattle.fluid_clients.specs.Table.{Rows, Table, change_row, least, least_with, row_code}
+use Rattle.fluid_clients.specs.Table.{Rows, Table, change_row, least, least_with, rows_up_to, row_code}
 use Rattle.fluid_ticket.specs.declared.ready.Change.{Change}
 use Rattle.fluid_ticket.specs.declared.ready.Change.TheVariants.{Nothing, Joins, Leaves, Accepts, Holds, Hears}
 use Rattle.fluid_ticket.specs.declared.outcome.Outcome.{Outcome}
@@ -224,6 +224,12 @@ CanApply (Hears id moment) table = Unit {0}
 pub record IsSound (s : State) : Type 0 where
   pub few : s.sequence ≤ 2 ^ 53 - 1
   pub rows : (id : List ℕ) (row : Row) → get s.rows id ≡ Some row → row.reference ≤ s.sequence
+
+-- what of a state lies within the order: no number is above the largest, and a reference ahead of the order is its last number
+abbrev pub within_order : State → State
+within_order s =
+    let last = min s.sequence (2 ^ 53 - 1) in
+    record { sequence = last; last_minimum = s.last_minimum; rows = rows_up_to last s.rows }
 
 -- a sound state with its minimum
 pub record IsKept (s : State) (least : ℕ) : Type 0 where

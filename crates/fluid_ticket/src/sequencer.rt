@@ -6,7 +6,7 @@ ghost use Rattle.fluid_types.specs.Forms.{largest};
 ghost use Rattle.fluid_types.specs.Ledger.{Ledger, seq as last_sequence};
 ghost use Rattle.fluid_rules.specs.Rules.{minimum as minimum_by_rules, verdict as verdict_by_rules, IsLegal};
 ghost use Rattle.fluid_rules.specs.Scribe.{ack_contents, refusal_contents};
-ghost use Rattle.fluid_ticket.specs.State.{start, minimum, outcome, is_absorbed, lifted, after, changed, heard, HasMinimumUpTo, prepared, answered, IsPreparedIn, CanApply};
+ghost use Rattle.fluid_ticket.specs.State.{start, minimum, outcome, is_absorbed, lifted, after, changed, heard, HasMinimumUpTo, IsSound, within_order, prepared, answered, IsPreparedIn, CanApply};
 ghost use Rattle.fluid_ticket.specs.Ledger.{StandsFor, IsAnswered};
 
 use crate::answers::{ack_contents, refusal_contents};
@@ -15,13 +15,16 @@ use crate::messages::{
 };
 use crate::outcome::{Outcome, outcome_by};
 use crate::ready::{Change, Ready};
-use fluid_clients::{Clients, Row};
+use fluid_clients::{Clients, Row, SequencerState};
 use fluid_json::{Json, NoMemory};
 use fluid_rules::{Answer, SummaryRule};
 use fluid_tree::Id;
 use fluid_types::{ClientId, Kind, NackRule, Offered, Raw, Scopes, Submission, Verdict};
 use std::alloc::Global;
 use std::marker::Model;
+
+// The largest number of the protocol.
+const LARGEST: u64 = (1 << 53) - 1;
 
 /// The sequencer of one document.
 #[derive(Drop)]
@@ -61,6 +64,38 @@ impl Sequencer {
             last_minimum: 0,
             clients: Clients::new(alloc),
         }
+    }
+
+    /// The sequencer that goes on from these parts. What lies outside the order counts for nothing: a number above the largest is
+    /// taken as that one, a reference ahead of the order as the last sequence number. Takes no memory.
+    pub fn of_parts(sequence: u64, minimum: u64, clients: Clients) -> Sequencer
+        ensures within { result.state ≡ within_order (record { sequence = sequence; last_minimum = minimum; rows = clients.rows }) }
+        ensures sound { IsSound (record { sequence = sequence; last_minimum = minimum; rows = clients.rows }) →
+            result.state ≡ record { sequence = sequence; last_minimum = minimum; rows = clients.rows } }
+    {
+        let sequence = sequence.min(LARGEST);
+        let mut clients = clients;
+        clients.put_down(sequence);
+        let least = clients.min().unwrap_or(sequence);
+        Sequencer {
+            sequence,
+            minimum: least,
+            last_minimum: minimum,
+            clients,
+        }
+    }
+
+    /// Its parts, with their own memory.
+    pub fn parts(&self, alloc: Global) -> Result<SequencerState, NoMemory>
+        ensures { IfOk result (λ parts.
+            parts ≡ record { sequence = self.now.state.sequence; minimum = self.now.state.last_minimum; rows = self.now.state.rows }) }
+    {
+        let clients = self.clients.copy(alloc)?;
+        Ok(SequencerState {
+            sequence: self.sequence,
+            minimum: self.last_minimum,
+            clients,
+        })
     }
 
     /// The last sequence number, 0 before the first message.

@@ -14,7 +14,7 @@ ghost use Rattle.fluid_core.specs.Entering.{IsPreparedIn, prepared, StandsFor};
 
 use crate::refusal::Why;
 use fluid_codec::{push_verdict, read_raw};
-use fluid_core::{Core, CoreEntry};
+use fluid_core::{Core, CoreReady};
 use fluid_json::NoMemory;
 use fluid_pipe::{Taker, Untaken};
 use fluid_rules::{Limits, is_counted};
@@ -169,9 +169,9 @@ impl Document {
             waiting.new.items ≡ waiting.old.items ++ entry_line (raw.now, verdict l raw.now)) }
         ensures kept { OnErr result (waiting.new.items ≡ waiting.old.items) }
     {
-        let entry = self.core.prepare_entry(alloc, raw)?;
-        push_line(alloc, waiting, raw, entry.verdict())?;
-        take_in(&mut self.core, entry);
+        let ready = self.core.prepare(alloc, raw)?;
+        push_line(alloc, waiting, raw, ready.verdict())?;
+        take_in(&mut self.core, ready);
         if is_counted(raw) {
             self.counted += 1;
         }
@@ -180,13 +180,13 @@ impl Document {
 }
 
 // Enters what was prepared. Its verdict was told before.
-fn take_in(core: &mut Core, entry: CoreEntry)
-    requires { IsPreparedIn core.old entry }
-    ensures stands { (raw : Raw) (l : Ledger) → entry ≡ prepared core.old.state raw →
+fn take_in(core: &mut Core, ready: CoreReady)
+    requires { IsPreparedIn core.old ready }
+    ensures stands { (raw : Raw) (l : Ledger) → ready ≡ prepared core.old.state raw →
         StandsFor core.old.state l → StandsFor core.new.state (with_entry l raw) }
     ensures one_more { core.new.state.sequencer.sequence ≤ core.old.state.sequencer.sequence + 1 }
 {
-    core.enter(entry);
+    drop(core.commit(ready));
 }
 
 // Puts the line of a verdict, with its end, behind what waits.

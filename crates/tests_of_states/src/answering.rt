@@ -1,6 +1,7 @@
 // The scribe: small orders, and what is told of them.
 use crate::texts::{PROPOSAL, message};
 use fluid_codec::read_message;
+use fluid_quorum::ScribeState;
 use fluid_scribe::{Answer, Scribe, SummaryRule};
 use fluid_tree::{Id, Node};
 use fluid_types::Message;
@@ -63,8 +64,8 @@ enum Step {
     Blob(&'static str, &'static str),
     // How many summaries were acknowledged; the handle and the number of the last.
     Acks(usize, &'static str, u64),
-    // How many messages were taken.
-    Number(u64),
+    // It is taken apart and put together again.
+    Renew,
 }
 
 fn id(rt: &impl Abort, text: &str) -> Id {
@@ -73,17 +74,35 @@ fn id(rt: &impl Abort, text: &str) -> Id {
 
 fn commit(rt: &impl Abort, alloc: Global, scribe: &mut Scribe, message: &Message) {
     let ready = scribe.prepare(alloc, message).expect(rt, "memory");
-    assert!(rt; ready.message().number == message.number);
     scribe.commit(ready);
+}
+
+// What is prepared and not committed changes nothing.
+fn leave(rt: &impl Abort, alloc: Global, scribe: &mut Scribe, message: &Message) {
+    let ready = scribe.prepare(alloc, message).expect(rt, "memory");
+    drop(ready);
+}
+
+fn renew(rt: &impl Abort, alloc: Global, scribe: &mut Scribe) {
+    let state = scribe.parts(alloc).expect(rt, "memory");
+    let ScribeState {
+        base,
+        behind,
+        minima,
+        pending,
+        acks,
+    } = state;
+    *scribe = Scribe::of_parts(base, behind, minima, pending, acks);
 }
 
 fn take_text(rt: &impl Abort, alloc: Global, scribe: &mut Scribe, text: &str) {
     let message = read_message(alloc, text).expect(rt, "a message");
+    leave(rt, alloc, scribe, &message);
     commit(rt, alloc, scribe, &message);
     drop(message);
 }
 
-// The minimum of each message is two below its number.
+// The minimum of each message is two below its number, and 18 at most: the reference of each summarize is behind it.
 fn take(
     rt: &impl Abort,
     alloc: Global,
@@ -98,7 +117,7 @@ fn take(
     } else {
         ""
     };
-    let numbers = (number, number.saturating_sub(2));
+    let numbers = (number, number.saturating_sub(2).min(18));
     let text = message(rt, alloc, numbers, kind, reference, contents, data);
     take_text(rt, alloc, scribe, text.as_str());
     drop(text);
@@ -210,13 +229,18 @@ fn make(rt: &impl Abort, alloc: Global, scribe: &mut Scribe, step: &Step) {
             );
         }
         Step::Acks(count, handle, number) => assert_acks(rt, scribe, *count, *handle, *number),
-        Step::Number(number) => assert!(rt; scribe.number() == *number, "{number} messages"),
+        Step::Renew => renew(rt, alloc, scribe),
     }
 }
 
+// The steps, and the same once more with a scribe that is taken apart behind each of them.
 fn assert_steps(rt: &impl Abort, alloc: Global, scribe: &mut Scribe, steps: &[Step]) {
     for step in steps {
         make(rt, alloc, scribe, step);
+    }
+    for step in steps {
+        make(rt, alloc, scribe, step);
+        renew(rt, alloc, scribe);
     }
 }
 
@@ -230,6 +254,7 @@ const MISSING: Told = Told::Refused(SummaryRule::Missing);
 
 // Contents may be a text. The state is that at the reference. Only the pending summarize is answered.
 const FIRST_SUMMARIES: &[Step] = &[
+    Step::Fresh,
     Step::NoJob,
     Step::Ask(1, true, Told::Dropped),
     Step::Begin(PROPOSAL),
@@ -317,23 +342,21 @@ const LAST_SUMMARIES: &[Step] = &[
     Step::Ask(29, false, OLD),
 ];
 
-// Messages are taken with any numbers.
+// Messages are taken with any numbers; those between that don't stand there say nothing.
 const ANY_NUMBERS: &[Step] = &[
     Step::Fresh,
+    Step::Renew,
     Step::Take(40, "summarize", 30, PROPOSAL),
-    Step::Number(1),
     Step::Job(40, 30, EMPTY_TREE, true),
     Step::Blob(
         "attributes",
-        r#"{"minimumSequenceNumber":0,"sequenceNumber":0}"#,
+        r#"{"minimumSequenceNumber":0,"sequenceNumber":30}"#,
     ),
     Step::Ask(40, false, MISSING),
     Step::Ask(1, true, Told::Dropped),
     Step::Take(0, "summarize", 0, "null"),
-    Step::Number(2),
     Step::Ask(40, false, MISSING),
     Step::Take(7, "summaryNack", -1, REFUSAL_OF_40),
-    Step::Number(3),
     Step::Ask(40, false, Told::Dropped),
     Step::Ask(0, true, MALFORMED),
 ];

@@ -1,7 +1,7 @@
 // Sequencer and scribe together: two summaries, from their summarize messages to their answers.
 use crate::texts::{Entry, record};
 use fluid_codec::read_raw;
-use fluid_core::Core;
+use fluid_core::{Core, CoreParts};
 use fluid_tree::Id;
 use fluid_types::{Kind, Raw, Verdict};
 use std::alloc::Global;
@@ -26,9 +26,9 @@ fn what_shows(verdict: &Verdict) -> Shown {
 // What would come of an entry, which isn't entered.
 fn left(rt: &impl Abort, alloc: Global, core: &mut Core, raw: &Raw) -> Shown {
     assert!(rt; core.seq() < 1000 && raw.is_in_range());
-    let entry = core.prepare_entry(alloc, raw).expect(rt, "memory");
-    let shown = what_shows(entry.verdict());
-    drop(entry);
+    let ready = core.prepare(alloc, raw).expect(rt, "memory");
+    let shown = what_shows(ready.verdict());
+    drop(ready);
     shown
 }
 
@@ -98,18 +98,33 @@ const STORY: &[(Entry, Shown, Pending)] = &[
     (Entry::Leave("A"), Some((Kind::Leave, 6, 6)), None),
 ];
 
+// Takes a core apart and puts it together again.
+fn renew(rt: &impl Abort, alloc: Global, core: &mut Core) {
+    let CoreParts { sequencer, scribe } = core.parts(alloc).expect(rt, "memory");
+    *core = Core::of_parts(sequencer, scribe);
+}
+
+fn enter_all(rt: &impl Abort, alloc: Global, core: &mut Core, renews: bool) {
+    for (entry, wanted, waits) in STORY {
+        if renews {
+            renew(rt, alloc, core);
+        }
+        assert_entered(rt, alloc, core, entry, *wanted);
+        assert!(rt;
+            pending(rt, alloc, core) == *waits,
+            "behind {wanted:?}"
+        );
+    }
+}
+
 #[test]
 fn a_pending_summarize_is_answered_once(rt: HostRuntime) {
     let alloc = rt.alloc();
     let mut core = Core::new(alloc);
     assert!(rt; core.seq() == 0 && core.min() == 0 && acknowledged(&rt, &core).is_none());
-    for (entry, wanted, waits) in STORY {
-        assert_entered(&rt, alloc, &mut core, entry, *wanted);
-        assert!(rt;
-            pending(&rt, alloc, &mut core) == *waits,
-            "behind {wanted:?}"
-        );
-    }
+    enter_all(&rt, alloc, &mut core, true);
+    core = Core::new(alloc);
+    enter_all(&rt, alloc, &mut core, false);
     assert!(rt; core.seq() == 6 && core.min() == 6 && core.clients().count() == 0);
     let version = Id::read(VERSION).expect(&rt, "an id");
     assert!(rt; acknowledged(&rt, &core) == Some((version, 3)));

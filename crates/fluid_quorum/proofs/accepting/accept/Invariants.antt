@@ -11,6 +11,7 @@ invariant-loop-proposal l = record {
   finite : (goal.iterator-loop-proposal).is_finite l.proposal-iterator;
   order : IsInKeyOrder l.values.items;
   room : vec_len l.values + drain_len l.proposal-iterator ≤ vec_capacity l.values;
+  grown : vec_len l.values + drain_len l.proposal-iterator + vec_capacity l.fn.values ≤ vec_len l.fn.values + l.fn.due + vec_capacity l.values;
   values : fold (with_accepted l.approval) (values_of l.values.items) (drain_items l.proposal-iterator) ≡ fold (with_accepted l.approval) (values_of l.fn.values.items) (take l.fn.due l.fn.pending.items);
   kept : drain_kept l.proposal-iterator ≡ drop l.fn.due l.fn.pending.items;
 }

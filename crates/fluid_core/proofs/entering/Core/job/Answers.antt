@@ -1,6 +1,11 @@
-use Rattle.fluid_core.proofs.Jobs.{job_sequenced, is_this}
+use Rattle.std.proofs.Common.{◌≡◌, ◌∙◌, ap, rules}
+use Rattle.fluid_core.specs.Entering.{on_order, job_of}
+use Rattle.fluid_core.proofs.Jobs.{stands-job}
 use Rattle.fluid_core.proofs.entering.Core.job.Goals as goal
 
-pub returns-clause-sequenced : goal.returns-clause-sequenced
-returns-clause-sequenced c =
-    rw (← c.self.view_is) (is_this _ c.job.result _ (c.job.ensures.job c.self.invariant.first) (job_sequenced _ c.self.invariant))
+pub returns-clause-job : goal.returns-clause-job
+unfolding job_of
+returns-clause-job c = search rules
+
+pub returns-clause-stands : goal.returns-clause-stands
+returns-clause-stands c = λ ledger stands. returns-clause-job c ∙ stands-job _ ledger stands

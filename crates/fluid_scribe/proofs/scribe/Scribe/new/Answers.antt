@@ -1,8 +1,9 @@
-use Rattle.fluid_scribe.proofs.Kept.{start-kept, start-stands}
+use Rattle.std.proofs.Common.{rules}
+use Rattle.fluid_scribe.proofs.Taken.{stands-start}
 use Rattle.fluid_scribe.proofs.scribe.Scribe.new.Goals as goal
 
-pub invariant_of-result : goal.invariant_of-result
-invariant_of-result c = rw (c.new.ensures.items, c.new-2.ensures.items, c.new-3.ensures.items) start-kept
+pub returns-clause-start : goal.returns-clause-start
+returns-clause-start c = search rules
 
 pub returns-clause-stands : goal.returns-clause-stands
-returns-clause-stands c = rw c.new.ensures.items (start-stands _)
+returns-clause-stands c = stands-start _ (returns-clause-start c)

@@ -8,7 +8,7 @@ pub returns-then-is_counted-clause-entered : goal.returns-then-is_counted-clause
 returns-then-is_counted-clause-entered c =
     λ limits l stands. record {
       limited = stands.limited;
-      core = c.take_in.ensures.stands _ l (rw c.prepare_entry.ensures.same c.in_ok-entry.ensures.entry) (rw c.prepare_entry.ensures.same stands.core);
+      core = c.take_in.ensures.stands _ l (rw c.prepare.ensures.same c.in_ok-ready.ensures.ready) (rw c.prepare.ensures.same stands.core);
       counted = ap (λ n. n + 1) stands.counted ∙ sym (counted-entry l _ _ _ (sym c.is_counted.ensures ∙ c.if-is_counted.true));
     }
 
@@ -16,7 +16,7 @@ pub returns-else-is_counted-clause-entered : goal.returns-else-is_counted-clause
 returns-else-is_counted-clause-entered c =
     λ limits l stands. record {
       limited = stands.limited;
-      core = c.take_in.ensures.stands _ l (rw c.prepare_entry.ensures.same c.in_ok-entry.ensures.entry) (rw c.prepare_entry.ensures.same stands.core);
+      core = c.take_in.ensures.stands _ l (rw c.prepare.ensures.same c.in_ok-ready.ensures.ready) (rw c.prepare.ensures.same stands.core);
       counted = stands.counted ∙ sym (counted-entry l _ _ _ (sym c.is_counted.ensures ∙ c.if-is_counted.false) ∙ add-zero (counted l));
     }
 
@@ -24,10 +24,10 @@ pub returns-then-is_counted-clause-line : goal.returns-then-is_counted-clause-li
 returns-then-is_counted-clause-line c =
     λ l stands.
     c.in_ok-push_line.ensures.ok
-    ∙ ap (λ v. c.args.waiting.now.items ++ entry_line (c.args.raw.now, v)) (c.verdict.ensures ∙ c.in_ok-entry.ensures.verdict l stands)
+    ∙ ap (λ v. c.args.waiting.now.items ++ entry_line (c.args.raw.now, v)) (c.verdict.ensures ∙ c.in_ok-ready.ensures.verdict l stands)
 
 pub returns-else-is_counted-clause-line : goal.returns-else-is_counted-clause-line
 returns-else-is_counted-clause-line c =
     λ l stands.
     c.in_ok-push_line.ensures.ok
-    ∙ ap (λ v. c.args.waiting.now.items ++ entry_line (c.args.raw.now, v)) (c.verdict.ensures ∙ c.in_ok-entry.ensures.verdict l stands)
+    ∙ ap (λ v. c.args.waiting.now.items ++ entry_line (c.args.raw.now, v)) (c.verdict.ensures ∙ c.in_ok-ready.ensures.verdict l stands)

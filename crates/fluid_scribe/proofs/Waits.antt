@@ -1,0 +1,83 @@
+-- Summarize messages that wait.
+use Rattle.std.proofs.Common.{◌≡◌, ℕ, suc, ◌-◌, ◌^◌, ◌<◌, ◌≤◌, ◌==◌, arith, Bool, true, false, not, ◌&&◌, ◌||◌, if◌then◌else◌, List, [], ◌∷◌, ◌++◌, length, min, fold, Option, Some, None, refl, sym, ap, ◌∙◌}
+use Rattle.std.specs.Prelude.{filter, slice_get, slice_index_or, option_to_list}
+use Rattle.std.specs.List.{last_or}
+use Rattle.std.proofs.lemmas.List.Sums.{fold-append}
+use Rattle.fluid_types.specs.declared.messages.Kind.{Kind}
+use Rattle.fluid_types.specs.declared.messages.Kind.TheVariants.{Op, Noop, Propose, Reject, Summarize, Join, Leave, SummaryAck, SummaryNack}
+use Rattle.fluid_types.specs.declared.messages.Message.{Message}
+use Rattle.fluid_rules.specs.Scribe.{is_summarize, answered_by, reference_of, unless_answered}
+use Rattle.fluid_rules.specs.ScribeLaws.{unanswered_by, waiting_behind}
+use Rattle.fluid_scribe.specs.State.{is_heard, heard, least_with}
+use Rattle.fluid_scribe.proofs.Grown.{least-within}
+use Rattle.fluid_scribe.specs.Scribing.{kept_of, unanswered_at, heard_in, summarize_in}
+
+filter_all : {X : Type 0} (xs : List X) → filter (λ x. true) xs ≡ xs
+filter_all [] = refl
+filter_all (x ∷ xs) = ap (λ rest. x ∷ rest) (filter_all xs)
+
+-- those that are left behind a message
+pub left-behind : (m : Message) (o : Option ℕ) (waiting : List Message) → answered_by m ≡ o → unanswered_at o waiting ≡ unanswered_by m waiting
+left-behind m None waiting is = rw is (sym (filter_all waiting))
+left-behind m (Some n) waiting is = rw is refl
+
+-- what was kept of a message
+by_kind : (kind : Kind) (m : Message) → m.kind ≡ kind → (option_to_list (heard_in (kept_of m)) ≡ heard (m ∷ [])) × (option_to_list (summarize_in (kept_of m)) ≡ unless_answered [] m)
+by_kind Op m is = rw is (refl, refl)
+by_kind Noop m is = rw is (refl, refl)
+by_kind Propose m is = rw is (refl, refl)
+by_kind Reject m is = rw is (refl, refl)
+by_kind Summarize m is = rw is (refl, refl)
+by_kind Join m is = rw is (refl, refl)
+by_kind Leave m is = rw is (refl, refl)
+by_kind SummaryAck m is = rw is (refl, refl)
+by_kind SummaryNack m is = rw is (refl, refl)
+
+pub kept-heard : (m : Message) → option_to_list (heard_in (kept_of m)) ≡ heard (m ∷ [])
+kept-heard m = (by_kind m.kind m refl).0
+
+pub kept-waits : (m : Message) → option_to_list (summarize_in (kept_of m)) ≡ unless_answered [] m
+kept-waits m = (by_kind m.kind m refl).1
+
+-- ---- the least reference
+
+pub least-min : (ws : List Message) (a b : ℕ) → least_with (min a b) ws ≡ min a (least_with b ws)
+least-min [] a b = refl
+least-min (w ∷ ws) a b = ap (λ n. least_with n ws) (min_assoc a b (reference_of w)) ∙ least-min ws a (min b (reference_of w))
+  where
+    min_assoc : (x y z : ℕ) → min (min x y) z ≡ min x (min y z)
+    min_assoc x y z = omega arith
+
+-- with the minimum
+pub least-of : (ws : List Message) (minimum top : ℕ) → minimum ≤ top → least_with minimum ws ≡ min minimum (least_with top ws)
+least-of ws minimum top le = ap (λ n. least_with n ws) (sym (low minimum top le)) ∙ least-min ws minimum top
+  where
+    low : (x y : ℕ) → x ≤ y → min x y ≡ x
+    low x y h = omega (arith, h)
+
+-- with one more
+pub least-more : (ws : List Message) (o : Option Message) (top : ℕ) → least_with top (ws ++ option_to_list o) ≡ min (least_with top ws) (least_with top (option_to_list o))
+least-more ws o top =
+    fold-append (λ least m. min least (reference_of m)) top ws (option_to_list o) ∙ one o (least_with top ws) (below ws top)
+  where
+    below : (us : List Message) (n : ℕ) → least_with n us ≤ n
+    below us n = least-within us n
+    one : (p : Option Message) (n : ℕ) → n ≤ top → least_with n (option_to_list p) ≡ min n (least_with top (option_to_list p))
+    one None n le = omega (arith, le)
+    one (Some m) n le = omega (arith, le)
+
+-- the last item
+pub last_at : {X : Type 0} (o : Option X) (xs : List X) (x : X) → last_or o (x ∷ xs) ≡ slice_get (x ∷ xs) (length xs)
+last_at o [] x = refl
+last_at o (y ∷ xs) x = last_at (Some x) xs y
+
+pub last_is : {X : Type 0} (xs : List X) → slice_get xs (length xs - 1) ≡ last_or None xs
+last_is [] = refl
+last_is (x ∷ xs) = let e : length (x ∷ xs) - 1 ≡ length xs = omega arith in rw e (sym (last_at None xs x))
+
+pub back-is : {X : Type 0} (o : Option X) (xs : List X) (x : X) → 0 < length xs → x ≡ slice_index_or xs (length xs - 1) x → last_or o xs ≡ Some x
+back-is o [] x lt is = absurd (omega (arith, lt))
+back-is o (y ∷ []) x lt is = ap Some (sym is)
+back-is o (y ∷ (z ∷ zs)) x lt is =
+    let e : length (y ∷ (z ∷ zs)) - 1 ≡ suc (length (z ∷ zs) - 1) = omega arith in
+    back-is (Some y) (z ∷ zs) x (omega arith) (rw e at is)
