@@ -3,3 +3,7 @@ mod Maps
 mod Places
 pub mod Laws
 pub mod Down
+mod Winners
+mod Played
+mod Without
+mod Grown
