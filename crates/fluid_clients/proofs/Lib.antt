@@ -1,9 +1,8 @@
-mod Entries
-mod Maps
-mod Places
-pub mod Laws
-pub mod Down
 mod Winners
 mod Played
 mod Without
 mod Grown
+mod Indexed
+mod Kept
+pub mod Down
+pub mod Laws

@@ -1,6 +1,10 @@
 -- Which of the values in slots is the least.
 use Rattle.std.specs.Prelude.{◌≡◌, ℕ, ◌≤◌, List, Option, None, Some, slice_index_or}
 
+-- a number is its own rank
+abbrev pub itself : ℕ → ℕ
+itself n = n
+
 module _ {X : Type 0} where
   -- the slot holds the value
   abbrev pub Holds : List (Option X) → ℕ → X → Type 0

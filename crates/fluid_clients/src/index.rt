@@ -1,6 +1,6 @@
 //! A tournament: the least of values in slots, in a number of comparisons that grows with the logarithm of the slots.
-ghost use Rattle.std.specs.Prelude.{◌≡◌, ℕ, ◌+◌, ◌-◌, ◌*◌, ◌^◌, ◌<◌, ◌≤◌, ◌++◌, ◌∷◌, [], None, Some, OnOk, OnErr, IsTrue, ◌↔◌, length, nat_lt, option_map, slice_index_or, slice_set};
-ghost use Rattle.fluid_clients.specs.Index.{Holds, IsLeastHeld};
+ghost use Rattle.std.specs.Prelude.{◌≡◌, ℕ, ◌+◌, ◌-◌, ◌*◌, ◌^◌, ◌<◌, ◌≤◌, ◌++◌, ◌∷◌, [], None, Some, IfOk, OnOk, OnErr, IsTrue, ◌↔◌, length, nat_lt, option_map, slice_index_or, slice_set};
+ghost use Rattle.fluid_clients.specs.Index.{IsLeastHeld, itself};
 ghost use Rattle.fluid_clients.specs.Rounds.{IsTournament, IsTournamentBut, IsHeld, IsPick, IsBestWithout, IsShaped, HasRoom, IsNeighbour, root_of, held_by, IsHigh};
 
 use crate::round::Round;
@@ -20,6 +20,16 @@ pub trait Rank {
     fn before<L: Ledger>(&self, other: &Self, steps: &mut Steps<L>) -> bool
         ensures answer { result ≡ nat_lt (number self.now) (number other.now) }
         ensures step { steps.new ≡ steps.old + 1 };
+}
+
+/// A number is ranked by itself.
+impl Rank for u64 {
+    ghost number = { itself };
+
+    fn before<L: Ledger>(&self, other: &u64, steps: &mut Steps<L>) -> bool {
+        steps.tick();
+        *self < *other
+    }
 }
 
 /// Slots, each with a value or none, and which value is the least. Contracts see the slots.
@@ -109,6 +119,23 @@ impl<T: Rank + Drop> Least<T> {
         heighten(&self.slots, &mut self.rounds)?;
         self.slots.push(None)?;
         Ok(())
+    }
+}
+
+impl<T: Rank + Copy + Drop> Least<T> {
+    /// The same slots once more, with their own memory. It compares nothing.
+    pub fn copy(&self, alloc: Global) -> Result<Least<T>, NoMemory>
+        ensures { IfOk result (λ copy. copy ≡ self.now) }
+    {
+        let mut slots = Vec::with_capacity(alloc, self.slots.len())?;
+        for value in &self.slots {
+            slots.push(*value)?;
+        }
+        let mut rounds = Vec::with_capacity(alloc, self.rounds.len())?;
+        for round in &self.rounds {
+            rounds.push(round.copy(alloc)?)?;
+        }
+        Ok(Least { slots, rounds })
     }
 }
 

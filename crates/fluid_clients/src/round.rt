@@ -63,4 +63,14 @@ impl Round {
         }
         Ok(())
     }
+
+    pub(crate) fn copy(&self, alloc: Global) -> Result<Round, NoMemory>
+        ensures { IfOk result (λ copy. copy ≡ self.now) }
+    {
+        let mut nodes = Vec::with_capacity(alloc, self.nodes.len())?;
+        for node in &self.nodes {
+            nodes.push(*node)?;
+        }
+        Ok(Round { nodes })
+    }
 }
