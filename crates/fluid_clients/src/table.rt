@@ -342,10 +342,10 @@ fn put_each_down<L: Ledger>(
     let mut steps = Steps::<L>::new(blank);
     for at in 0..seats.len() {
         let seat = &mut seats[at];
-        let reference = seat.row.reference.min(most);
-        seat.row.reference = reference;
+        let lowered = seat.row.reference.min(most);
+        seat.row.reference = lowered;
         let slot = seat.slot;
-        index.set(slot, reference, &mut steps);
+        index.set(slot, lowered, &mut steps);
     }
 }
 

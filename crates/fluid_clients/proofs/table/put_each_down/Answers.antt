@@ -25,8 +25,8 @@ loop-at-preserved g c =
     let slot : s.slot ≡ (get_or seats at s).slot = ap (λ (seat : Seat). seat.slot) read in
     let indexed = reseated seats c.loop-at.index c.args.free.now at s c.loop-at.invariant.1 lt (down s) slot in
     let written : set c.loop-at.index (get_or seats at s).slot (Some (down s).row.reference) ≡ c.set.new.self =
-    sym (c.set.ensures.set ∙ ap (λ i. set c.loop-at.index i (Some c.min-reference.result)) slot ∙ ap (λ n. set c.loop-at.index (get_or seats at s).slot (Some n)) c.min-reference.ensures) in
-    rw c.min-reference.ensures (
+    sym (c.set.ensures.set ∙ ap (λ i. set c.loop-at.index i (Some c.min-lowered.result)) slot ∙ ap (λ n. set c.loop-at.index (get_or seats at s).slot (Some n)) c.min-lowered.ensures) in
+    rw c.min-lowered.ensures (
       done,
       subst (λ i. IsIndexed (set seats at (down s)) i c.args.free.now) written indexed,
       c.loop-at.invariant.2,
