@@ -4,7 +4,10 @@ use Rattle.std.specs.Ordering.{is_lt, eq_by_cmp}
 use Rattle.std.proofs.lemmas.Option.{none-some, same_Some}
 use Rattle.std.specs.FinMap.{entries, entries_sorted, entries-from_sorted, get, get-entries, get-from_sorted, same_map}
 use Rattle.std.specs.FinMap.Entries.{below_all, find, is_sorted}
+use Rattle.fluid_table.specs.Keyed.{pairs_of, IsInOrder, table_of}
 use Rattle.fluid_clients.specs.declared.table.Row.{Row}
+use Rattle.fluid_clients.specs.declared.table.Seat.{Seat}
+use Rattle.fluid_clients.specs.Seats.{id_of, row_of, seat_up_to}
 use Rattle.fluid_clients.specs.Table.{byte_order, Rows, rows_of, row_up_to, rows_up_to}
 use Rattle.fluid_table.proofs.Places.{holds, byte_order_total, byte_order-IsAntisymmetric}
 
@@ -36,15 +39,6 @@ module _ {A : Type 0} (f : A → A) where
       ap (λ ys. set ys i (f (get_or ys i d))) is
       ∙ ap (λ x. set (done_to i xs) i (f x)) (not_yet xs i d)
       ∙ next xs i d lt ∙ again
-
--- a slice that was written back whole
-pub written_back : {A : Type 0} (n : ℕ) (new old : List A) → length new ≡ length old → n ≡ length old → take n (new ++ drop (length new) old) ≡ new
-written_back zero [] [] same len = refl
-written_back (suc n) [] [] same len = absurd (omega arith)
-written_back n [] (y ∷ old) same len = absurd (omega arith)
-written_back n (x ∷ new) [] same len = absurd (omega arith)
-written_back zero (x ∷ new) (y ∷ old) same len = absurd (omega arith)
-written_back (suc n) (x ∷ new) (y ∷ old) same len = ap (λ rest. x ∷ rest) (written_back n new old (omega arith) (omega arith))
 
 -- ---- rows with no reference above a number
 
@@ -93,8 +87,13 @@ module _ (most : ℕ) where
   pub rows_up_to-low : (rows : Rows) (id : List ℕ) (row : Row) → get (rows_up_to most rows) id ≡ Some row → row.reference ≤ most
   rows_up_to-low rows id row is = low_found (get rows id) row (sym (get-rows_up_to rows id) ∙ is)
 
-  pub in_order_down : (es now : List (List ℕ × Row)) → now ≡ down es → IsTrue (is_sorted byte_order es) → IsTrue (is_sorted byte_order now)
-  in_order_down es now is h = ap (is_sorted byte_order) is ∙ sorted_down es ∙ h
+  -- seats whose rows are so
+  pairs_down : (seats : List Seat) → pairs_of id_of row_of (map (seat_up_to most) seats) ≡ down (pairs_of id_of row_of seats)
+  pairs_down [] = refl
+  pairs_down (seat ∷ seats) = ap (λ rest. (seat.id, row_up_to most seat.row) ∷ rest) (pairs_down seats)
 
-  pub rows_down : (es now : List (List ℕ × Row)) → now ≡ down es → IsTrue (is_sorted byte_order es) → rows_of now ≡ rows_up_to most (rows_of es)
-  rows_down es now is h = ap rows_of is ∙ ap (λ l. rows_of (down l)) (sym (entries-from_sorted byte_order es (holds _ h)))
+  pub in_order_down : (seats : List Seat) → IsInOrder id_of row_of seats → IsInOrder id_of row_of (map (seat_up_to most) seats)
+  in_order_down seats h = ap (is_sorted byte_order) (pairs_down seats) ∙ sorted_down (pairs_of id_of row_of seats) ∙ h
+
+  pub rows_down : (seats : List Seat) → IsInOrder id_of row_of seats → table_of id_of row_of (map (seat_up_to most) seats) ≡ rows_up_to most (table_of id_of row_of seats)
+  rows_down seats h = ap rows_of (pairs_down seats) ∙ ap (λ l. rows_of (down l)) (sym (entries-from_sorted byte_order (pairs_of id_of row_of seats) (holds _ h)))

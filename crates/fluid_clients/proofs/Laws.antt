@@ -2,19 +2,53 @@
 use Rattle.std.proofs.lemmas.Bool.{false≢true, cases_lt}
 use Rattle.std.proofs.lemmas.Option.{none-some, same_Some}
 use Rattle.std.specs.declared.cmp.Ordering.{Ordering}
-use Rattle.std.proofs.Common.{suc, ◌<◌, ◌≤◌, Bool, true, false, cond, ◌⊎◌, inl, inr, Option, None, is_some, length, get_or, ◌≡◌, ℕ, not, T, List, [], ◌∷◌, Some, map, min, fold, refl, sym, ap, ◌∙◌, arith}
+use Rattle.std.proofs.Common.{suc, ◌<◌, ◌≤◌, Bool, true, false, cond, ◌⊎◌, inl, inr, Option, None, is_some, length, get_or, ◌≡◌, ℕ, not, T, List, [], ◌∷◌, Some, map, min, fold, refl, sym, ap, subst, ◌∙◌, arith}
 use Rattle.std.specs.List.{reduce}
-use Rattle.std.specs.Ordering.{is_eq, eq_by_cmp}
+use Rattle.std.specs.Ordering.{is_eq, is_lt, eq_by_cmp}
 use Rattle.std.specs.declared.cmp.Ordering.TheVariants.{Less, Equal, Greater}
 use Rattle.std.specs.FinMap as finite
 use Rattle.std.specs.FinMap.{entries, get-entries, get-insert, get-remove, same_map, entries_sorted, entries-insert, entries-from_sorted, same_entries_map}
-use Rattle.std.specs.FinMap.Entries.{by_order, put, where_key, is_sorted, is_sorted-where_key}
+use Rattle.std.specs.FinMap.Entries.{below_all, by_order, put, where_key, is_sorted, is_sorted-where_key}
 use Rattle.fluid_clients.specs.declared.table.Row.{Row}
-use Rattle.fluid_clients.specs.Table.{byte_order, Rows, rows_of, change_row, least, least_with, lesser}
-use Rattle.fluid_clients.proofs.Entries.{find_at, second, others_less, others_equal}
-use Rattle.fluid_clients.proofs.Places.{no_row, Entries, fold_min, least_of_both}
-pub use Rattle.fluid_clients.proofs.Places.{byte_order_total, byte_order-IsAntisymmetric}
-use Rattle.fluid_clients.proofs.Maps.{remove-from_sorted}
+use Rattle.fluid_clients.specs.Table.{byte_order, Rows, rows_of, change_row, least, least_with}
+use Rattle.fluid_table.proofs.Ordered.{both, first, second, less, find_above, find_at, where_at, where_none}
+pub use Rattle.fluid_table.proofs.Places.{byte_order_total, byte_order-IsAntisymmetric}
+use Rattle.fluid_table.proofs.Maps.{remove-from_sorted}
+
+abbrev Entries : Type 0
+Entries = List (List ℕ × Row)
+
+-- a row, to read a place with
+abbrev no_row : Row
+no_row = record { last = 0; reference = 0; nacked = false; scopes = record { read = false; write = false; summary = false }; heard = 0 }
+
+-- the lesser of two numbers, either of which may be missing
+abbrev pub lesser : Option ℕ → Option ℕ → Option ℕ
+lesser None other = other
+lesser (Some one) None = Some one
+lesser (Some one) (Some other) = Some (min one other)
+
+fold_min : (a b : ℕ) (ys : List ℕ) → fold min (min a b) ys ≡ min a (fold min b ys)
+fold_min a b [] = refl
+fold_min a b (y ∷ ys) = ap (λ n. fold min n ys) (omega arith) ∙ fold_min a (min b y) ys
+
+-- the least of a number and others is the lesser of it and the least of them
+least_of_more : (x : ℕ) (ys : List ℕ) → reduce min (x ∷ ys) ≡ lesser (Some x) (reduce min ys)
+least_of_more x [] = refl
+least_of_more x (y ∷ ys) = ap Some (fold_min x y ys)
+
+-- without an id that is below the first entry, or is the first entry's
+below_less : (x y : List ℕ) (es : Entries) → byte_order x y ≡ Less → T (below_all byte_order y es) → T (below_all byte_order x es)
+below_less x y [] p h = tt
+below_less x y (e ∷ es) p h =
+    both _ _ (subst (λ r. T (is_lt r)) (sym (byte_order_total.trans x y e.0 p (less (byte_order y e.0) (first _ _ h)))) tt) (below_less x y es p (second _ _ h))
+
+others_less : (k : List ℕ) (e : List ℕ × Row) (es : Entries) → T (is_sorted byte_order (e ∷ es)) → byte_order k e.0 ≡ Less → where_key byte_order (λ x. not (eq_by_cmp byte_order k x)) (e ∷ es) ≡ e ∷ es
+others_less k e es h p =
+    where_none byte_order_total k (e ∷ es) (find_above byte_order_total k (e ∷ es) (both _ _ (subst (λ r. T (is_lt r)) (sym p) tt) (below_less k e.0 es p (first _ _ h))))
+
+others_equal : (k : List ℕ) (e : List ℕ × Row) (es : Entries) → T (is_sorted byte_order (e ∷ es)) → k ≡ e.0 → where_key byte_order (λ x. not (eq_by_cmp byte_order k x)) (e ∷ es) ≡ es
+others_equal k e es h same = where_at byte_order_total k (e ∷ es) 0 e h (omega arith) (sym same)
 
 -- the references of the rows
 abbrev references : Entries → List ℕ
@@ -33,8 +67,8 @@ module _ (id : List ℕ) (row : Row) where
   least_put_behind a (e ∷ es) h =
       let with_others : Entries → ℕ = λ rest. min row.reference (fold min a (references rest)) in
       elim (byte_order id e.0) as (λ r. byte_order id e.0 ≡ r → fold min a (references (by_order r ((id, row) ∷ e ∷ es) ((e.0, row) ∷ es) (e ∷ put byte_order id row es))) ≡ min row.reference (fold min a (references (others id (e ∷ es))))) [
-        | Less ↦ λ is. swap_min a row.reference (references (e ∷ es)) ∙ ap with_others (sym (others_less byte_order_total id e es h is))
-        | Equal ↦ λ is. swap_min a row.reference (references es) ∙ ap with_others (sym (others_equal byte_order_total id e es h (byte_order-IsAntisymmetric id e.0 is)))
+        | Less ↦ λ is. swap_min a row.reference (references (e ∷ es)) ∙ ap with_others (sym (others_less id e es h is))
+        | Equal ↦ λ is. swap_min a row.reference (references es) ∙ ap with_others (sym (others_equal id e es h (byte_order-IsAntisymmetric id e.0 is)))
         | Greater ↦ λ is. rw is (least_put_behind (min a e.1.reference) es (second _ _ h))
       ] refl
 
@@ -43,8 +77,8 @@ module _ (id : List ℕ) (row : Row) where
   least_put (e ∷ es) h =
       let with_others : Entries → _ = λ rest. lesser (Some row.reference) (reduce min (references rest)) in
       elim (byte_order id e.0) as (λ r. byte_order id e.0 ≡ r → reduce min (references (by_order r ((id, row) ∷ e ∷ es) ((e.0, row) ∷ es) (e ∷ put byte_order id row es))) ≡ lesser (Some row.reference) (reduce min (references (others id (e ∷ es))))) [
-        | Less ↦ λ is. least_of_both (row.reference ∷ []) (references (e ∷ es)) ∙ ap with_others (sym (others_less byte_order_total id e es h is))
-        | Equal ↦ λ is. least_of_both (row.reference ∷ []) (references es) ∙ ap with_others (sym (others_equal byte_order_total id e es h (byte_order-IsAntisymmetric id e.0 is)))
+        | Less ↦ λ is. least_of_more row.reference (references (e ∷ es)) ∙ ap with_others (sym (others_less id e es h is))
+        | Equal ↦ λ is. least_of_more row.reference (references es) ∙ ap with_others (sym (others_equal id e es h (byte_order-IsAntisymmetric id e.0 is)))
         | Greater ↦ λ is. rw is (ap Some (least_put_behind e.1.reference es (second _ _ h)))
       ] refl
 

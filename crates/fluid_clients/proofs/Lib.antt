@@ -1,5 +1,8 @@
-mod Entries
-mod Maps
-mod Places
-pub mod Laws
+mod Winners
+mod Played
+mod Without
+mod Grown
+mod Indexed
+mod Kept
 pub mod Down
+pub mod Laws

@@ -1,2 +1,4 @@
 pub mod Table
-pub mod Place
+pub mod Index
+pub mod Rounds
+pub mod Seats

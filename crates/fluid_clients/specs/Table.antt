@@ -1,8 +1,8 @@
 -- The table of joined clients: a finite map from their ids to their rows.
-use Rattle.std.specs.Prelude.{ℕ, Option, Some, None, List, map, min}
+use Rattle.std.specs.Prelude.{ℕ, ◌+◌, ◌-◌, ◌*◌, ◌^◌, ◌≤◌, Option, Some, None, List, map, min}
 use Rattle.std.specs.List.{reduce}
 use Rattle.std.specs.Option.{option_map_or}
-use Rattle.std.specs.FinMap.{FinMap, entries, from_sorted, get, insert, values, code}
+use Rattle.std.specs.FinMap.{FinMap, entries, from_sorted, get, insert, len, values, code}
 use Rattle.std.specs.Coded.{Coded, code_by, coded×, coded_ℕ, coded_list, coded_bool}
 use Rattle.std.specs.Prelude.{Bool, refl}
 pub use Rattle.fluid_table.specs.Table.{byte_order}
@@ -20,6 +20,10 @@ rows_of = from_sorted
 pub record Table : Type 0 where
   pub rows : Rows
   pub spare : ℕ
+
+-- so many steps that a power of two with them as exponent is at most twice the clients with those for whom there is room
+abbrev pub IsFewSteps : Table → ℕ → ℕ → Type 0
+IsFewSteps table old new = 2 ^ (new - old) ≤ 2 * (len table.rows + table.spare)
 
 -- the least reference among the rows; none where no client is joined
 abbrev pub least : Rows → Option ℕ
@@ -39,12 +43,6 @@ row_up_to most row = record row { reference = min row.reference most }
 
 abbrev pub rows_up_to : ℕ → Rows → Rows
 rows_up_to most rows = rows_of (map (λ entry. (entry.0, row_up_to most entry.1)) (entries rows))
-
--- the lesser of two numbers, either of which may be missing
-abbrev pub lesser : Option ℕ → Option ℕ → Option ℕ
-lesser None other = other
-lesser (Some one) None = Some one
-lesser (Some one) (Some other) = Some (min one other)
 
 -- a row as the tuple of its fields
 abbrev pub row_code : Coded Row

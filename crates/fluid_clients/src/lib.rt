@@ -4,11 +4,17 @@
 //! logarithm of the clients; the least reference is found by a scan.
 //!
 //! - `table`: `Clients` and its `Row`.
+//! - `index`: `Least`, which finds the least of values that have a `Rank`, and `round`, one round of its tournament.
+//! - `steps`: `Steps`, which counts comparisons for contracts alone.
 //! - `state`: `SequencerState`, what a sequencer is made of.
 #![tactic(auto)]
 
+pub mod index;
+mod round;
 mod state;
+mod steps;
 mod table;
 
 pub use state::SequencerState;
+pub use steps::Steps;
 pub use table::{Clients, Row};

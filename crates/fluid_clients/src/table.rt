@@ -1,15 +1,19 @@
-// The rows lie in one vector, in byte order of their ids.
-ghost use Rattle.std.specs.Prelude.{◌≡◌, ◌+◌, ◌<◌, ◌≤◌, IsTrue, IsSome, IfOk, IfErr, IfSome, OnOk, OnErr, is_some, slice_get, None, Some, IsOk, map, min, true};
-ghost use Rattle.std.specs.List.{reduce};
+// The clients stand in byte order of their ids, each with a slot of the index of references.
+ghost use Rattle.std.specs.Prelude.{◌≡◌, ◌+◌, ◌-◌, ◌*◌, ◌^◌, ◌<◌, ◌≤◌, IsTrue, IsSome, IfOk, IfErr, IfSome, OnOk, OnErr, is_some, slice_get, length, map, slice_set, vec_capacity, None, Some, IsOk, true};
 ghost use Rattle.std.specs.Option.{option_copied};
-ghost use Rattle.std.specs.FinMap.{empty, get, insert, remove, len, keys, is_sorted};
-ghost use Rattle.fluid_clients.specs.Table.{byte_order, rows_of, change_row, least, least_with, lesser, row_up_to, rows_up_to};
-ghost use Rattle.fluid_clients.specs.Place.{IsAt, IsGap};
+ghost use Rattle.std.specs.FinMap.{empty, get, insert, remove, len, keys};
+ghost use Rattle.fluid_table.specs.Keyed.{IsInOrder, IsAt, IsGap, table_of};
+ghost use Rattle.fluid_clients.specs.Table.{change_row, least, least_with, rows_up_to, IsFewSteps};
+ghost use Rattle.fluid_clients.specs.Index.{IsLeastHeld, itself};
+ghost use Rattle.fluid_clients.specs.Seats.{id_of, row_of, seat_up_to, IsIndexed, IsKept};
 
+use crate::index::{Least, Rank};
+use crate::steps::Steps;
 use fluid_json::NoMemory;
 use fluid_types::{ClientId, Scopes};
 use std::alloc::Global;
-use std::marker::Model;
+use std::marker::{Brand, Model};
+use std::sync::ledger::{Blank, Ledger};
 
 /// What is kept of one joined client.
 #[derive(Clone, Copy, Debug, PartialEq, Eq)]
@@ -26,24 +30,37 @@ pub struct Row {
     pub heard: u64,
 }
 
+// A joined client with its row, and the slot of the index that has its reference.
+#[derive(Drop)]
+struct Seat {
+    id: ClientId,
+    row: Row,
+    slot: u64,
+}
+
 /// The joined clients with their rows.
 #[derive(Drop)]
 pub struct Clients {
-    rows: Vec<(ClientId, Row)>,
+    seats: Vec<Seat>,
+    // The references, each in the slot of its seat.
+    index: Least<u64>,
+    // The slots without a seat.
+    free: Vec<u64>,
 }
 
 impl Model for Clients {
-    ghost use Rattle.std.specs.Prelude.{IsTrue, vec_len, vec_capacity, ◌-◌};
-    ghost use Rattle.std.specs.FinMap.{is_sorted};
-    ghost use Rattle.fluid_clients.specs.Table.{Table, table_code, byte_order, rows_of};
+    ghost use Rattle.std.specs.Prelude.{length, vec_capacity};
+    ghost use Rattle.fluid_table.specs.Keyed.{table_of};
+    ghost use Rattle.fluid_clients.specs.Table.{Table, table_code};
+    ghost use Rattle.fluid_clients.specs.Seats.{IsKept, id_of, row_of};
 
     ghost Value = { Table };
 
     ghost coded = { table_code };
 
-    ghost view = { λ c. record { rows = rows_of c.rows.items; spare = vec_capacity c.rows - vec_len c.rows } };
+    ghost view = { λ c. record { rows = table_of id_of row_of c.seats.items; spare = length c.free.items } };
 
-    ghost invariant = { λ c. IsTrue (is_sorted byte_order c.rows.items) };
+    ghost invariant = { λ c. IsKept c.seats.items c.index c.free.items (vec_capacity c.seats) (vec_capacity c.free) };
 }
 
 impl Clients {
@@ -52,7 +69,9 @@ impl Clients {
         ensures { result.rows ≡ empty }
     {
         Clients {
-            rows: Vec::new(alloc),
+            seats: Vec::new(alloc),
+            index: Least::new(alloc),
+            free: Vec::new(alloc),
         }
     }
 
@@ -60,15 +79,15 @@ impl Clients {
     pub fn count(&self) -> u64
         ensures { result ≡ len self.now.rows }
     {
-        self.rows.len() as u64
+        self.seats.len() as u64
     }
 
     /// The row under an id; none where it is not joined.
     pub fn row(&self, id: &ClientId) -> Option<&Row>
         ensures { option_copied result ≡ get self.now.rows id.now }
     {
-        match place(&self.rows, id) {
-            Ok(at) => Some(&self.rows[at].1),
+        match place(&self.seats, id) {
+            Ok(at) => Some(&self.seats[at].row),
             Err(_) => None,
         }
     }
@@ -77,28 +96,31 @@ impl Clients {
     pub fn id_at(&self, place: u64) -> Option<&ClientId>
         ensures { option_copied result ≡ slice_get (keys self.now.rows) place }
     {
-        let entry = self.rows.get(place as usize)?;
-        Some(&entry.0)
+        let seat = self.seats.get(place as usize)?;
+        Some(&seat.id)
     }
 
-    /// The least reference; none where nobody is joined.
+    /// The least reference; none where nobody is joined. It compares nothing.
     pub fn min(&self) -> Option<u64>
         ensures { result ≡ least self.now.rows }
     {
-        least(&self.rows)
+        match self.index.least() {
+            Some(reference) => Some(*reference),
+            None => None,
+        }
     }
 
     /// The least reference of the other clients, as if this one had left.
     pub fn min_without(&self, id: &ClientId) -> Option<u64>
         ensures { result ≡ least (remove self.now.rows id.now) }
     {
-        match place(&self.rows, id) {
-            Ok(at) => lesser(least(&self.rows[..at]), least(&self.rows[at + 1..])),
-            Err(_) => least(&self.rows),
+        match place(&self.seats, id) {
+            Ok(at) => least_of_others::<Brand>(&self.index, self.seats[at].slot, Blank::new(1)),
+            Err(_) => self.min(),
         }
     }
 
-    /// The least reference if the row of this client had this one.
+    /// The least reference if the row of this client had this one. It compares along one path of the index.
     pub fn min_with(&self, id: &ClientId, reference: u64) -> u64
         requires { IsSome (get self.now.rows id.now) }
         ensures { Some result ≡ least_with self.now.rows id.now reference }
@@ -110,28 +132,40 @@ impl Clients {
     }
 
     /// Takes a client in. After `NoMemory` the table is as it was, and id and row are gone.
-    pub fn join(&mut self, id: ClientId, row: Row) -> Result<(), NoMemory>
+    pub fn join<L: Ledger>(
+        &mut self,
+        id: ClientId,
+        row: Row,
+        steps: &mut Steps<L>,
+    ) -> Result<(), NoMemory>
         requires { get self.old.rows id ≡ None }
         ensures joined { OnOk result (self.new.rows ≡ insert self.old.rows id row) }
-        ensures unchanged { OnErr result (self.new ≡ self.old) }
+        ensures unchanged { OnErr result ((self.new ≡ self.old) × (steps.new ≡ steps.old)) }
         ensures room { 0 < self.old.spare → IsOk result }
         ensures spare { self.old.spare ≤ self.new.spare + 1 }
+        ensures cost { OnOk result (IsFewSteps self.new steps.old steps.new) }
     {
-        self.rows.reserve(1)?;
-        let at = gap(&self.rows, &id);
-        self.rows.insert(at, (id, row))?;
+        self.reserve()?;
+        let slot = self.free.pop().unwrap();
+        let at = gap(&self.seats, &id);
+        self.index.set(slot, row.reference, steps);
+        self.seats.insert(at, Seat { id, row, slot }).unwrap();
         Ok(())
     }
 
     /// Lets a client go, and says whether it was joined.
-    pub fn leave(&mut self, id: &ClientId) -> bool
+    pub fn leave<L: Ledger>(&mut self, id: &ClientId, steps: &mut Steps<L>) -> bool
         ensures was { result ≡ is_some (get self.old.rows id.now) }
         ensures left { self.new.rows ≡ remove self.old.rows id.now }
         ensures spare { self.old.spare ≤ self.new.spare }
+        ensures cost { IsSome (get self.old.rows id.now) → IsFewSteps self.old steps.old steps.new }
+        ensures none { get self.old.rows id.now ≡ None → steps.new ≡ steps.old }
     {
-        match place(&self.rows, id) {
+        match place(&self.seats, id) {
             Ok(at) => {
-                self.rows.remove(at);
+                let Seat { slot, .. } = self.seats.remove(at);
+                self.index.clear(slot, steps);
+                self.free.push(slot).unwrap();
                 true
             }
             Err(_) => false,
@@ -139,32 +173,50 @@ impl Clients {
     }
 
     /// Writes down what a submission that was sequenced or absorbed says of its client.
-    pub fn accept(&mut self, id: &ClientId, number: u64, reference: u64)
+    pub fn accept<L: Ledger>(
+        &mut self,
+        id: &ClientId,
+        number: u64,
+        reference: u64,
+        steps: &mut Steps<L>,
+    )
         requires joined { IsSome (get self.old.rows id.now) }
         requires room { 0 < self.old.spare }
         ensures accepted { (row : Row) → get self.old.rows id.now ≡ Some row →
             self.new.rows ≡ insert self.old.rows id.now (record row { last = number; reference = reference }) }
         ensures spare { self.old.spare ≤ self.new.spare + 1 }
+        ensures cost { IsFewSteps self.old steps.old steps.new }
     {
-        let at = joined_at(&self.rows, id);
-        let row = &mut self.rows[at].1;
-        row.last = number;
-        row.reference = reference;
+        let at = joined_at(&self.seats, id);
+        let seat = &mut self.seats[at];
+        seat.row.last = number;
+        seat.row.reference = reference;
+        let slot = seat.slot;
+        self.index.set(slot, reference, steps);
     }
 
     /// Marks a client as refused below the minimum, which it is held at from then on.
-    pub fn mark(&mut self, id: &ClientId, number: u64, minimum: u64)
+    pub fn mark<L: Ledger>(
+        &mut self,
+        id: &ClientId,
+        number: u64,
+        minimum: u64,
+        steps: &mut Steps<L>,
+    )
         requires joined { IsSome (get self.old.rows id.now) }
         requires room { 0 < self.old.spare }
         ensures marked { (row : Row) → get self.old.rows id.now ≡ Some row →
             self.new.rows ≡ insert self.old.rows id.now (record row { last = number; reference = minimum; nacked = true }) }
         ensures spare { self.old.spare ≤ self.new.spare + 1 }
+        ensures cost { IsFewSteps self.old steps.old steps.new }
     {
-        let at = joined_at(&self.rows, id);
-        let row = &mut self.rows[at].1;
-        row.last = number;
-        row.reference = minimum;
-        row.nacked = true;
+        let at = joined_at(&self.seats, id);
+        let seat = &mut self.seats[at];
+        seat.row.last = number;
+        seat.row.reference = minimum;
+        seat.row.nacked = true;
+        let slot = seat.slot;
+        self.index.set(slot, minimum, steps);
     }
 
     /// Writes down the moment at which a client was heard of. One that isn't joined has no row.
@@ -172,8 +224,8 @@ impl Clients {
         ensures heard { self.new.rows ≡ change_row id.now (λ row. record row { heard = moment }) self.old.rows }
         ensures spare { self.old.spare ≤ self.new.spare }
     {
-        if let Ok(at) = place(&self.rows, id) {
-            let row = &mut self.rows[at].1;
+        if let Ok(at) = place(&self.seats, id) {
+            let row = &mut self.seats[at].row;
             row.heard = moment;
         }
     }
@@ -183,7 +235,13 @@ impl Clients {
         ensures down { self.new.rows ≡ rows_up_to most self.old.rows }
         ensures spare { self.old.spare ≤ self.new.spare }
     {
-        put_each_down(&mut self.rows, most);
+        put_each_down::<Brand>(
+            &mut self.seats,
+            &mut self.index,
+            &self.free,
+            most,
+            Blank::new(1),
+        );
     }
 
     /// Makes room for one more client.
@@ -191,8 +249,17 @@ impl Clients {
         ensures same { self.new.rows ≡ self.old.rows }
         ensures room { OnOk result (0 < self.new.spare) }
         ensures spare { self.old.spare ≤ self.new.spare }
+        ensures unchanged { OnErr result (self.new ≡ self.old) }
+        ensures free { 0 < self.old.spare → IsOk result }
     {
-        self.rows.reserve(1)?;
+        if !self.free.is_empty() {
+            return Ok(());
+        }
+        let slot = self.index.len();
+        self.seats.reserve(1)?;
+        self.free.reserve(self.seats.len() + 1)?;
+        self.index.grow()?;
+        self.free.push(slot).unwrap();
         Ok(())
     }
 
@@ -200,68 +267,112 @@ impl Clients {
     pub fn copy(&self, alloc: Global) -> Result<Clients, NoMemory>
         ensures { IfOk result (λ copy. copy.rows ≡ self.now.rows) }
     {
-        let mut rows = Vec::with_capacity(alloc, self.rows.len())?;
-        for entry in &self.rows {
-            rows.push((entry.0.copy(alloc)?, entry.1))?;
-        }
-        Ok(Clients { rows })
+        let index = self.index.copy(alloc)?;
+        let seats = copy_seats(alloc, &self.seats, self.index.len() as usize)?;
+        let free = copy_slots(alloc, &self.free, self.index.len() as usize)?;
+        Ok(Clients { seats, index, free })
     }
 }
 
 // Where an id stands, or where it would stand.
-fn place(rows: &[(ClientId, Row)], id: &ClientId) -> Result<usize, usize>
-    requires { IsTrue (is_sorted byte_order rows.now) }
-    ensures found { IfOk result (IsAt rows.now id.now) }
-    ensures absent { IfErr result (IsGap rows.now id.now) }
+fn place(seats: &[Seat], id: &ClientId) -> Result<usize, usize>
+    requires { IsInOrder id_of row_of seats.now }
+    ensures found { IfOk result (IsAt id_of seats.now id.now) }
+    ensures absent { IfErr result (IsGap id_of seats.now id.now) }
 {
-    rows.binary_search_by(|entry| entry.0.cmp(id))
+    seats.binary_search_by(|seat| seat.id.cmp(id))
 }
 
 // Where a joined client stands.
-fn joined_at(rows: &[(ClientId, Row)], id: &ClientId) -> usize
-    requires sorted { IsTrue (is_sorted byte_order rows.now) }
-    requires joined { IsSome (get (rows_of rows.now) id.now) }
-    ensures { IsAt rows.now id.now result }
+fn joined_at(seats: &[Seat], id: &ClientId) -> usize
+    requires order { IsInOrder id_of row_of seats.now }
+    requires joined { IsSome (get (table_of id_of row_of seats.now) id.now) }
+    ensures { IsAt id_of seats.now id.now result }
 {
-    match place(rows, id) {
+    match place(seats, id) {
         Ok(at) => at,
         Err(gap) => gap,
     }
 }
 
 // Where a client that isn't joined would stand.
-fn gap(rows: &[(ClientId, Row)], id: &ClientId) -> usize
-    requires sorted { IsTrue (is_sorted byte_order rows.now) }
-    requires absent { get (rows_of rows.now) id.now ≡ None }
-    ensures { IsGap rows.now id.now result }
+fn gap(seats: &[Seat], id: &ClientId) -> usize
+    requires order { IsInOrder id_of row_of seats.now }
+    requires absent { get (table_of id_of row_of seats.now) id.now ≡ None }
+    ensures { IsGap id_of seats.now id.now result }
 {
-    match place(rows, id) {
+    match place(seats, id) {
         Ok(at) => at,
         Err(gap) => gap,
     }
 }
 
+// The least reference in the other slots.
+fn least_of_others<L: Ledger>(index: &Least<u64>, slot: u64, blank: Blank) -> Option<u64>
+    requires name { blank.name ≡ L.name }
+    requires parts { blank.parts ≡ L.parts }
+    requires some { 0 < blank.parts }
+    requires slot { slot < length index.now }
+    ensures { IsLeastHeld itself (slice_set index.now slot None) result }
+{
+    let mut steps = Steps::<L>::new(blank);
+    match index.least_without(slot, &mut steps) {
+        Some(reference) => Some(*reference),
+        None => None,
+    }
+}
+
 // Puts each reference that is above a number down to it.
-fn put_each_down(rows: &mut [(ClientId, Row)], most: u64)
-    ensures { rows.new ≡ map (λ entry. (entry.0, row_up_to most entry.1)) rows.old }
+fn put_each_down<L: Ledger>(
+    seats: &mut Vec<Seat>,
+    index: &mut Least<u64>,
+    free: &[u64],
+    most: u64,
+    blank: Blank,
+)
+    requires name { blank.name ≡ L.name }
+    requires parts { blank.parts ≡ L.parts }
+    requires some { 0 < blank.parts }
+    requires indexed { IsIndexed seats.old.items index.old free.now }
+    ensures indexed { IsIndexed seats.new.items index.new free.now }
+    ensures down { seats.new.items ≡ map (seat_up_to most) seats.old.items }
+    ensures room { vec_capacity seats.new ≡ vec_capacity seats.old }
+    ensures slots { length index.new ≡ length index.old }
 {
-    for entry in rows.iter_mut() {
-        entry.1.reference = entry.1.reference.min(most);
+    let mut steps = Steps::<L>::new(blank);
+    for at in 0..seats.len() {
+        let seat = &mut seats[at];
+        let lowered = seat.row.reference.min(most);
+        seat.row.reference = lowered;
+        let slot = seat.slot;
+        index.set(slot, lowered, &mut steps);
     }
 }
 
-fn least(rows: &[(ClientId, Row)]) -> Option<u64>
-    ensures { result ≡ reduce min (map (λ entry. entry.1.reference) rows.now) }
+// The seats once more, with room for so many.
+fn copy_seats(alloc: Global, seats: &[Seat], room: usize) -> Result<Vec<Seat>, NoMemory>
+    ensures copied { IfOk result (λ copy. copy.items ≡ seats.now) }
+    ensures room { IfOk result (λ copy. room ≤ vec_capacity copy) }
 {
-    rows.iter().map(|entry| entry.1.reference).min()
+    let mut copy = Vec::with_capacity(alloc, room)?;
+    for seat in seats {
+        copy.push(Seat {
+            id: seat.id.copy(alloc)?,
+            row: seat.row,
+            slot: seat.slot,
+        })?;
+    }
+    Ok(copy)
 }
 
-// The lesser of two numbers, either of which may be missing.
-fn lesser(one: Option<u64>, other: Option<u64>) -> Option<u64>
-    ensures { result ≡ lesser one other }
+// The slots once more, with room for so many.
+fn copy_slots(alloc: Global, slots: &[u64], room: usize) -> Result<Vec<u64>, NoMemory>
+    ensures copied { IfOk result (λ copy. copy.items ≡ slots.now) }
+    ensures room { IfOk result (λ copy. room ≤ vec_capacity copy) }
 {
-    match (one, other) {
-        (Some(one), Some(other)) => Some(one.min(other)),
-        (one, other) => one.or(other),
+    let mut copy = Vec::with_capacity(alloc, room)?;
+    for slot in slots {
+        copy.push(*slot)?;
     }
+    Ok(copy)
 }

@@ -311,6 +311,14 @@ module _ (s : State) (sound : IsSound s) where
     rows = rows_sound s (s.sequence + length (messages_of (verdict_in s answer raw))) sound (omega arith) (change_of s raw (verdict_in s answer raw)) (brings answer raw);
   })
 
+  -- also where no number more may be given
+  pub sound_behind : (answer : Answer) (raw : Raw) (verdict : Verdict) → verdict ≡ verdict_in s answer raw → s.sequence + length (messages_of verdict) ≤ 2 ^ 53 - 1 → IsSound (after s raw verdict)
+  unfolding after
+  sound_behind answer raw verdict is few = subst (λ v. IsSound (after s raw v)) (sym is) (record {
+    few = subst (λ v. s.sequence + length (messages_of v) ≤ 2 ^ 53 - 1) is few;
+    rows = rows_sound s (s.sequence + length (messages_of (verdict_in s answer raw))) sound (omega arith) (change_of s raw (verdict_in s answer raw)) (brings answer raw);
+  })
+
 -- ---- its minimum
 
 pub minimum_sequenced : (s : State) (answer : Answer) (raw : Raw) (verdict : Verdict) (m : Message) → verdict ≡ verdict_in s answer raw → verdict ≡ Sequenced m → m.minimum ≡ minimum (after s raw verdict)

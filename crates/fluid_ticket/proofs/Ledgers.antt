@@ -77,7 +77,7 @@ get-state_of ledger q =
     ∙ ap (λ b. cond b (Some (row_of ledger q)) None) (joined-has ledger q)
     ∙ said_at ledger q (past.membership (past_of ledger) q) refl
 
-sequence-state_of : (ledger : Ledger) → (state_of ledger).sequence ≡ seq ledger
+pub sequence-state_of : (ledger : Ledger) → (state_of ledger).sequence ≡ seq ledger
 unfolding state_of
 sequence-state_of ledger = refl
 

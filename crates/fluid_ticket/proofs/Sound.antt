@@ -3,8 +3,8 @@ use Rattle.std.proofs.Common.{◌≡◌, ℕ, ◌≤◌, min, List, Some, None, 
 use Rattle.std.specs.Option.{unwrap_or}
 use Rattle.std.specs.FinMap.{empty, get, get-empty, insert, remove}
 use Rattle.fluid_clients.specs.declared.table.Row.{Row}
-use Rattle.fluid_clients.specs.Table.{Rows, byte_order, least, lesser}
-use Rattle.fluid_clients.proofs.Laws.{least-insert, least-reached, least-below, least-none, least-there, remove-absent}
+use Rattle.fluid_clients.specs.Table.{Rows, byte_order, least}
+use Rattle.fluid_clients.proofs.Laws.{lesser, least-insert, least-reached, least-below, least-none, least-there, remove-absent}
 use Rattle.fluid_ticket.specs.State.{State, start, minimum, IsSound, IsKept}
 
 pub minimum-le-sequence : (s : State) → IsSound s → minimum s ≤ s.sequence

@@ -15,13 +15,14 @@ use crate::messages::{
 };
 use crate::outcome::{Outcome, outcome_by};
 use crate::ready::{Change, Ready};
-use fluid_clients::{Clients, Row, SequencerState};
+use fluid_clients::{Clients, Row, SequencerState, Steps};
 use fluid_json::{Json, NoMemory};
 use fluid_rules::{Answer, SummaryRule};
 use fluid_tree::Id;
 use fluid_types::{ClientId, Kind, NackRule, Offered, Raw, Scopes, Submission, Verdict};
 use std::alloc::Global;
-use std::marker::Model;
+use std::marker::{Brand, Model};
+use std::sync::ledger::{Blank, Ledger};
 
 // The largest number of the protocol.
 const LARGEST: u64 = (1 << 53) - 1;
@@ -72,6 +73,8 @@ impl Sequencer {
         ensures within { result.state ≡ within_order (record { sequence = sequence; last_minimum = minimum; rows = clients.rows }) }
         ensures sound { IsSound (record { sequence = sequence; last_minimum = minimum; rows = clients.rows }) →
             result.state ≡ record { sequence = sequence; last_minimum = minimum; rows = clients.rows } }
+        ensures stands { (ledger : Ledger) → IsLegal ledger → sequence ≤ 2 ^ 53 - 1 →
+            StandsFor (record { sequence = sequence; last_minimum = minimum; rows = clients.rows }) ledger → StandsFor result.state ledger }
     {
         let sequence = sequence.min(LARGEST);
         let mut clients = clients;
@@ -171,7 +174,7 @@ impl Sequencer {
             (result ≡ verdict_by_rules ledger raw) × StandsFor self.new.state (ledger ++ (raw, result) ∷ []) }
     {
         let (verdict, change) = ready.into_parts();
-        apply(&mut self.clients, change);
+        apply::<Brand>(&mut self.clients, change, Blank::new(1));
         match &verdict {
             Verdict::Sequenced(message) => {
                 self.sequence = message.number;
@@ -443,16 +446,20 @@ fn change_refused(
     }
 }
 
-// Makes a change of the table for which there is room.
-fn apply(clients: &mut Clients, change: Change)
+// Makes a change of the table for which there is room. Nobody counts its steps.
+fn apply<L: Ledger>(clients: &mut Clients, change: Change, blank: Blank)
+    requires name { blank.name ≡ L.name }
+    requires parts { blank.parts ≡ L.parts }
+    requires some { 0 < blank.parts }
     requires fits { CanApply change clients.old }
     ensures { clients.new.rows ≡ changed change clients.old.rows }
 {
+    let mut steps = Steps::<L>::new(blank);
     match change {
         Change::Nothing => {}
-        Change::Joins { id, row } => clients.join(id, row).unwrap(),
+        Change::Joins { id, row } => clients.join(id, row, &mut steps).unwrap(),
         Change::Leaves { id } => {
-            clients.leave(&id);
+            clients.leave(&id, &mut steps);
         }
         Change::Accepts {
             id,
@@ -460,7 +467,7 @@ fn apply(clients: &mut Clients, change: Change)
             reference,
             moment,
         } => {
-            clients.accept(&id, number, reference);
+            clients.accept(&id, number, reference, &mut steps);
             clients.hear(&id, moment);
         }
         Change::Holds {
@@ -469,7 +476,7 @@ fn apply(clients: &mut Clients, change: Change)
             minimum,
             moment,
         } => {
-            clients.mark(&id, number, minimum);
+            clients.mark(&id, number, minimum, &mut steps);
             clients.hear(&id, moment);
         }
         Change::Hears { id, moment } => clients.hear(&id, moment),

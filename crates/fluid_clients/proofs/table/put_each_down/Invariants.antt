@@ -1,8 +1,14 @@
-use Rattle.std.proofs.Common.{◌≡◌}
-use Rattle.fluid_clients.specs.Table.{row_up_to}
+use Rattle.std.proofs.Common.{◌≡◌, ◌+◌, length}
+use Rattle.std.specs.Vec.{vec_capacity}
+use Rattle.fluid_clients.specs.Seats.{seat_up_to, IsIndexed}
 use Rattle.fluid_clients.proofs.Down.{done_to}
 use Rattle.fluid_clients.proofs.table.put_each_down.Given as goal
 
--- the entries so far are down
-abbrev pub invariant-loop-entry : goal.invariant-loop-entry
-invariant-loop-entry l = l.rows ≡ done_to (λ entry. (entry.0, row_up_to l.most entry.1)) l.entry-index l.fn.rows
+-- the seats so far are down, and all are indexed
+abbrev pub invariant-loop-at : goal.invariant-loop-at
+invariant-loop-at g l =
+    (l.seats.items ≡ done_to (seat_up_to l.most) l.at l.fn.seats.items)
+    × IsIndexed l.seats.items l.index l.free
+    × (vec_capacity l.seats ≡ vec_capacity l.fn.seats)
+    × (length l.index ≡ length l.fn.index)
+    × (length l.seats.items ≡ length l.fn.seats.items)

@@ -1,6 +1,11 @@
-use Rattle.std.proofs.Common.{sym, ◌∙◌}
-use Rattle.fluid_clients.proofs.Places.{references_of}
+use Rattle.std.proofs.Common.{Some, None}
+use Rattle.fluid_clients.proofs.Kept.{least-indexed}
 use Rattle.fluid_clients.proofs.table.Clients.min.Goals as goal
 
-pub returns : goal.returns
-returns c = rw (← c.self.view_is) (rw c.deref.ensures.value at c.least.ensures ∙ sym (references_of _ c.self.invariant))
+pub returns-in-Some : goal.returns-in-Some
+returns-in-Some c =
+    rw (← c.self.view_is) (least-indexed c.self.inside.seats.items c.self.inside.index c.self.inside.free.items (Some c.in-Some.reference.now) c.self.invariant.order c.self.invariant.indexed c.in-Some.ensures)
+
+pub returns-in-None : goal.returns-in-None
+returns-in-None c =
+    rw (← c.self.view_is) (least-indexed c.self.inside.seats.items c.self.inside.index c.self.inside.free.items None c.self.invariant.order c.self.invariant.indexed c.in-None.ensures)

@@ -1,8 +1,9 @@
 use Rattle.std.proofs.Common.{ap, ◌∙◌}
-use Rattle.std.specs.FinMap.{from_sorted}
-use Rattle.fluid_clients.specs.Table.{byte_order}
-use Rattle.fluid_clients.proofs.Maps.{from_sorted_nothing}
+use Rattle.fluid_table.specs.Table.{byte_order}
+use Rattle.fluid_table.proofs.Maps.{from_sorted_nothing}
+use Rattle.fluid_clients.proofs.Indexed.{nobody}
+use Rattle.fluid_clients.proofs.Kept.{rows_in}
 use Rattle.fluid_clients.proofs.table.Clients.new.Goals as goal
 
 pub returns : goal.returns
-returns c = ap (from_sorted {R = byte_order}) c.new.ensures.items ∙ from_sorted_nothing byte_order
+returns c = ap rows_in c.new.ensures.items ∙ from_sorted_nothing byte_order

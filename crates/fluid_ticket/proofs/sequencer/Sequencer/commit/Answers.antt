@@ -7,11 +7,11 @@ use Rattle.fluid_ticket.specs.State.{Sequencing, prepared, IsKept, IsSound, afte
 use Rattle.fluid_ticket.proofs.Commits.{can_apply, parts_of, after_sequenced, after_other, sound_after, minimum_sequenced, minimum_other, stands_after}
 use Rattle.fluid_ticket.proofs.sequencer.Sequencer.commit.Goals as goal
 
-pub apply-requires : goal.apply-requires
-apply-requires c =
+pub apply-requires-clause-fits : goal.apply-requires-clause-fits
+apply-requires-clause-fits c =
     let room = rw (← c.self.view_is) at c.requires.room in
     let is = rw (← c.self.view_is) at c.requires.is in
-    record { fits = rw (c.into_parts-verdict.ensures, is) (can_apply _ c.self.inside.clients.spare room c.requires.answer c.requires.raw) }
+    rw (c.into_parts-verdict.ensures, is) (can_apply _ c.self.inside.clients.spare room c.requires.answer c.requires.raw)
 
 pub invariant_of-self : goal.invariant_of-self
 invariant_of-self c =
