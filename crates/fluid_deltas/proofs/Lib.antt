@@ -1,3 +1,4 @@
+mod Paging
 mod Putting
 mod Reading
 mod Slices

@@ -13,7 +13,7 @@ use Rattle.fluid_log.proofs.Sameness.{same_itself, same_twice}
 use Rattle.fluid_types.proofs.Numbers.{numbered_more}
 use Rattle.fluid_deltas.proofs.Telling.{tells_each, tells_both, tells_along}
 
-drop_at : {X : Type 0} (xs : List X) (i : ℕ) (x : X) → slice_get xs i ≡ Some x → drop i xs ≡ x ∷ drop (suc i) xs
+pub drop_at : {X : Type 0} (xs : List X) (i : ℕ) (x : X) → slice_get xs i ≡ Some x → drop i xs ≡ x ∷ drop (suc i) xs
 drop_at [] i x is = absurd (none-some _ is)
 drop_at (y ∷ xs) zero x is = let same : y ≡ x = cc in ap (λ z. z ∷ xs) same
 drop_at (y ∷ xs) (suc i) x is = drop_at xs i x is

@@ -1,10 +1,10 @@
 -- The messages in memory and the deltas as parts of the whole order.
-use Rattle.std.proofs.Common.{◌≡◌, ℕ, zero, suc, ◌+◌, ◌-◌, ◌<◌, ◌≤◌, List, [], ◌∷◌, ◌++◌, length, take, drop, map, min, max, get_or, Option, Result, Ok, Err, refl, sym, ap, subst, ◌∙◌, ⊎_elim, append_assoc, append-nil, length-append, length-drop, length-take, eq-eqb, arith}
+use Rattle.std.proofs.Common.{◌≡◌, ℕ, zero, suc, ◌+◌, ◌-◌, ◌<◌, ◌≤◌, List, [], ◌∷◌, ◌++◌, length, take, drop, map, min, max, get_or, slice_get, Option, Some, None, IfSome, OnOk, Result, Ok, Err, refl, sym, ap, subst, ◌∙◌, ⊎_elim, append_assoc, append-nil, length-append, length-drop, length-take, eq-eqb, arith}
 use Rattle.std.specs.List.{All}
 use Rattle.std.proofs.lemmas.Bool.{cases_lt}
-use Rattle.std.proofs.lemmas.List.{drop-drop, take-map, drop-map, take-append-le, drop-append-le, take-append-drop, map-append, drop_all, take_all}
+use Rattle.std.proofs.lemmas.List.{drop-drop, take-map, drop-map, take-append-le, drop-append-le, take-append-drop, map-append, drop_all, take_all, take_more, drop-take, get_or-drop, get_or-take}
 use Rattle.std.proofs.lemmas.List.Elements.{All-take, All-drop, All-append, All-map, All-from_get_or}
-use Rattle.std.proofs.Math.Seq.{drop-append_seam, take-add}
+use Rattle.std.proofs.Math.Seq.{drop-append_seam, take-append_seam, take-add}
 use Rattle.fluid_types.specs.declared.messages.Message.{Message}
 use Rattle.fluid_types.specs.Printed.{message_printed}
 use Rattle.fluid_io.specs.Causes.{Tells}
@@ -13,10 +13,12 @@ use Rattle.fluid_deltas.specs.declared.fault.DeltaFault.{DeltaFault}
 use Rattle.fluid_deltas.specs.declared.fault.DeltaFault.TheVariants.{DeltaFailed, NoMemory, BadDelta, Worn}
 use Rattle.fluid_types.specs.Order.{AreNumberedFrom, AreFirst}
 use Rattle.fluid_types.proofs.Numbers.{numbered_same, numbered_take, numbered_drop, numbered_append, numbered_more}
-use Rattle.fluid_deltas.specs.Pushed.{Pushed, pushed, IsKeepable, AreInOrder, AreDeltasOf, AreEndOf, StandFor, slice}
+use Rattle.fluid_deltas.specs.Pushed.{Pushed, pushed, IsKeepable, IsFull, DropsPage, AreInOrder, AreDeltasOf, ArePartOf, StandIn, StandFor, slice}
 use Rattle.fluid_deltas.specs.Stored.{delta_message, in_front, then_others, delta_messages}
 use Rattle.fluid_deltas.specs.Ranges.{AreNumbersOf, IsAnswer, IsSlice, held_between, deltas_between, followed_by, range_of}
-use Rattle.fluid_deltas.specs.Flushes.{lacking, put_behind, Puts, PutsFront, AreAll}
+use Rattle.fluid_deltas.specs.Flushes.{lacking, lacking_up_to, put_behind, Puts, PutsFront, PutsAll, AreAll}
+use Rattle.fluid_deltas.proofs.Paging.{take_shorter}
+use Rattle.fluid_deltas.proofs.Reading.{drop_at}
 use Rattle.fluid_deltas.proofs.Telling.{tells_from, tells_both, tells_along, tells_becomes}
 
 -- ---- lists
@@ -38,49 +40,55 @@ join order s e b le =
     ap (λ n. take front (drop s order) ++ take n (drop (max s b) order)) none ∙ sym (parts ∙ ap (λ n. take front (drop s order) ++ take n (drop (s + front) order)) none))
     (cases_lt b e)
 
-drop_min : (xs : List Message) (k : ℕ) → drop (min k (length xs)) xs ≡ drop k xs
-drop_min xs k =
-    ⊎_elim
-    (λ (lt : k < length xs). let same : min k (length xs) ≡ k = omega arith in ap (λ n. drop n xs) same)
-    (λ (le : length xs ≤ k). drop_all (min k (length xs)) xs (omega arith) ∙ sym (drop_all k xs le))
-    (cases_lt k (length xs))
-
--- what is behind a place, as a slice up to the end
-pub behind_is : (xs : List Message) (k f : ℕ) → f ≡ min k (length xs) → take (length xs - f) (drop f xs) ≡ drop k xs
-behind_is xs k f is =
-    take_all (length xs - f) (drop f xs) (omega (arith, length-drop f xs)) ∙ ap (λ n. drop n xs) is ∙ drop_min xs k
-
-pub behind_numbered : (xs : List Message) (before count f : ℕ) → AreNumberedFrom (before + 1) xs → before ≤ count → f ≡ min (count - before) (length xs) → AreNumberedFrom (count + 1) (take (length xs - f) (drop f xs))
-behind_numbered xs before count f numbered le is =
-    let number : before + 1 + (count - before) ≡ count + 1 = omega arith in
-    subst (λ ms. AreNumberedFrom (count + 1) ms) (sym (behind_is xs (count - before) f is))
-    (numbered_same (drop (count - before) xs) _ _ number (numbered_drop xs (before + 1) (count - before) numbered))
-
 -- ---- the messages in memory
 
-length_end : (d : Pushed) (order : List Message) → AreEndOf d order → length order ≡ pushed d
-length_end d order end = ap length end.splits ∙ length-append end.first d.held ∙ ap (λ n. n + length d.held) end.before
+-- the order reaches as far as they were pushed
+part_length : (d : Pushed) (order : List Message) → ArePartOf d order → pushed d ≤ length order
+part_length d order part =
+    omega (arith, ap length part.splits, length-append part.first (d.held ++ part.behind), length-append d.held part.behind, part.before)
 
-held_of : (d : Pushed) (order : List Message) → AreEndOf d order → d.held ≡ drop d.before order
-held_of d order end =
-    sym (ap (λ n. drop n order) (sym end.before) ∙ ap (drop (length end.first)) end.splits ∙ drop-append_seam end.first d.held)
+held_of : (d : Pushed) (order : List Message) → ArePartOf d order → d.held ≡ take (length d.held) (drop d.before order)
+held_of d order part =
+    sym (
+    ap (λ n. take (length d.held) (drop n order)) (sym part.before)
+    ∙ ap (λ ms. take (length d.held) (drop (length part.first) ms)) part.splits
+    ∙ ap (take (length d.held)) (drop-append_seam part.first (d.held ++ part.behind))
+    ∙ take-append_seam d.held part.behind
+    )
 
-held_between_of : (d : Pushed) (order : List Message) (start end : ℕ) → AreEndOf d order
+-- a part of what was pushed is one of the order
+take_inside : (xs : List Message) (n k j : ℕ) → k + j ≤ n → take j (drop k (take n xs)) ≡ take j (drop k xs)
+take_inside xs n k j le =
+    let rest : n ≡ k + (n - k) = omega arith in
+    ap (λ m. take j (drop k (take m xs))) rest ∙ ap (take j) (drop-take k (n - k) xs) ∙ take_shorter (drop k xs) j (n - k) (omega arith)
+
+held_between_of : (d : Pushed) (order : List Message) (start end : ℕ) → ArePartOf d order → end ≤ pushed d
     → held_between d start end ≡ take (end - max start d.before) (drop (max start d.before) order)
-held_between_of d order start end is =
+held_between_of d order start end part within =
     let count = end - max start d.before in
+    ⊎_elim
+    (λ (lt : max start d.before < end).
     let at : d.before + (start - d.before) ≡ max start d.before = omega arith in
-    ap (λ held. take count (drop (start - d.before) held)) (held_of d order is)
-    ∙ ap (take count) (drop-drop (start - d.before) d.before order ∙ ap (λ n. drop n order) at)
+    ap (λ held. take count (drop (start - d.before) held)) (held_of d order part)
+    ∙ take_inside (drop d.before order) (length d.held) (start - d.before) count (omega arith)
+    ∙ ap (take count) (drop-drop (start - d.before) d.before order ∙ ap (λ n. drop n order) at))
+    (λ (le : end ≤ max start d.before).
+    let none : count ≡ 0 = omega arith in
+    ap (λ n. take n (drop (start - d.before) d.held)) none ∙ sym (ap (λ n. take n (drop (max start d.before) order)) none))
+    (cases_lt (max start d.before) end)
 
 -- a range in memory is a slice of the order
-pub held_slice : (d : Pushed) (order : List Message) (from to : ℕ) → AreEndOf d order → d.before < from → held_between d (from - 1) (to - 1) ≡ slice order from to
-held_slice d order from to end lt =
+pub held_slice : (d : Pushed) (order : List Message) (from to : ℕ) → ArePartOf d order → d.before < from → to ≤ pushed d + 1 → held_between d (from - 1) (to - 1) ≡ slice order from to
+held_slice d order from to part lt within =
     let at : max (from - 1) d.before ≡ from - 1 = omega arith in
     let count : to - 1 - (from - 1) ≡ to - from = omega arith in
-    held_between_of d order (from - 1) (to - 1) end
+    held_between_of d order (from - 1) (to - 1) part (omega arith)
     ∙ ap (λ n. take (to - 1 - n) (drop n order)) at
     ∙ ap (λ n. take n (drop (from - 1) order)) count
+
+pub some_is : {V : Type 0} (items : V → List Message) (result : Option V) (one other : List Message) → one ≡ other → IfSome result (λ v. items v ≡ one) → IfSome result (λ v. items v ≡ other)
+some_is items (Some v) one other same is = is ∙ same
+some_is items None one other same is = tt
 
 -- ---- the deltas
 
@@ -105,15 +113,15 @@ texts_decoded n (m ∷ ms) numbered keepable texts =
     ap (λ answer. then_others answer (delta_messages (n + 1) (map message_printed ms))) one ∙ ap (in_front (m ∷ [])) others
 
 -- the deltas of a range decode to that part of the order
-range_first : (d : Pushed) (order : List Message) (content : Content) (s e from : ℕ) → StandFor d order content → s + 1 ≡ from → e ≤ d.before → s < e
+range_first : (d : Pushed) (order : List Message) (content : Content) (s e from : ℕ) → StandIn d order content → s + 1 ≡ from → e ≤ d.before → s < e
     → delta_messages from (deltas_between content s e) ≡ Ok (take (e - s) (drop s order))
 range_first d order content s e from stands number le lt =
     let texts = kept_texts order content.deltas s (e - s) stands.deltas (omega (arith, stands.reached)) in
     let messages = take (e - s) (drop s order) in
-    let numbered : AreNumberedFrom from messages = numbered_same messages (1 + s) from (omega arith) (numbered_take (drop s order) (1 + s) (e - s) (numbered_drop order 1 s stands.end.numbered)) in
+    let numbered : AreNumberedFrom from messages = numbered_same messages (1 + s) from (omega arith) (numbered_take (drop s order) (1 + s) (e - s) (numbered_drop order 1 s stands.part.numbered)) in
     ap (delta_messages from) texts
     ∙ texts_decoded from messages numbered
-    (All-take IsKeepable (e - s) (drop s order) (All-drop IsKeepable s order stands.end.keepable))
+    (All-take IsKeepable (e - s) (drop s order) (All-drop IsKeepable s order stands.part.keepable))
     (subst (All IsText) texts (All-take IsText (e - s) (drop s content.deltas) (All-drop IsText s content.deltas stands.deltas.texts)))
 
 range_none : (content : Content) (order : List Message) (s e from : ℕ) → e ≤ s → delta_messages from (deltas_between content s e) ≡ Ok (take (e - s) (drop s order))
@@ -122,8 +130,8 @@ range_none content order s e from le =
     ap (λ n. delta_messages from (take n (drop s content.deltas))) none ∙ ap (λ n. Ok (take n (drop s order))) (sym none)
 
 -- a range is the slice of the order
-pub range_slice : (d : Pushed) (order : List Message) (content : Content) (from to : ℕ) → StandFor d order content → 0 < from → from ≤ to → range_of d content from to ≡ Ok (slice order from to)
-range_slice d order content from to stands first ordered =
+pub range_slice : (d : Pushed) (order : List Message) (content : Content) (from to : ℕ) → StandIn d order content → 0 < from → from ≤ to → to ≤ pushed d + 1 → range_of d content from to ≡ Ok (slice order from to)
+range_slice d order content from to stands first ordered within =
     let s = from - 1 in
     let e = min (to - 1) d.before in
     let deltas : delta_messages from (deltas_between content s e) ≡ Ok (take (e - s) (drop s order)) =
@@ -133,7 +141,7 @@ range_slice d order content from to stands first ordered =
     (cases_lt s e) in
     let count : to - 1 - s ≡ to - from = omega arith in
     ap (λ answer. followed_by answer (held_between d s (to - 1))) deltas
-    ∙ ap (λ held. Ok (take (e - s) (drop s order) ++ held)) (held_between_of d order s (to - 1) stands.end)
+    ∙ ap (λ held. Ok (take (e - s) (drop s order) ++ held)) (held_between_of d order s (to - 1) stands.part (omega arith))
     ∙ ap Ok (join order s (to - 1) d.before (omega arith) ∙ ap (λ n. take n (drop s order)) count)
 
 -- so what was answered is that slice
@@ -185,59 +193,120 @@ push_in_order before last held m in_order next keepable = record {
   counted = omega (arith, next, length-append held (m ∷ []));
 }
 
--- so the messages in memory are the end of the order with one more
-pub push_end : (old new : Pushed) (order : List Message) (m : Message) → new.before ≡ old.before → new.held ≡ old.held ++ m ∷ [] → m.number ≡ pushed old + 1 → IsKeepable m
-    → AreEndOf old order → AreEndOf new (order ++ m ∷ [])
-push_end old new order m before held next keepable end = record {
-  first = end.first;
-  splits = ap (λ ms. ms ++ m ∷ []) end.splits ∙ append_assoc end.first old.held (m ∷ []) ∙ ap (λ ms. end.first ++ ms) (sym held);
-  before = end.before ∙ sym before;
-  numbered = numbered_more order m 1 end.numbered (omega (arith, next, length_end old order end));
-  keepable = All-append IsKeepable order (m ∷ []) end.keepable (one_keepable m keepable);
+-- one more message of the order is in memory
+pub push_part : (old new : Pushed) (order : List Message) (m : Message) → new.before ≡ old.before → new.held ≡ old.held ++ m ∷ [] → slice_get order (pushed old) ≡ Some m → ArePartOf old order → ArePartOf new order
+push_part old new order m before held at part =
+    let front = part.first ++ old.held in
+    let sides : order ≡ front ++ part.behind = part.splits ∙ sym (append_assoc part.first old.held part.behind) in
+    let count : length front ≡ pushed old = omega (arith, length-append part.first old.held, part.before) in
+    let next : part.behind ≡ m ∷ drop (suc (pushed old)) order =
+    sym (drop-append_seam front part.behind) ∙ ap (drop (length front)) (sym sides) ∙ ap (λ n. drop n order) count ∙ drop_at order (pushed old) m at in
+    record {
+      first = part.first;
+      behind = drop (suc (pushed old)) order;
+      splits = part.splits
+          ∙ ap (λ ms. part.first ++ (old.held ++ ms)) next
+          ∙ ap (λ ms. part.first ++ ms) (sym (append_assoc old.held (m ∷ []) (drop (suc (pushed old)) order)))
+          ∙ ap (λ ms. part.first ++ (ms ++ drop (suc (pushed old)) order)) (sym held);
+      before = part.before ∙ sym before;
+      numbered = part.numbered;
+      keepable = part.keepable;
+    }
+
+-- an order goes on
+part_grows : (d : Pushed) (order : List Message) (m : Message) → m.number ≡ length order + 1 → IsKeepable m → ArePartOf d order → ArePartOf d (order ++ m ∷ [])
+part_grows d order m next keepable part = record {
+  first = part.first;
+  behind = part.behind ++ m ∷ [];
+  splits = ap (λ ms. ms ++ m ∷ []) part.splits
+      ∙ append_assoc part.first (d.held ++ part.behind) (m ∷ [])
+      ∙ ap (λ ms. part.first ++ ms) (append_assoc d.held part.behind (m ∷ []));
+  before = part.before;
+  numbered = numbered_more order m 1 part.numbered (omega (arith, next));
+  keepable = All-append IsKeepable order (m ∷ []) part.keepable (one_keepable m keepable);
 }
+
+at_end : (order : List Message) (m : Message) → slice_get (order ++ m ∷ []) (length order) ≡ Some m
+at_end [] m = refl
+at_end (x ∷ order) m = at_end order m
 
 pub push_stands : (old new : Pushed) (order : List Message) (content : Content) (m : Message) → new.before ≡ old.before → new.held ≡ old.held ++ m ∷ [] → m.number ≡ pushed old + 1 → IsKeepable m
     → StandFor old order content → StandFor new (order ++ m ∷ []) content
-push_stands old new order content m before held next keepable stands = record {
-  end = push_end old new order m before held next keepable stands.end;
-  deltas = record {
-    rest = stands.deltas.rest ++ message_printed m ∷ [];
-    first = map-append message_printed order (m ∷ []) ∙ ap (λ texts. texts ++ message_printed m ∷ []) stands.deltas.first ∙ append_assoc content.deltas stands.deltas.rest (message_printed m ∷ []);
-    texts = stands.deltas.texts;
-  };
-  reached = omega (arith, stands.reached, before);
-}
+push_stands old new order content m before held next keepable stands =
+    let stand = stands.stand in
+    let grown = part_grows old order m (omega (arith, next, stands.whole)) keepable stand.part in
+    let at : slice_get (order ++ m ∷ []) (pushed old) ≡ Some m = ap (slice_get (order ++ m ∷ [])) (sym stands.whole) ∙ at_end order m in
+    record {
+      stand = record {
+        part = push_part old new (order ++ m ∷ []) m before held at grown;
+        deltas = record {
+          rest = stand.deltas.rest ++ message_printed m ∷ [];
+          first = map-append message_printed order (m ∷ []) ∙ ap (λ texts. texts ++ message_printed m ∷ []) stand.deltas.first ∙ append_assoc content.deltas stand.deltas.rest (message_printed m ∷ []);
+          texts = stand.deltas.texts;
+        };
+        reached = omega (arith, stand.reached, before);
+      };
+      whole = omega (arith, stands.whole, before, ap length held, length-append old.held (m ∷ []), length-append order (m ∷ []));
+    }
 
 -- ---- no message in memory
 
--- nothing in memory is the end of any order of so many messages
-pub none_end : (d : Pushed) (order : List Message) → d.held ≡ [] → length order ≡ d.before → AreFirst order → All IsKeepable order → AreEndOf d order
-none_end d order held count numbered keepable = record {
-  first = order;
-  splits = sym (append-nil order) ∙ ap (λ ms. order ++ ms) (sym held);
-  before = count;
+-- nothing in memory is a part of any order that reaches so far
+pub none_part : (d : Pushed) (order : List Message) → d.held ≡ [] → d.before ≤ length order → AreFirst order → All IsKeepable order → ArePartOf d order
+none_part d order held le numbered keepable = record {
+  first = take d.before order;
+  behind = drop d.before order;
+  splits = sym (take-append-drop d.before order) ∙ ap (λ ms. take d.before order ++ (ms ++ drop d.before order)) (sym held);
+  before = omega (arith, length-take d.before order);
   numbered = numbered;
   keepable = keepable;
 }
 
--- and of none at all
-pub nothing_end : (d : Pushed) → d.held ≡ [] → d.before ≡ 0 → AreEndOf d []
-nothing_end d held before = none_end d [] held (sym before) tt (λ k x lt. absurd (omega arith))
-
 pub nothing_stands : (d : Pushed) (content : Content) → d.held ≡ [] → d.before ≡ 0 → content.deltas ≡ [] → StandFor d [] content
 nothing_stands d content held before none = record {
-  end = nothing_end d held before;
-  deltas = record { rest = []; first = ap (λ texts. texts ++ []) (sym none); texts = subst (All IsText) (sym none) (λ k x lt. absurd (omega arith)) };
-  reached = omega (arith, before);
+  stand = record {
+    part = none_part d [] held (omega (arith, before)) tt (λ k x lt. absurd (omega arith));
+    deltas = record { rest = []; first = ap (λ texts. texts ++ []) (sym none); texts = subst (All IsText) (sym none) (λ k x lt. absurd (omega arith)) };
+    reached = omega (arith, before);
+  };
+  whole = omega (arith, before, ap length held);
 }
 
 -- ---- messages that were put
 
--- the messages that a keeper lacks are those of the order behind its deltas
+take_both : (xs : List Message) (a b : ℕ) → take a (take b xs) ≡ take (min a b) xs
+take_both xs a b =
+    ⊎_elim
+    (λ (lt : a < b). let same : min a b ≡ a = omega arith in take_shorter xs a b (omega arith) ∙ ap (λ n. take n xs) (sym same))
+    (λ (le : b ≤ a). let same : min a b ≡ b = omega arith in take_all a (take b xs) (omega (arith, length-take b xs)) ∙ ap (λ n. take n xs) (sym same))
+    (cases_lt a b)
+
+-- the first of the messages that a keeper lacks are those of the order behind its deltas
+lacking_front : (d : Pushed) (order : List Message) (n count : ℕ) → ArePartOf d order → d.before ≤ n → (k : ℕ) × (take count (lacking d n) ≡ take k (drop n order))
+lacking_front d order n count part reached =
+    let from = n - d.before in
+    let held = length d.held in
+    ⊎_elim
+    (λ (lt : from < held).
+    let rest = held - from in
+    let all : held ≡ from + rest = omega arith in
+    let at : d.before + from ≡ n = omega arith in
+    let are : lacking d n ≡ take rest (drop n order) =
+    ap (drop from) (held_of d order part)
+    ∙ ap (λ m. drop from (take m (drop d.before order))) all
+    ∙ drop-take from rest (drop d.before order)
+    ∙ ap (take rest) (drop-drop from d.before order ∙ ap (λ m. drop m order) at) in
+    (min count rest, ap (take count) are ∙ take_both (drop n order) count rest))
+    (λ (le : held ≤ from). (0, ap (take count) (drop_all from d.held le) ∙ take_all count [] (omega arith)))
+    (cases_lt from held)
+
+-- where all was pushed they are all of these
 lacking_of : (d : Pushed) (order : List Message) (content : Content) → StandFor d order content → lacking d (length content.deltas) ≡ drop (length content.deltas) order
 lacking_of d order content stands =
-    let at : d.before + (length content.deltas - d.before) ≡ length content.deltas = omega (arith, stands.reached) in
-    ap (drop (length content.deltas - d.before)) (held_of d order stands.end)
+    let part = stands.stand.part in
+    let at : d.before + (length content.deltas - d.before) ≡ length content.deltas = omega (arith, stands.stand.reached) in
+    let held : d.held ≡ drop d.before order = held_of d order part ∙ take_all (length d.held) (drop d.before order) (omega (arith, stands.whole, length-drop d.before order)) in
+    ap (drop (length content.deltas - d.before)) held
     ∙ drop-drop (length content.deltas - d.before) d.before order
     ∙ ap (λ n. drop n order) at
 
@@ -260,53 +329,147 @@ put_deltas order deltas count ms are is texts =
       texts = All-append IsText deltas (map message_printed ms) are.texts (All-map IsText message_printed ms texts);
     }
 
-front_stands : (d : Pushed) (order : List Message) (content : Content) (count : ℕ) (ms : List Message) → StandFor d order content → ms ≡ take count (lacking d (length content.deltas)) → All (λ m. IsText (message_printed m)) ms
-    → StandFor d order (put_behind ms content)
-front_stands d order content count ms stands is texts = record {
-  end = stands.end;
-  deltas = put_deltas order content.deltas count ms stands.deltas (is ∙ ap (take count) (lacking_of d order content stands)) texts;
-  reached = omega (arith, stands.reached, length-append content.deltas (map message_printed ms));
-}
+front_stands : (d : Pushed) (order : List Message) (content : Content) (count : ℕ) (ms : List Message) → StandIn d order content → ms ≡ take count (lacking d (length content.deltas)) → All (λ m. IsText (message_printed m)) ms
+    → StandIn d order (put_behind ms content)
+front_stands d order content count ms stands is texts =
+    let front = lacking_front d order (length content.deltas) count stands.part stands.reached in
+    record {
+      part = stands.part;
+      deltas = put_deltas order content.deltas front.0 ms stands.deltas (is ∙ front.1) texts;
+      reached = omega (arith, stands.reached, length-append content.deltas (map message_printed ms));
+    }
 
 all_put : (d : Pushed) (order : List Message) (content : Content) (ms : List Message) → StandFor d order content → ms ≡ lacking d (length content.deltas) → AreAll order (put_behind ms content)
 all_put d order content ms stands is =
     ap (λ (behind : List Message). content.deltas ++ map message_printed behind) (is ∙ lacking_of d order content stands)
-    ∙ ap (λ texts. content.deltas ++ texts) (sym (rest_of order content.deltas stands.deltas))
-    ∙ sym stands.deltas.first
+    ∙ ap (λ texts. content.deltas ++ texts) (sym (rest_of order content.deltas stands.stand.deltas))
+    ∙ sym stands.stand.deltas.first
 
 abbrev SizedStand : Keeping → Pushed → List Message → Content → Type 0
-SizedStand old d order content = HasLengths old content × StandFor d order content
+SizedStand old d order content = HasLengths old content × StandIn d order content
 
-sized_stand : (old : Keeping) (d : Pushed) (order : List Message) → IsSized old → Tells old.content (StandFor d order) → Tells old.content (SizedStand old d order)
-sized_stand old d order sized stands = tells_both old.content (HasLengths old) (StandFor d order) (SizedStand old d order) (λ c lengths stand. (lengths, stand)) sized stands
+sized_stand : (old : Keeping) (d : Pushed) (order : List Message) → IsSized old → Tells old.content (StandIn d order) → Tells old.content (SizedStand old d order)
+sized_stand old d order sized stands = tells_both old.content (HasLengths old) (StandIn d order) (SizedStand old d order) (λ c lengths stand. (lengths, stand)) sized stands
 
-pub flushed_front : (d : Pushed) (order : List Message) (old new : Keeping) → IsSized old → PutsFront (lacking d old.deltas) old new → Tells old.content (StandFor d order) → Tells new.content (StandFor d order)
-flushed_front d order old new sized puts stands =
-    let ms = take puts.count (lacking d old.deltas) in
-    tells_along _ _ (StandFor d order) (sym puts.puts.kept.content)
-    (tells_becomes old.content (put_behind ms) (SizedStand old d order) (StandFor d order)
-    (λ c both. front_stands d order c puts.count ms both.1 (ap (λ n. take puts.count (lacking d n)) both.0.deltas) puts.puts.texts)
+abbrev SizedWhole : Keeping → Pushed → List Message → Content → Type 0
+SizedWhole old d order content = HasLengths old content × StandFor d order content
+
+-- messages that a keeper lacked were put, the first of them
+pub put_stands : (d : Pushed) (order : List Message) (old new : Keeping) (count : ℕ) (ms : List Message) → IsSized old → ms ≡ take count (lacking d old.deltas) → Puts ms old new
+    → Tells old.content (StandIn d order) → Tells new.content (StandIn d order)
+put_stands d order old new count ms sized is puts stands =
+    tells_along _ _ (StandIn d order) (sym puts.kept.content)
+    (tells_becomes old.content (put_behind ms) (SizedStand old d order) (StandIn d order)
+    (λ c both. front_stands d order c count ms both.1 (is ∙ ap (λ n. take count (lacking d n)) both.0.deltas) puts.texts)
     (sized_stand old d order sized stands))
 
-pub flushed_all : (d : Pushed) (order : List Message) (old new : Keeping) → IsSized old → Puts (lacking d old.deltas) old new → Tells old.content (StandFor d order) → Tells new.content (StandFor d order)
-flushed_all d order old new sized puts stands =
-    let ms = lacking d old.deltas in
-    tells_along _ _ (StandFor d order) (sym puts.kept.content)
-    (tells_becomes old.content (put_behind ms) (SizedStand old d order) (StandFor d order)
-    (λ c both. front_stands d order c (length ms) ms both.1 (sym (take_all (length ms) ms (omega arith)) ∙ ap (λ n. take (length ms) (lacking d n)) both.0.deltas) puts.texts)
-    (sized_stand old d order sized stands))
+pub front_put_stands : (d : Pushed) (order : List Message) (old new : Keeping) (end : ℕ) → IsSized old → PutsFront (lacking_up_to d old.deltas end) old new
+    → Tells old.content (StandIn d order) → Tells new.content (StandIn d order)
+front_put_stands d order old new end sized puts stands =
+    let all = lacking d old.deltas in
+    let within : puts.count ≤ end - old.deltas = omega (arith, puts.within, length-take (end - old.deltas) all) in
+    put_stands d order old new puts.count _ sized (take_shorter all puts.count (end - old.deltas) within) puts.puts stands
 
 pub flushed_whole : (d : Pushed) (order : List Message) (old new : Keeping) → IsSized old → Puts (lacking d old.deltas) old new → Tells old.content (StandFor d order) → Tells new.content (AreAll order)
 flushed_whole d order old new sized puts stands =
     let ms = lacking d old.deltas in
     tells_along _ _ (AreAll order) (sym puts.kept.content)
-    (tells_becomes old.content (put_behind ms) (SizedStand old d order) (AreAll order)
+    (tells_becomes old.content (put_behind ms) (SizedWhole old d order) (AreAll order)
     (λ c both. all_put d order c ms both.1 (ap (lacking d) both.0.deltas))
-    (sized_stand old d order sized stands))
+    (tells_both old.content (HasLengths old) (StandFor d order) (SizedWhole old d order) (λ c lengths stand. (lengths, stand)) sized stands))
+
+pub flush_whole : (d : Pushed) (old new : Keeping) (result : Result (Unit {0}) DeltaFault) → IsSized old → PutsAll (lacking d old.deltas) old new result
+    → OnOk result ((order : List Message) → Tells old.content (StandFor d order) → Tells new.content (AreAll order))
+flush_whole d old new (Ok done) sized puts = λ order stands. flushed_whole d order old new sized puts stands
+flush_whole d old new (Err fault) sized puts = tt
+
+-- ---- the messages that a keeper lacks, one by one
+
+pub lacking_length : (d : Pushed) (deltas end : ℕ) → d.before ≤ deltas → end ≤ pushed d → length (lacking_up_to d deltas end) ≡ end - deltas
+lacking_length d deltas end reached within =
+    omega (arith, reached, within, length-take (end - deltas) (lacking d deltas), length-drop (deltas - d.before) d.held)
+
+pub lacking_at : (d : Pushed) (deltas end place : ℕ) (m : Message) → d.before ≤ deltas → deltas ≤ place → place < end → m ≡ get_or d.held (place - d.before) m
+    → m ≡ get_or (lacking_up_to d deltas end) (place - deltas) m
+lacking_at d deltas end place m reached behind lt is =
+    let at : place - d.before ≡ deltas - d.before + (place - deltas) = omega arith in
+    is
+    ∙ ap (λ n. get_or d.held n m) at
+    ∙ sym (get_or-drop (deltas - d.before) d.held (place - deltas) m)
+    ∙ sym (get_or-take (end - deltas) (lacking d deltas) (place - deltas) m (omega arith))
+
+-- up to the last message they are all of them
+pub lacking_all : (d : Pushed) (deltas : ℕ) → d.before ≤ deltas → lacking_up_to d deltas (pushed d) ≡ lacking d deltas
+lacking_all d deltas reached = take_all (pushed d - deltas) (lacking d deltas) (omega (arith, length-drop (deltas - d.before) d.held))
+
+-- ---- copies of the messages in memory
+
+-- behind these messages stand copies of those from the place `first` up to `place`
+pub record HasCopied (d : Pushed) (first end place : ℕ) (before now : List Message) : Type 0 where
+  pub items : now ≡ before ++ take (place - first) (drop (first - d.before) d.held)
+  pub within : place ≤ max first end
+
+pub copies_nothing : (d : Pushed) (first end : ℕ) (before : List Message) → HasCopied d first end first before before
+copies_nothing d first end before =
+    let none : first - first ≡ 0 = omega arith in
+    record { items = sym (ap (λ n. before ++ take n (drop (first - d.before) d.held)) none ∙ append-nil before); within = omega arith }
+
+pub copies_more : (d : Pushed) (first end place : ℕ) (before items after : List Message) (m : Message) → HasCopied d first end place before items → d.before ≤ first → first ≤ place → place < end → end ≤ pushed d
+    → m ≡ get_or d.held (place - d.before) m → after ≡ items ++ m ∷ [] → HasCopied d first end (place + 1) before after
+copies_more d first end place before items after m has reached behind lt pushed is more =
+    let held = drop (first - d.before) d.held in
+    let at : place - d.before ≡ first - d.before + (place - first) = omega arith in
+    let one : m ≡ get_or held (place - first) m = is ∙ ap (λ n. get_or d.held n m) at ∙ sym (get_or-drop (first - d.before) d.held (place - first) m) in
+    let next : place - first + 1 ≡ place + 1 - first = omega arith in
+    record {
+      items = more
+          ∙ ap (λ ms. ms ++ m ∷ []) has.items
+          ∙ append_assoc before (take (place - first) held) (m ∷ [])
+          ∙ ap (λ x. before ++ (take (place - first) held ++ x ∷ [])) one
+          ∙ ap (λ ms. before ++ ms) (sym (take_more held (place - first) m (omega (arith, length-drop (first - d.before) d.held))))
+          ∙ ap (λ n. before ++ take n held) next;
+      within = omega arith;
+    }
+
+pub copies_all : (d : Pushed) (start first end place : ℕ) (before items : List Message) → HasCopied d first end place before items → first ≡ max start d.before → first ≤ place → end ≤ place
+    → items ≡ before ++ held_between d start end
+copies_all d start first end place before items has is behind le =
+    let within = has.within in
+    let count : place - first ≡ end - max start d.before = omega arith in
+    let from : first - d.before ≡ start - d.before = omega arith in
+    has.items ∙ ap (λ n. before ++ take n (drop (first - d.before) d.held)) count ∙ ap (λ n. before ++ take (end - max start d.before) (drop n d.held)) from
+
+-- ---- the oldest page goes
+
+pub page_dropped : (old new : Pushed) (order : List Message) (content : Content) → DropsPage old new → IsFull old → new.before ≤ length content.deltas → StandIn old order content → StandIn new order content
+page_dropped old new order content drops full reached stands =
+    let part = stands.part in
+    let page = take 256 old.held in
+    record {
+      part = record {
+        first = part.first ++ page;
+        behind = part.behind;
+        splits = part.splits
+            ∙ ap (λ ms. part.first ++ (ms ++ part.behind)) (sym (take-append-drop 256 old.held))
+            ∙ ap (λ ms. part.first ++ ms) (append_assoc page (drop 256 old.held) part.behind)
+            ∙ sym (append_assoc part.first page (drop 256 old.held ++ part.behind))
+            ∙ ap (λ ms. (part.first ++ page) ++ (ms ++ part.behind)) (sym drops.held);
+        before = omega (arith, part.before, drops.before, full, length-append part.first page, length-take 256 old.held);
+        numbered = part.numbered;
+        keepable = part.keepable;
+      };
+      deltas = stands.deltas;
+      reached = reached;
+    }
+
+pub told_dropped : (old new : Pushed) (order : List Message) (k : Keeping) → IsSized k → DropsPage old new → IsFull old → new.before ≤ k.deltas → Tells k.content (StandIn old order) → Tells k.content (StandIn new order)
+told_dropped old new order k sized drops full reached stands =
+    tells_both k.content (HasLengths k) (StandIn old order) (StandIn new order)
+    (λ c lengths stand. page_dropped old new order c drops full (rw (sym lengths.deltas) reached) stand) sized stands
 
 -- ---- the slice that was answered
 
-pub told_slice : {V : Type 0} (messages : V → List Message) (result : Result V DeltaFault) (d : Pushed) (order : List Message) (told : Option Content) (from to : ℕ) → 0 < from → from ≤ to
-    → Tells told (λ c. IsAnswer messages result (range_of d c from to)) → Tells told (λ c. StandFor d order c → IsSlice messages (slice order from to) result)
-told_slice messages result d order told from to first ordered answer =
-    tells_from told _ _ (λ c answered stands. answer_slice messages result (range_of d c from to) (slice order from to) (range_slice d order c from to stands first ordered) answered) answer
+pub told_slice : {V : Type 0} (messages : V → List Message) (result : Result V DeltaFault) (d : Pushed) (order : List Message) (told : Option Content) (from to : ℕ) → 0 < from → from ≤ to → to ≤ pushed d + 1
+    → Tells told (λ c. IsAnswer messages result (range_of d c from to)) → Tells told (λ c. StandIn d order c → IsSlice messages (slice order from to) result)
+told_slice messages result d order told from to first ordered last answer =
+    tells_from told _ _ (λ c answered stands. answer_slice messages result (range_of d c from to) (slice order from to) (range_slice d order c from to stands first ordered last) answered) answer

@@ -1,5 +1,5 @@
 -- What a flush puts.
-use Rattle.std.specs.Prelude.{◌≡◌, ℕ, ◌+◌, ◌-◌, ◌<◌, List, [], ◌∷◌, ◌++◌, length, take, drop, map, All, Result, Ok, Err}
+use Rattle.std.specs.Prelude.{◌≡◌, ℕ, ◌+◌, ◌-◌, ◌<◌, ◌≤◌, List, [], ◌∷◌, ◌++◌, length, take, drop, map, All, Result, Ok, Err, IfErr}
 use Rattle.std.specs.Option.{option_map}
 use Rattle.fluid_types.specs.declared.messages.Message.{Message}
 use Rattle.fluid_types.specs.Printed.{message_printed}
@@ -7,10 +7,15 @@ use Rattle.fluid_log.specs.Keeping.{Content, Keeping, IsText}
 use Rattle.fluid_log.specs.Calls.{KeepsSame}
 use Rattle.fluid_deltas.specs.declared.fault.DeltaFault.{DeltaFault}
 use Rattle.fluid_deltas.specs.Pushed.{Pushed}
+use Rattle.fluid_deltas.specs.Ranges.{IsFaultOf, IsNotBad}
 
 -- the messages in memory that a keeper with so many deltas lacks
 abbrev pub lacking : Pushed → ℕ → List Message
 lacking d deltas = drop (deltas - d.before) d.held
+
+-- those of them that are among the first `end` of the order
+abbrev pub lacking_up_to : Pushed → (deltas end : ℕ) → List Message
+lacking_up_to d deltas end = take (end - deltas) (lacking d deltas)
 
 -- the texts of these messages behind the deltas
 abbrev pub put_behind : List Message → Content → Content
@@ -39,6 +44,13 @@ pub record PutsFront (messages : List Message) (old new : Keeping) : Type 0 wher
 abbrev pub PutsAll : List Message → Keeping → Keeping → Result (Unit {0}) DeltaFault → Type 0
 PutsAll messages old new (Ok done) = Puts messages old new
 PutsAll messages old new (Err fault) = PutsFront messages old new
+
+-- what putting messages leaves beside the deltas: a fault is one of the keeper that failed, or want of memory
+pub record Writes (old new : Keeping) (result : Result (Unit {0}) DeltaFault) : Type 0 where
+  pub later : old.faults ≤ new.faults
+  pub reads : new.reads ≡ old.reads
+  pub cause : IfErr result (IsFaultOf old.faults new.faults)
+  pub never_bad : IfErr result IsNotBad
 
 -- the keeper's deltas are the texts of the whole order
 abbrev pub AreAll : List Message → Content → Type 0

@@ -1,3 +1,4 @@
+pub mod Pages
 pub mod Pushed
 pub mod Stored
 pub mod Ranges

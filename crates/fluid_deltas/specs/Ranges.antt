@@ -1,11 +1,13 @@
 -- What a range of messages is: the part of it that a keeper has, and the part that is in memory. Places are counted
 -- from 0, so that message n stands in place n - 1.
-use Rattle.std.specs.Prelude.{◌≡◌, ℕ, ◌+◌, ◌-◌, ◌<◌, ◌≤◌, ⊤, List, ◌++◌, length, take, drop, min, max, slice_get, Some, Result, Ok, Err}
+use Rattle.std.specs.Prelude.{◌≡◌, ℕ, ◌+◌, ◌-◌, ◌<◌, ◌≤◌, ⊤, List, ◌++◌, length, take, drop, min, max, slice_get, Some, Result, Ok, Err, IfOk, IfErr}
 use Rattle.fluid_io.specs.Causes.{Rose}
 use Rattle.fluid_io.specs.declared.faults.FaultNote.{FaultNote}
 use Rattle.fluid_types.specs.Order.{AreNumberedFrom}
 use Rattle.fluid_types.specs.declared.messages.Message.{Message}
-use Rattle.fluid_log.specs.Keeping.{Content}
+use Rattle.fluid_log.specs.Keeping.{Content, Keeping}
+use Rattle.fluid_log.specs.Calls.{KeepsSame}
+use Rattle.fluid_deltas.specs.Pages.{IsOnPage}
 use Rattle.fluid_deltas.specs.declared.fault.DeltaFault.{DeltaFault}
 use Rattle.fluid_deltas.specs.declared.fault.DeltaFault.TheVariants.{DeltaFailed, NoMemory, BadDelta, Worn}
 use Rattle.fluid_deltas.specs.Pushed.{Pushed, pushed, slice}
@@ -32,6 +34,10 @@ range_of d content from to =
 -- each number of the range is one of a message in memory
 abbrev pub AreHeld : Pushed → (from to : ℕ) → Type 0
 AreHeld d from to = (n : ℕ) → from ≤ n → n < to → (d.before < n) × (n ≤ pushed d)
+
+-- the range is empty, or one page in memory has all its numbers
+abbrev pub AreOnPage : Pushed → (from to : ℕ) → Type 0
+AreOnPage d from to = from < to → (d.before < from) × ((to ≤ pushed d + 1) × IsOnPage (from - 1 - d.before) (to - 1 - d.before))
 
 -- ---- answers
 
@@ -116,3 +122,13 @@ IsMemory Worn = ⊥
 abbrev pub IsHeldAnswer : {V : Type 0} → (V → List Message) → List Message → Result V DeltaFault → Type 0
 IsHeldAnswer messages held (Ok v) = messages v ≡ held
 IsHeldAnswer messages held (Err fault) = IsMemory fault
+
+-- what reading messages leaves: a fault is one of the keeper that failed, want of memory, or a bad delta of the range;
+-- messages have its numbers
+pub record Reads {V : Type 0} (messages : V → List Message) (from to before : ℕ) (old new : Keeping) (result : Result V DeltaFault) : Type 0 where
+  pub keeps : KeepsSame old new
+  pub later : old.faults ≤ new.faults
+  pub reads : new.reads ≡ old.reads
+  pub cause : IfErr result (IsFaultOf old.faults new.faults)
+  pub bad : IfErr result (IsBadIn from to before)
+  pub numbers : IfOk result (λ v. AreNumbersOf from to (messages v))

@@ -1,44 +1,44 @@
 //! The messages of an order in memory.
-ghost use Rattle.std.specs.Prelude.{◌≡◌, ℕ, ◌+◌, ◌-◌, ◌^◌, ◌<◌, ◌≤◌, ◌↔◌, List, [], ◌∷◌, ◌++◌, length, take, drop, IsSome, IfSome, IfOk, IfErr, OnOk, All};
+ghost use Rattle.std.specs.Prelude.{◌≡◌, ℕ, ◌+◌, ◌-◌, ◌<◌, ◌≤◌, ◌↔◌, List, [], ◌∷◌, ◌++◌, length, take, drop, max, get_or, IsTrue, IsSome, IfSome, slice_get, Some, IfOk, IfErr, OnOk, OnErr, All};
 ghost use Rattle.fluid_io.specs.Causes.{Tells};
-ghost use Rattle.fluid_types.specs.Order.{AreNumberedFrom, AreFirst};
+ghost use Rattle.fluid_types.specs.Order.{AreFirst};
 ghost use Rattle.fluid_types.specs.declared.messages.Message.{Message};
 ghost use Rattle.fluid_log.specs.Keeping.{Content};
 ghost use Rattle.fluid_log.specs.Calls.{KeepsSame};
-ghost use Rattle.fluid_deltas.specs.Pushed.{pushed, IsKeepable, AreDeltasOf, AreEndOf, StandFor, slice};
-ghost use Rattle.fluid_deltas.specs.Ranges.{IsFaultOf, IsNotBad, IsBadIn, IsAnswer, IsHeldAnswer, IsSlice, AreHeld, AreNumbersOf, held_between, range_of};
-ghost use Rattle.fluid_deltas.specs.Flushes.{lacking, PutsAll, AreAll};
+ghost use Rattle.fluid_deltas.specs.Pushed.{pushed, IsKeepable, IsFull, DropsPage, ArePartOf, StandIn, StandFor, slice};
+ghost use Rattle.fluid_deltas.specs.Ranges.{IsFaultOf, IsNotBad, IsBadIn, IsAnswer, IsHeldAnswer, IsSlice, AreHeld, AreOnPage, AreNumbersOf, Reads, held_between, range_of};
+ghost use Rattle.fluid_deltas.specs.Flushes.{lacking, lacking_up_to, PutsAll, Writes, AreAll};
 
 use crate::DeltaFault;
 use crate::kept::read_deltas;
-use crate::put::put_all;
+use crate::pages::{PAGE, Pages, RESIDENT};
+use crate::put::put;
 use fluid_json::NoMemory;
 use fluid_log::Keeper;
 use fluid_types::Message;
 use std::alloc::Global;
 use std::marker::Model;
 
-/// The messages of an order that were pushed: those in memory, and the first `before` ones, which are to be a keeper's
-/// first deltas.
+/// The messages of an order that were pushed: those in memory, in pages, and the first `before` ones, which are to be a
+/// keeper's first deltas.
 #[derive(Drop)]
 pub struct Deltas {
     before: u64,
-    held: Vec<Message>,
+    pages: Pages,
     // the number of the last message
     last: u64,
 }
 
 impl Model for Deltas {
-    ghost use Rattle.std.specs.Prelude.{vec_len, vec_capacity, ◌-◌};
     ghost use Rattle.fluid_deltas.specs.Pushed.{Pushed, pushed_code, AreInOrder};
 
     ghost Value = { Pushed };
 
     ghost coded = { pushed_code };
 
-    ghost view = { λ d. record { before = d.before; held = d.held.items; spare = vec_capacity d.held - vec_len d.held } };
+    ghost view = { λ d. record { before = d.before; held = d.pages.messages; spare = d.pages.spare } };
 
-    ghost invariant = { λ d. AreInOrder d.before d.last d.held.items };
+    ghost invariant = { λ d. AreInOrder d.before d.last d.pages.messages };
 }
 
 impl Deltas {
@@ -46,12 +46,12 @@ impl Deltas {
     pub fn new(alloc: Global) -> Deltas
         ensures before { result.before ≡ 0 }
         ensures held { result.held ≡ [] }
-        ensures end { AreEndOf result [] }
+        ensures part { (order : List Message) → AreFirst order → All IsKeepable order → ArePartOf result order }
         ensures stands { (content : Content) → content.deltas ≡ [] → StandFor result [] content }
     {
         Deltas {
             before: 0,
-            held: Vec::new(alloc),
+            pages: Pages::new(alloc),
             last: 0,
         }
     }
@@ -70,15 +70,31 @@ impl Deltas {
         self.before
     }
 
+    /// How many messages are in memory.
+    pub fn resident(&self) -> u64
+        ensures count { result ≡ length self.now.held }
+        ensures most { result ≤ RESIDENT }
+    {
+        self.pages.len() as u64
+    }
+
+    /// Whether the most pages are in memory, and all of them are full.
+    pub fn full(&self) -> bool
+        ensures full { IsTrue result ↔ IsFull self.now }
+        ensures most { length self.now.held ≤ RESIDENT }
+    {
+        self.pages.len() == RESIDENT
+    }
+
     /// Makes room for one more message.
-    pub fn reserve(&mut self) -> Result<(), NoMemory>
+    pub fn reserve(&mut self, alloc: Global) -> Result<(), NoMemory>
+        requires { length self.old.held < RESIDENT }
         ensures before { self.new.before ≡ self.old.before }
         ensures held { self.new.held ≡ self.old.held }
         ensures room { OnOk result (0 < self.new.spare) }
         ensures spare { self.old.spare ≤ self.new.spare }
     {
-        self.held.reserve(1)?;
-        Ok(())
+        self.pages.reserve(alloc)
     }
 
     /// Takes the next message of the order. Takes no memory.
@@ -89,12 +105,13 @@ impl Deltas {
         ensures before { self.new.before ≡ self.old.before }
         ensures held { self.new.held ≡ self.old.held ++ message ∷ [] }
         ensures spare { self.old.spare ≤ self.new.spare + 1 }
-        ensures end { (order : List Message) → AreEndOf self.old order → AreEndOf self.new (order ++ message ∷ []) }
+        ensures part { (order : List Message) → slice_get order (pushed self.old) ≡ Some message →
+            ArePartOf self.old order → ArePartOf self.new order }
         ensures stands { (order : List Message) (content : Content) → StandFor self.old order content →
             StandFor self.new (order ++ message ∷ []) content }
     {
         self.last = message.number;
-        self.held.push(message).unwrap();
+        self.pages.push(message);
     }
 
     /// Forgets what is in memory and begins behind the first `count` messages: a keeper's first deltas then count as
@@ -102,21 +119,20 @@ impl Deltas {
     pub fn resume(&mut self, count: u64)
         ensures before { self.new.before ≡ count }
         ensures held { self.new.held ≡ [] }
-        ensures spare { self.old.spare ≤ self.new.spare }
-        ensures end { (order : List Message) → length order ≡ count → AreFirst order → All IsKeepable order → AreEndOf self.new order }
-        ensures stands { (order : List Message) (content : Content) → length order ≡ count → AreFirst order → All IsKeepable order →
-            AreDeltasOf order content.deltas → count ≤ length content.deltas → StandFor self.new order content }
+        ensures part { (order : List Message) → count ≤ length order → AreFirst order → All IsKeepable order →
+            ArePartOf self.new order }
     {
-        self.held.clear();
+        self.pages.clear();
         self.before = count;
         self.last = count;
     }
 
-    /// The messages `from` up to, but without, `to`; none where one of these numbers isn't that of a message in memory.
+    /// The messages `from` up to, but without, `to`, where one page in memory has all of them; none where no page has.
+    /// A range of nothing is in memory.
     pub fn held(&self, from: u64, to: u64) -> Option<&[Message]>
-        ensures known { IsSome result ↔ AreHeld self.now from to }
+        ensures known { IsSome result ↔ AreOnPage self.now from to }
         ensures messages { IfSome result (λ messages. messages.now ≡ held_between self.now (from - 1) (to - 1)) }
-        ensures slice { (order : List Message) → AreEndOf self.now order →
+        ensures slice { (order : List Message) → ArePartOf self.now order →
             IfSome result (λ messages. messages.now ≡ slice order from to) }
     {
         if to <= from {
@@ -125,54 +141,82 @@ impl Deltas {
         if from <= self.before || self.last < to - 1 {
             return None;
         }
-        Some(self.between(from - 1, to - 1))
+        self.pages.on_page(
+            (from - 1 - self.before) as usize,
+            (to - 1 - self.before) as usize,
+        )
     }
 
-    // The messages in memory among those of the places from `start` up to `end`, counted from 0.
-    fn between(&self, start: u64, end: u64) -> &[Message]
-        requires { end ≤ pushed self.now }
-        ensures { result.now ≡ held_between self.now start end }
+    // The message in memory that stands in this place of the order, counted from 0.
+    fn message(&self, place: u64) -> &Message
+        requires behind { self.now.before ≤ place }
+        requires pushed { place < pushed self.now }
+        ensures is { result.now ≡ get_or self.now.held (place - self.now.before) result.now }
+        ensures number { result.now.number ≡ place + 1 }
+        ensures keepable { IsKeepable result.now }
     {
-        let start = start.max(self.before);
-        if end <= start {
-            return &[];
+        self.pages.at((place - self.before) as usize)
+    }
+
+    // Puts the messages up to the first `end` ones that the keeper lacks.
+    fn put_up_to<K: Keeper>(
+        &self,
+        alloc: Global,
+        keeper: &mut K,
+        end: u64,
+    ) -> Result<(), DeltaFault>
+        requires reached { self.now.before ≤ (K.seen keeper.old).deltas }
+        requires pushed { end ≤ pushed self.now }
+        ensures writes { Writes (K.seen keeper.old) (K.seen keeper.new) result }
+        ensures puts { PutsAll (lacking_up_to self.now (K.seen keeper.old).deltas end) (K.seen keeper.old) (K.seen keeper.new) result }
+        ensures more { (K.seen keeper.old).deltas ≤ (K.seen keeper.new).deltas }
+        ensures reached { OnOk result (end ≤ (K.seen keeper.new).deltas) }
+        ensures stands { (order : List Message) → Tells (K.seen keeper.old).content (StandIn self.now order) →
+            Tells (K.seen keeper.new).content (StandIn self.now order) }
+    {
+        let kept = keeper.deltas();
+        for place in kept..end {
+            put(alloc, keeper, self.message(place))?;
         }
-        &self.held[(start - self.before) as usize..(end - self.before) as usize]
-    }
-
-    // The messages in memory behind the first `count`.
-    fn behind(&self, count: u64) -> &[Message]
-        requires { self.now.before ≤ count }
-        ensures messages { result.now ≡ lacking self.now count }
-        ensures numbered { AreNumberedFrom (count + 1) result.now }
-        ensures keepable { All IsKeepable result.now }
-    {
-        let from = (count - self.before) as usize;
-        let from = from.min(self.held.len());
-        &self.held[from..]
+        Ok(())
     }
 
     /// Puts the messages that the keeper lacks. After a fault it may have put some of them, in order.
     pub fn flush<K: Keeper>(&mut self, alloc: Global, keeper: &mut K) -> Result<(), DeltaFault>
         requires { self.old.before ≤ (K.seen keeper.old).deltas }
         ensures same { self.new ≡ self.old }
-        ensures later { (K.seen keeper.old).faults ≤ (K.seen keeper.new).faults }
-        ensures cause { IfErr result (IsFaultOf (K.seen keeper.old).faults (K.seen keeper.new).faults) }
-        ensures never_bad { IfErr result IsNotBad }
-        ensures reads { (K.seen keeper.new).reads ≡ (K.seen keeper.old).reads }
+        ensures writes { Writes (K.seen keeper.old) (K.seen keeper.new) result }
         ensures puts { PutsAll (lacking self.old (K.seen keeper.old).deltas) (K.seen keeper.old) (K.seen keeper.new) result }
-        ensures stands { (order : List Message) → Tells (K.seen keeper.old).content (StandFor self.old order) →
-            Tells (K.seen keeper.new).content (StandFor self.new order) }
+        ensures stands { (order : List Message) → Tells (K.seen keeper.old).content (StandIn self.old order) →
+            Tells (K.seen keeper.new).content (StandIn self.new order) }
         ensures whole { OnOk result ((order : List Message) → Tells (K.seen keeper.old).content (StandFor self.old order) →
             Tells (K.seen keeper.new).content (AreAll order)) }
     {
-        let kept = keeper.deltas();
-        put_all(alloc, keeper, self.behind(kept))?;
+        self.put_up_to(alloc, keeper, self.last)
+    }
+
+    /// Drops the oldest page, behind putting those of its messages that the keeper lacks. After a fault the page is there
+    /// still, and the keeper may have some of its messages more.
+    pub fn make_room<K: Keeper>(&mut self, alloc: Global, keeper: &mut K) -> Result<(), DeltaFault>
+        requires full { IsFull self.old }
+        requires reached { self.old.before ≤ (K.seen keeper.old).deltas }
+        ensures drops { OnOk result (DropsPage self.old self.new) }
+        ensures same { OnErr result (self.new ≡ self.old) }
+        ensures writes { Writes (K.seen keeper.old) (K.seen keeper.new) result }
+        ensures puts { PutsAll (lacking_up_to self.old (K.seen keeper.old).deltas (self.old.before + PAGE)) (K.seen keeper.old) (K.seen keeper.new) result }
+        ensures reached { self.new.before ≤ (K.seen keeper.new).deltas }
+        ensures stands { (order : List Message) → Tells (K.seen keeper.old).content (StandIn self.old order) →
+            Tells (K.seen keeper.new).content (StandIn self.new order) }
+    {
+        let end = self.before + PAGE as u64;
+        self.put_up_to(alloc, keeper, end)?;
+        self.pages.drop_first();
+        self.before = end;
         Ok(())
     }
 
     /// The messages `from` up to, but without, `to`. Those that aren't in memory are read from the keeper; it isn't asked
-    /// where all of them are, as `held` says.
+    /// where all of them are. Each message is a copy.
     pub fn range<K: Keeper>(
         &mut self,
         alloc: Global,
@@ -185,16 +229,11 @@ impl Deltas {
         requires last { to ≤ pushed self.old + 1 }
         requires reached { self.old.before ≤ (K.seen keeper.old).deltas }
         ensures same { self.new ≡ self.old }
-        ensures later { (K.seen keeper.old).faults ≤ (K.seen keeper.new).faults }
-        ensures cause { IfErr result (IsFaultOf (K.seen keeper.old).faults (K.seen keeper.new).faults) }
-        ensures reads { (K.seen keeper.new).reads ≡ (K.seen keeper.old).reads }
-        ensures keeps { KeepsSame (K.seen keeper.old) (K.seen keeper.new) }
-        ensures bad { IfErr result (IsBadIn from to self.old.before) }
-        ensures numbers { IfOk result (λ messages. AreNumbersOf from to messages.items) }
+        ensures reads { Reads (λ v. v.items) from to self.old.before (K.seen keeper.old) (K.seen keeper.new) result }
         ensures answer { Tells (K.seen keeper.old).content (λ content. IsAnswer (λ v. v.items) result (range_of self.old content from to)) }
         ensures memory { AreHeld self.old from to → IsHeldAnswer (λ v. v.items) (held_between self.old (from - 1) (to - 1)) result }
         ensures untouched { AreHeld self.old from to → K.seen keeper.new ≡ K.seen keeper.old }
-        ensures slice { (order : List Message) → Tells (K.seen keeper.old).content (λ content. StandFor self.old order content →
+        ensures slice { (order : List Message) → Tells (K.seen keeper.old).content (λ content. StandIn self.old order content →
             IsSlice (λ v. v.items) (slice order from to) result) }
     {
         self.collect(alloc, from, to, keeper)
@@ -224,18 +263,26 @@ impl Deltas {
     {
         let (start, end) = (from - 1, to - 1);
         let mut messages = read_deltas(alloc, keeper, start, end.min(self.before))?;
-        copy_behind(alloc, &mut messages, self.between(start, end))?;
+        self.copy_between(alloc, &mut messages, start, end)?;
         Ok(messages)
     }
-}
 
-// Puts copies of the messages behind the others.
-fn copy_behind(alloc: Global, messages: &mut Vec<Message>, held: &[Message]) -> Result<(), NoMemory>
-    ensures { OnOk result (messages.new.items ≡ messages.old.items ++ held.now) }
-{
-    for message in held {
-        let copy = message.copy(alloc)?;
-        messages.push(copy)?;
+    // Puts copies of the messages in memory among those of the places from `start` up to `end` behind the others.
+    fn copy_between(
+        &self,
+        alloc: Global,
+        messages: &mut Vec<Message>,
+        start: u64,
+        end: u64,
+    ) -> Result<(), NoMemory>
+        requires { end ≤ pushed self.now }
+        ensures { OnOk result (messages.new.items ≡ messages.old.items ++ held_between self.now start end) }
+    {
+        let first = start.max(self.before);
+        for place in first..end {
+            let copy = self.message(place).copy(alloc)?;
+            messages.push(copy)?;
+        }
+        Ok(())
     }
-    Ok(())
 }

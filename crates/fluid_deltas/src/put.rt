@@ -23,7 +23,11 @@ pub(crate) fn failed<K: Keeper>(before: u64, keeper: &K) -> DeltaFault
 }
 
 // Puts the text of the next message.
-fn put<K: Keeper>(alloc: Global, keeper: &mut K, message: &Message) -> Result<(), DeltaFault>
+pub(crate) fn put<K: Keeper>(
+    alloc: Global,
+    keeper: &mut K,
+    message: &Message,
+) -> Result<(), DeltaFault>
     requires next { message.now.number ≡ (K.seen keeper.old).deltas + 1 }
     requires keepable { IsKeepable message.now }
     ensures later { (K.seen keeper.old).faults ≤ (K.seen keeper.new).faults }
@@ -40,24 +44,4 @@ fn put<K: Keeper>(alloc: Global, keeper: &mut K, message: &Message) -> Result<()
         Err(KeeperFault::Failed) => Err(failed(before, keeper)),
         Err(KeeperFault::NoMemory) => Err(DeltaFault::NoMemory),
     }
-}
-
-// Puts the texts of the next messages, in order.
-pub(crate) fn put_all<K: Keeper>(
-    alloc: Global,
-    keeper: &mut K,
-    messages: &[Message],
-) -> Result<(), DeltaFault>
-    requires next { AreNumberedFrom ((K.seen keeper.old).deltas + 1) messages.now }
-    requires keepable { All IsKeepable messages.now }
-    ensures later { (K.seen keeper.old).faults ≤ (K.seen keeper.new).faults }
-    ensures cause { IfErr result (IsFaultOf (K.seen keeper.old).faults (K.seen keeper.new).faults) }
-    ensures never_bad { IfErr result IsNotBad }
-    ensures reads { (K.seen keeper.new).reads ≡ (K.seen keeper.old).reads }
-    ensures puts { PutsAll messages.now (K.seen keeper.old) (K.seen keeper.new) result }
-{
-    for message in messages {
-        put(alloc, keeper, message)?;
-    }
-    Ok(())
 }

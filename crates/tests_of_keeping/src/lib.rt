@@ -3,8 +3,6 @@
 #![tactic(auto)]
 
 #[cfg(test)]
-mod folding;
-#[cfg(test)]
 mod putting;
 #[cfg(test)]
 mod storing;

@@ -3,7 +3,7 @@ ghost use Rattle.std.specs.Prelude.{◌≡◌};
 ghost use Rattle.fluid_deltas.specs.Pushed.{IsKeepable};
 
 use fluid_codec::{print_message, printed_is_read_back};
-use fluid_deltas::{DeltaFault, Deltas};
+use fluid_deltas::{DeltaFault, Deltas, RESIDENT};
 use fluid_io::{FaultNote, LAST_MOMENT};
 use fluid_json::Json;
 use fluid_log::{Keeper, LONGEST_KEPT, MemoryKeeper};
@@ -49,8 +49,9 @@ fn message(rt: &impl Abort, alloc: Global, number: u64) -> Message
 
 fn push(rt: &impl Abort, alloc: Global, deltas: &mut Deltas) {
     let last = deltas.len();
-    assert!(rt; last < LAST_MOMENT);
-    deltas.reserve().expect(rt, "memory");
+    let resident = deltas.resident();
+    assert!(rt; last < LAST_MOMENT && resident < RESIDENT as u64);
+    deltas.reserve(alloc).expect(rt, "memory");
     deltas.push(message(rt, alloc, last + 1));
 }
 
@@ -217,4 +218,140 @@ fn a_delta_that_is_no_message_of_its_number_is_bad(rt: HostRuntime) {
     assert_bad(&rt, alloc, b"{");
     assert_bad(&rt, alloc, b"\xff");
     assert_bad(&rt, alloc, TEXTS[1].as_bytes());
+}
+
+// Makes room where the most messages are in memory.
+fn make_room(
+    rt: &impl Abort,
+    alloc: Global,
+    deltas: &mut Deltas,
+    keeper: &mut MemoryKeeper,
+) -> Result<(), DeltaFault> {
+    let full = deltas.full();
+    assert!(rt; full && deltas.before() <= keeper.deltas());
+    deltas.make_room(alloc, keeper)
+}
+
+// So many messages of a document that begins, pushed over the keeper.
+fn pushed_over(rt: &impl Abort, alloc: Global, count: u64, keeper: &mut MemoryKeeper) -> Deltas {
+    let mut deltas = Deltas::new(alloc);
+    for _ in 0..count {
+        if deltas.full() {
+            assert!(rt; make_room(rt, alloc, &mut deltas, keeper) == Ok(()));
+        }
+        push(rt, alloc, &mut deltas);
+    }
+    deltas
+}
+
+// The first number of the messages, and how many there are, where they are numbered one by one.
+fn run_of(messages: &[Message]) -> Option<(u64, u64)> {
+    let first = messages.first()?.number;
+    for (place, message) in messages.iter().enumerate() {
+        if message.number != first.saturating_add(place as u64) {
+            return None;
+        }
+    }
+    Some((first, messages.len() as u64))
+}
+
+fn run_held(deltas: &Deltas, bounds: (u64, u64)) -> Option<(u64, u64)> {
+    run_of(deltas.held(bounds.0, bounds.1)?)
+}
+
+fn run_given(
+    rt: &impl Abort,
+    alloc: Global,
+    deltas: &mut Deltas,
+    keeper: &mut MemoryKeeper,
+    bounds: (u64, u64),
+) -> Result<Option<(u64, u64)>, DeltaFault> {
+    let (from, to) = bounds;
+    assert!(rt; 0 < from && from <= to);
+    assert!(rt; to - 1 <= deltas.len() && deltas.before() <= keeper.deltas());
+    let messages = deltas.range(alloc, from, to, keeper)?;
+    Ok(run_of(&messages))
+}
+
+// Ranges of 4,097 messages, how many numbers they have, and whether one page in memory has all of them: the first page
+// is dropped, and those behind it begin at 257, 513 and so on up to 4,097.
+const EDGES: &[((u64, u64), u64, bool)] = &[
+    ((1, 10), 9, false),
+    ((1, 4098), 4097, false),
+    ((254, 256), 2, false),
+    ((255, 257), 2, false),
+    ((256, 257), 1, false),
+    ((256, 258), 2, false),
+    ((257, 258), 1, true),
+    ((257, 260), 3, true),
+    ((257, 513), 256, true),
+    ((257, 514), 257, false),
+    ((512, 513), 1, true),
+    ((512, 514), 2, false),
+    ((513, 514), 1, true),
+    ((255, 4096), 3841, false),
+    ((4094, 4096), 2, true),
+    ((4095, 4097), 2, true),
+    ((4096, 4097), 1, true),
+    ((4096, 4098), 2, false),
+    ((4097, 4098), 1, true),
+];
+
+#[test]
+fn the_oldest_page_goes(rt: HostRuntime) {
+    let alloc = rt.alloc();
+    let mut keeper = keeper_of(&rt, alloc, 0);
+    let mut deltas = pushed_over(&rt, alloc, 4097, &mut keeper);
+    assert!(rt; deltas.resident() == 3841 && deltas.before() == 256);
+    assert!(rt; deltas.len() == 4097 && keeper.deltas() == 256);
+    for (bounds, count, one_page) in EDGES {
+        let run = Some((bounds.0, *count));
+        let held = if *one_page { run } else { None };
+        assert!(rt; run_held(&deltas, *bounds) == held, "{bounds:?}");
+        let given = run_given(&rt, alloc, &mut deltas, &mut keeper, *bounds);
+        assert!(rt; given == Ok(run), "{bounds:?}");
+    }
+    drop(deltas);
+    drop(keeper);
+}
+
+// Where this call fails, room is made at the second try, and the keeper has so many deltas before it.
+fn assert_room(rt: &impl Abort, alloc: Global, failing: u64) {
+    let mut keeper = keeper_of(rt, alloc, failing);
+    let mut deltas = pushed_over(rt, alloc, 4096, &mut keeper);
+    assert!(rt; make_room(rt, alloc, &mut deltas, &mut keeper) == Err(FAILED), "call {failing}");
+    assert!(rt; deltas.resident() == 4096 && keeper.deltas() + 1 == failing, "call {failing}");
+    assert!(rt; run_held(&deltas, (1, 257)) == Some((1, 256)), "call {failing}");
+    assert!(rt; make_room(rt, alloc, &mut deltas, &mut keeper) == Ok(()), "call {failing}");
+    assert!(rt; deltas.resident() == 3840 && keeper.deltas() == 256, "call {failing}");
+    drop(deltas);
+    drop(keeper);
+}
+
+#[test]
+fn a_page_stays_until_all_its_messages_are_kept(rt: HostRuntime) {
+    let alloc = rt.alloc();
+    for failing in [1, 2, 128, 255, 256] {
+        assert_room(&rt, alloc, failing);
+    }
+}
+
+// Where this call fails, a range over the last three deltas and the first message in memory is given at the second try.
+fn assert_read(rt: &impl Abort, alloc: Global, failing: u64) {
+    let mut keeper = keeper_of(rt, alloc, failing);
+    let mut deltas = pushed_over(rt, alloc, 4097, &mut keeper);
+    let given = run_given(rt, alloc, &mut deltas, &mut keeper, (254, 258));
+    assert!(rt; given == Err(FAILED), "call {failing}");
+    let given = run_given(rt, alloc, &mut deltas, &mut keeper, (254, 258));
+    assert!(rt; given == Ok(Some((254, 4))), "call {failing}");
+    drop(deltas);
+    drop(keeper);
+}
+
+#[test]
+fn each_delta_of_a_range_may_fail(rt: HostRuntime) {
+    let alloc = rt.alloc();
+    for failing in [257, 258, 259] {
+        assert_read(&rt, alloc, failing);
+    }
 }
