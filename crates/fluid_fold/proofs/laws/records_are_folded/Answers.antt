@@ -1,5 +1,0 @@
-use Rattle.fluid_fold.proofs.Foldings.{folded-kept}
-use Rattle.fluid_fold.proofs.laws.records_are_folded.Goals as goal
-
-pub returns : goal.returns
-returns c = folded-kept

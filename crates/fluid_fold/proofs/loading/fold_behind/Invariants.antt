@@ -1,6 +1,0 @@
-use Rattle.fluid_fold.proofs.Progress.{HasFolded}
-use Rattle.fluid_fold.proofs.loading.fold_behind.Given as goal
-
--- the records so far were taken up
-abbrev pub invariant-loop-place : goal.invariant-loop-place
-invariant-loop-place g l = HasFolded (g.K.Keeper.seen l.initial.keeper) (g.K.Keeper.seen l.keeper) l.initial.folded.folding l.folded.folding l.place

@@ -1,6 +1,0 @@
-use Rattle.std.proofs.Common.{rules}
-use Rattle.fluid_fold.proofs.Records.{short_spelled}
-use Rattle.fluid_fold.proofs.loading.spelled.Goals as goal
-
-pub returns-in-Ok : goal.returns-in-Ok
-returns-in-Ok c = short_spelled c.args.text.now c.in-Ok.raw c.if-text-le-SHORT_TEXT.true (search rules)

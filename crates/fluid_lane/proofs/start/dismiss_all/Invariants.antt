@@ -1,6 +1,0 @@
-use Rattle.fluid_lane.proofs.Leaving.{HasDismissed}
-use Rattle.fluid_lane.proofs.start.dismiss_all.Given as goal
-
--- one has left for each turn
-abbrev pub invariant-loop : goal.invariant-loop
-invariant-loop g l = HasDismissed l.fn.moment (g.K.Keeper.seen l.initial.keeper) (g.K.Keeper.seen l.keeper) l.initial.folded.folding l.folded.folding l.counter
