@@ -319,11 +319,26 @@ fn the_oldest_page_goes(rt: HostRuntime) {
 fn assert_room(rt: &impl Abort, alloc: Global, failing: u64) {
     let mut keeper = keeper_of(rt, alloc, failing);
     let mut deltas = pushed_over(rt, alloc, 4096, &mut keeper);
-    assert!(rt; make_room(rt, alloc, &mut deltas, &mut keeper) == Err(FAILED), "call {failing}");
-    assert!(rt; deltas.resident() == 4096 && keeper.deltas() + 1 == failing, "call {failing}");
-    assert!(rt; run_held(&deltas, (1, 257)) == Some((1, 256)), "call {failing}");
-    assert!(rt; make_room(rt, alloc, &mut deltas, &mut keeper) == Ok(()), "call {failing}");
-    assert!(rt; deltas.resident() == 3840 && keeper.deltas() == 256, "call {failing}");
+    assert!(rt;
+        make_room(rt, alloc, &mut deltas, &mut keeper) == Err(FAILED),
+        "call {failing}"
+    );
+    assert!(rt;
+        deltas.resident() == 4096 && keeper.deltas() + 1 == failing,
+        "call {failing}"
+    );
+    assert!(rt;
+        run_held(&deltas, (1, 257)) == Some((1, 256)),
+        "call {failing}"
+    );
+    assert!(rt;
+        make_room(rt, alloc, &mut deltas, &mut keeper) == Ok(()),
+        "call {failing}"
+    );
+    assert!(rt;
+        deltas.resident() == 3840 && keeper.deltas() == 256,
+        "call {failing}"
+    );
     drop(deltas);
     drop(keeper);
 }
