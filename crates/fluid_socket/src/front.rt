@@ -1,5 +1,5 @@
 //! The front over TCP.
-ghost use Rattle.std.specs.Prelude.{◌≡◌, ℕ, ◌+◌, ◌-◌, ◌*◌, ◌^◌, ◌<◌, ◌≤◌, None, IfOk, OnErr};
+ghost use Rattle.std.specs.Prelude.{◌≡◌, ℕ, ◌+◌, ◌-◌, ◌*◌, ◌^◌, ◌<◌, ◌≤◌, None, IfOk, OnErr, OnOk};
 ghost use Rattle.fluid_io.specs.Causes.{HasCause};
 ghost use Rattle.fluid_front.specs.Fronts.{Accepts, CountsStay, GivesNothing};
 ghost use Rattle.fluid_socket.specs.Tcp.{tcp_seen, new_front};
@@ -242,12 +242,13 @@ impl<N: Net, K: Sink> Front for TcpFront<N, K> {
     fn listen<R: Wait>(&mut self, _rt: &R, port: u16, lines: bool) -> Result<(), Failed>
         ensures cause { HasCause (tcp_seen self.old).faults (tcp_seen self.new).faults result }
         ensures same { GivesNothing (tcp_seen self.old) (tcp_seen self.new) }
+        ensures somewhere { OnOk result (0 < self.new.port) }
         ensures nowhere { OnErr result (self.new.port ≡ 0) }
     {
         self.lines = lines;
         let bound = self.bind(port);
         let told = self.tell(&bound, port);
-        if bound.is_err() || told.is_err() {
+        if bound.is_err() || told.is_err() || self.port == 0 {
             self.listener = None;
             self.port = 0;
             self.faults = self.faults.saturating_add(1);
