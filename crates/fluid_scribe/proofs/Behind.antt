@@ -1,15 +1,14 @@
 -- Quorums behind a base.
-use Rattle.std.proofs.Common.{◌≡◌, ℕ, zero, suc, ◌+◌, ◌-◌, ◌<◌, ◌≤◌, arith, Bool, true, false, cond, not, ◌==◌, nat_lt, nat_le, ◌&&◌, if◌then◌else◌, List, [], ◌∷◌, ◌++◌, length, take, drop, filter, fold, All, refl, sym, ap, ap₂, subst, ◌∙◌}
-use Rattle.std.proofs.lemmas.Bool.{le-leb, lt-ltb}
-use Rattle.std.proofs.lemmas.List.Elements.{All-nil, All-cons}
+use Rattle.std.proofs.Common.{◌≡◌, ℕ, zero, suc, ◌+◌, ◌-◌, ◌<◌, ◌≤◌, arith, Bool, true, false, cond, ◌==◌, nat_lt, nat_le, if◌then◌else◌, List, [], ◌∷◌, ◌++◌, length, take, drop, fold, refl, sym, ap, ap₂, ◌∙◌}
+use Rattle.std.proofs.lemmas.Bool.{le-leb}
 use Rattle.fluid_types.specs.declared.messages.Kind.{Kind}
 use Rattle.fluid_types.specs.declared.messages.Kind.TheVariants.{Op, Noop, Propose, Reject, Summarize, Join, Leave, SummaryAck, SummaryNack}
 use Rattle.fluid_types.specs.declared.messages.Message.{Message}
 use Rattle.fluid_types.specs.Quorum.{Quorum, member_of, left_by, proposal_of}
 use Rattle.fluid_quorum.specs.After.{after, is_due}
-use Rattle.fluid_quorum.specs.Noops.{noop, noops, noops_to, advanced}
-use Rattle.fluid_quorum.proofs.Advanced.{IsSettled, after-noop, idle-run, are_noops, stays-later, none_left, idle, same_after, after-number}
-use Rattle.fluid_scribe.specs.State.{is_heard, heard, Minima, changes, Reached, risen, reached, with_next, Brought, brought}
+use Rattle.fluid_quorum.specs.Noops.{noop, advanced}
+use Rattle.fluid_quorum.proofs.Advanced.{IsSettled, idle-run, are_noops, stays-later, none_left, idle, same_after, after-number}
+use Rattle.fluid_scribe.specs.State.{is_heard, heard, Minima, changes, Reached, risen, reached, with_next, brought}
 use Rattle.fluid_scribe.proofs.Sequenced.{IsNext, AreSequenced, sequenced-same}
 
 if_both : {A : Type 0} (test : Bool) {a b c d : A} → a ≡ c → b ≡ d → (if test then a else b) ≡ (if test then c else d)
@@ -148,6 +147,7 @@ module _ (q : Quorum) (settled : IsSettled q) where
     where
       same : (a b : ℕ) → nat_lt (a + 1) b ≡ false → a < b → b ≡ a + 1
       same a b h lt = grind arith
+
       within : (a b : ℕ) → nat_lt (a + 1) b ≡ false → b ≤ a + 1
       within a b h = grind arith
 
@@ -157,6 +157,7 @@ module _ (q : Quorum) (settled : IsSettled q) where
     where
       within : nat_le c.0 number ≡ true → c.0 ≤ number
       within h = grind arith
+
       by : (b : Bool) → nat_le c.0 number ≡ b → reached number q (c ∷ cs) ≡ reached number later (c ∷ cs)
       by true is =
           first-reached number q c cs (within is) ∙ ap (λ p. reached number p cs) (later-advanced c.0 c.1 are.0 are.1.0)
@@ -232,5 +233,5 @@ brought-along (suc k) (x ∷ xs) q number is settled are le =
     step q settled number x xs (omega (arith, is)) are.0 are.1 (is_heard x.kind) (x.minimum == q.minimum) refl refl
     ∙ ap (λ low. brought number (after q x) (heard xs) (changes low xs)) (sym (after-minimum q x))
     ∙ brought-along k xs (after q x) number (omega (arith, is, after-number q x, are.0.number)) (after-settled q x)
-      (sequenced-same xs (suc q.number) (after q x).number x.minimum (after q x).minimum (omega (arith, after-number q x, are.0.number)) (sym (after-minimum q x)) are.1)
-      (omega (arith, le))
+    (sequenced-same xs (suc q.number) (after q x).number x.minimum (after q x).minimum (omega (arith, after-number q x, are.0.number)) (sym (after-minimum q x)) are.1)
+    (omega (arith, le))

@@ -1,14 +1,14 @@
 -- What is kept of an order answers as the rules do over the order.
-use Rattle.std.proofs.Common.{◌≡◌, ℕ, suc, ◌+◌, ◌≤◌, arith, Bool, true, false, not, ◌&&◌, ◌==◌, if◌then◌else◌, List, [], ◌∷◌, ◌++◌, length, Option, Some, None, option_map, All, refl, sym, ap, ap₂, ◌∙◌}
+use Rattle.std.proofs.Common.{◌≡◌, ℕ, suc, ◌+◌, ◌≤◌, arith, Bool, true, false, not, ◌&&◌, ◌==◌, if◌then◌else◌, List, [], ◌∷◌, length, Option, Some, None, option_map, All, refl, sym, ap, ap₂, ◌∙◌}
 use Rattle.std.specs.Prelude.{slice_get}
 use Rattle.std.specs.List.{list_any, last_or}
 use Rattle.std.proofs.lemmas.List.Elements.{All-nil, All-cons, All-append}
 use Rattle.fluid_types.specs.declared.messages.Message.{Message}
 use Rattle.fluid_types.specs.Blobs.{blobs_of}
-use Rattle.fluid_types.specs.Ledger.{Ledger, order}
+use Rattle.fluid_types.specs.Ledger.{order}
 use Rattle.fluid_types.specs.Quorum.{quorum}
 use Rattle.fluid_quorum.specs.declared.state.ScribeState.{ScribeState}
-use Rattle.fluid_rules.specs.Rules.{first_case, IsLegal}
+use Rattle.fluid_rules.specs.Rules.{first_case}
 use Rattle.fluid_rules.specs.Scribe.{is_summarize, answers, reference_of, unanswered, unless_answered, acks, proposed_by, is_stale, is_old, protocol, version, judged, answer_to, answer_by, answer, pending}
 use Rattle.fluid_rules.specs.declared.answers.Answer.TheVariants.{Dropped, Ack, Refused}
 use Rattle.fluid_rules.specs.declared.answers.SummaryRule.TheVariants.{StaleHead, OldReference, Missing}
@@ -54,12 +54,12 @@ judged-same : (s : ScribeState) (ms : List Message) (reference : ℕ) (found : B
 judged-same s ms reference found None known state = refl
 judged-same s ms reference found (Some p) known state =
     ap₂ (λ given q.
-      first_case
-      ((is_stale (last_or None given) p, Refused StaleHead)
-      ∷ (is_old (last_or None given) reference, Refused OldReference)
-      ∷ (not found, Refused Missing)
-      ∷ [])
-      (Ack (version p.app (blobs_of q))))
+    first_case
+    ((is_stale (last_or None given) p, Refused StaleHead)
+    ∷ (is_old (last_or None given) reference, Refused OldReference)
+    ∷ (not found, Refused Missing)
+    ∷ [])
+    (Ack (version p.app (blobs_of q))))
     known state
 
 module _ (ms : List Message) (are : AreSequenced 0 0 ms) where

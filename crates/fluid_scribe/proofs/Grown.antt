@@ -1,6 +1,6 @@
 -- What is kept of an order, with another base and with one message more.
-use Rattle.std.proofs.Common.{◌≡◌, ℕ, zero, suc, ◌+◌, ◌-◌, ◌≤◌, arith, Bool, true, false, cond, not, ◌==◌, if◌then◌else◌, List, [], ◌∷◌, ◌++◌, length, length-append, take, drop, map, filter, fold, min, append-nil, Option, Some, None, option_map, All, refl, sym, ap, ap₂, subst, ◌∙◌}
-use Rattle.std.specs.Prelude.{unwrap_or, option_to_list, slice_get}
+use Rattle.std.proofs.Common.{◌≡◌, ℕ, zero, suc, ◌+◌, ◌-◌, ◌≤◌, arith, Bool, true, false, not, ◌==◌, if◌then◌else◌, List, [], ◌∷◌, ◌++◌, length, take, drop, map, fold, min, append-nil, Option, Some, None, option_map, All, refl, sym, ap, ap₂, subst, ◌∙◌}
+use Rattle.std.specs.Prelude.{unwrap_or, option_to_list}
 use Rattle.std.specs.List.{last_or}
 use Rattle.std.proofs.lemmas.List.{take-append-le, drop-append-le, drop-drop, length-take-le, length-drop, take-append-drop}
 use Rattle.std.proofs.lemmas.List.Elements.{filter-append, All-nil, All-cons, All-append, All-filter}
@@ -11,23 +11,21 @@ use Rattle.fluid_types.specs.declared.verdicts.Verdict.{Verdict}
 use Rattle.fluid_types.specs.declared.verdicts.Verdict.TheVariants.{Sequenced, Nacked, Dropped, Absorbed}
 use Rattle.fluid_types.specs.Ledger.{Ledger, order, messages_of}
 use Rattle.fluid_types.specs.Order.{AreNumberedFrom, AreFirst}
-use Rattle.fluid_types.specs.Quorum.{Quorum, quorum, quorum_of, at_last, members, pending as pending_proposals, proposals, values, standing, latest}
+use Rattle.fluid_types.specs.Quorum.{Quorum, quorum, quorum_of, at_last, pending as pending_proposals, proposals}
 use Rattle.fluid_types.proofs.Ledgers.{order-push}
 use Rattle.fluid_types.proofs.Numbers.{numbered_take}
-use Rattle.fluid_tree.specs.declared.id.SummaryRef.{SummaryRef}
 use Rattle.fluid_quorum.specs.After.{after as quorum_after}
 use Rattle.fluid_quorum.specs.Order.{StandsFor}
 use Rattle.fluid_quorum.specs.declared.state.ScribeState.{ScribeState}
 use Rattle.fluid_quorum.proofs.Advanced.{IsSettled, after-number, stands-all}
-use Rattle.fluid_rules.specs.Past.{Entry}
 use Rattle.fluid_rules.specs.Rules.{IsLegal, verdict}
 use Rattle.fluid_rules.specs.Scribe.{is_summarize, answers, reference_of, unanswered, unless_answered, ack_of, acks_behind, acks}
 use Rattle.fluid_rules.specs.ScribeLaws.{unanswered_by}
 use Rattle.fluid_rules.proofs.Legal.{legal-first, legal-last}
 use Rattle.fluid_rules.proofs.Summaries.{unanswered-push, acks-push}
-use Rattle.fluid_scribe.specs.State.{is_heard, heard, Minima, changes, least_with, base_of, state_at, state_of, Brought, brought, quorum_in, with_base, minimum_in, base_in, ack_in, with_message, after, start}
+use Rattle.fluid_scribe.specs.State.{is_heard, heard, changes, least_with, base_of, state_at, state_of, Brought, brought, quorum_in, with_base, minimum_in, base_in, ack_in, with_message, after}
 use Rattle.fluid_scribe.specs.Laws.{StartsSo, StateGrows}
-use Rattle.fluid_scribe.proofs.Sequenced.{IsNext, AreSequenced, last_of, last_of-push, next-same, next-message, stood, last-risen, last-bounded, sequenced-numbered, sequenced-same, sequenced-drop, sequenced-push, legal-sequenced}
+use Rattle.fluid_scribe.proofs.Sequenced.{IsNext, AreSequenced, last_of, last_of-push, next-same, next-message, stood, last-bounded, sequenced-numbered, sequenced-same, sequenced-drop, sequenced-push, legal-sequenced}
 use Rattle.fluid_scribe.proofs.Behind.{after-settled, after-minimum, brought-along}
 
 -- ---- quorums along an order
@@ -98,11 +96,11 @@ module _ (ms : List Message) (are : AreSequenced 0 0 ms) where
   reach-brought b k le =
       brought-along k (drop b ms) (reach b) (b + k) (omega (arith, reach-number b (omega (arith, le)))) (fold-settled (take b ms) (quorum_of []) none_settled)
       (sequenced-same (drop b ms) (0 + b) (reach b).number (last_of 0 (take b ms)) (reach b).minimum (omega (arith, reach-number b (omega (arith, le)))) (sym (reach-minimum b))
-        (sequenced-drop b ms 0 0 are (omega (arith, le))))
+      (sequenced-drop b ms 0 0 are (omega (arith, le))))
       (omega (arith, le, length-drop b ms))
       ∙ ap₂ (λ (q : Quorum) (rest : List Message). record { quorum = q; behind = heard rest; minima = changes q.minimum rest })
-        (sym (fold-append quorum_after (quorum_of []) (take b ms) (take k (drop b ms))) ∙ ap (fold quorum_after (quorum_of [])) (take-more b k ms))
-        (drop-drop k b ms)
+      (sym (fold-append quorum_after (quorum_of []) (take b ms) (take k (drop b ms))) ∙ ap (fold quorum_after (quorum_of [])) (take-more b k ms))
+      (drop-drop k b ms)
 
   -- the base brought to a later number
   later-brought : (b k : ℕ) → b + k ≤ length ms →
@@ -120,7 +118,7 @@ module _ (ms : List Message) (are : AreSequenced 0 0 ms) where
       let is : b + (number - b) ≡ number = omega (arith, le) in
       subst
       (λ n. brought n (quorum ms b) (heard (drop b ms)) (changes (quorum ms b).minimum (drop b ms))
-        ≡ record { quorum = quorum ms n; behind = heard (drop n ms); minima = changes (quorum ms n).minimum (drop n ms) })
+      ≡ record { quorum = quorum ms n; behind = heard (drop n ms); minima = changes (quorum ms n).minimum (drop n ms) })
       is (later-brought b (number - b) (omega (arith, is, most)))
 
   pub base-moved : (b number : ℕ) → b ≤ number → number ≤ length ms → with_base number (state_at b ms) ≡ state_at number ms

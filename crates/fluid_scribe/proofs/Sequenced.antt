@@ -1,5 +1,5 @@
 -- The order of a legal ledger: how minima and references stand to the numbers of its messages.
-use Rattle.std.proofs.Common.{◌≡◌, ℕ, zero, suc, ◌+◌, ◌≤◌, arith, Bool, true, false, if◌then◌else◌, List, [], ◌∷◌, ◌++◌, length, take, drop, fold, append-nil, Option, Some, None, option_map, refl, sym, ap, subst, ◌∙◌}
+use Rattle.std.proofs.Common.{◌≡◌, ℕ, zero, suc, ◌+◌, ◌≤◌, arith, Bool, true, false, List, [], ◌∷◌, ◌++◌, length, take, drop, fold, append-nil, Option, Some, None, option_map, refl, sym, ap, subst, ◌∙◌}
 use Rattle.std.proofs.lemmas.List.Sums.{fold-append}
 use Rattle.fluid_json.specs.Tree.{Tree}
 use Rattle.fluid_types.specs.declared.entries.Raw.{Raw}
@@ -12,7 +12,7 @@ use Rattle.fluid_types.specs.declared.messages.Message.{Message}
 use Rattle.fluid_types.specs.declared.verdicts.Verdict.{Verdict}
 use Rattle.fluid_types.specs.declared.verdicts.Verdict.TheVariants.{Sequenced, Nacked, Dropped, Absorbed}
 use Rattle.fluid_types.specs.Ledger.{Ledger, messages_of, order, seq}
-use Rattle.fluid_types.specs.Order.{AreNumberedFrom, AreFirst}
+use Rattle.fluid_types.specs.Order.{AreNumberedFrom}
 use Rattle.fluid_types.proofs.Ledgers.{order-push, seq-push}
 use Rattle.fluid_rules.specs.Rules.{minimum, answer_message, unsettled, settled, message, verdict, IsLegal}
 use Rattle.fluid_rules.specs.Scribe.{is_summarize, reference_of, ack_contents, refusal_contents, reported}
@@ -161,8 +161,8 @@ pub stood : (l : Ledger) → IsLegal l → Stood l
 stood =
     legal-induction Stood stood_first
     (λ l entry legal before is.
-      let behind = stood-behind l entry.0 entry.1 legal before (sym is) in
-      record { are = rw (order-push l entry) behind.0; low = rw (order-push l entry) behind.1 })
+    let behind = stood-behind l entry.0 entry.1 legal before (sym is) in
+    record { are = rw (order-push l entry) behind.0; low = rw (order-push l entry) behind.1 })
 
 -- its messages follow one another so
 pub legal-sequenced : (l : Ledger) → IsLegal l → AreSequenced 0 0 (order l)

@@ -10,7 +10,7 @@ use Rattle.fluid_tree.specs.declared.id.SummaryRef.{SummaryRef}
 use Rattle.fluid_quorum.specs.declared.state.ScribeState.{ScribeState}
 use Rattle.fluid_rules.specs.Rules.{IsLegal}
 use Rattle.fluid_rules.specs.Scribe.{acks}
-use Rattle.fluid_scribe.specs.State.{heard, Minima, changes, least_with, Brought, brought, with_base, minimum_in, base_in, with_message, after, start, state_of}
+use Rattle.fluid_scribe.specs.State.{Minima, least_with, brought, with_base, minimum_in, base_in, with_message, after, start}
 use Rattle.fluid_scribe.specs.Tails.{kept, seen, state_with}
 use Rattle.fluid_scribe.specs.declared.tail.Tail.{Tail}
 use Rattle.fluid_scribe.specs.Scribing.{Scribing, prepared, spare_at, unanswered_at, heard_in, summarize_in}

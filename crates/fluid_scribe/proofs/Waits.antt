@@ -1,14 +1,14 @@
 -- Summarize messages that wait.
-use Rattle.std.proofs.Common.{◌≡◌, ℕ, suc, ◌-◌, ◌^◌, ◌<◌, ◌≤◌, ◌==◌, arith, Bool, true, false, not, ◌&&◌, ◌||◌, if◌then◌else◌, List, [], ◌∷◌, ◌++◌, length, min, fold, Option, Some, None, refl, sym, ap, ◌∙◌}
+use Rattle.std.proofs.Common.{◌≡◌, ℕ, suc, ◌-◌, ◌<◌, ◌≤◌, arith, true, List, [], ◌∷◌, ◌++◌, length, min, Option, Some, None, refl, sym, ap, ◌∙◌}
 use Rattle.std.specs.Prelude.{filter, slice_get, slice_index_or, option_to_list}
 use Rattle.std.specs.List.{last_or}
 use Rattle.std.proofs.lemmas.List.Sums.{fold-append}
 use Rattle.fluid_types.specs.declared.messages.Kind.{Kind}
 use Rattle.fluid_types.specs.declared.messages.Kind.TheVariants.{Op, Noop, Propose, Reject, Summarize, Join, Leave, SummaryAck, SummaryNack}
 use Rattle.fluid_types.specs.declared.messages.Message.{Message}
-use Rattle.fluid_rules.specs.Scribe.{is_summarize, answered_by, reference_of, unless_answered}
-use Rattle.fluid_rules.specs.ScribeLaws.{unanswered_by, waiting_behind}
-use Rattle.fluid_scribe.specs.State.{is_heard, heard, least_with}
+use Rattle.fluid_rules.specs.Scribe.{answered_by, reference_of, unless_answered}
+use Rattle.fluid_rules.specs.ScribeLaws.{unanswered_by}
+use Rattle.fluid_scribe.specs.State.{heard, least_with}
 use Rattle.fluid_scribe.proofs.Grown.{least-within}
 use Rattle.fluid_scribe.specs.Scribing.{kept_of, unanswered_at, heard_in, summarize_in}
 
@@ -62,6 +62,7 @@ least-more ws o top =
   where
     below : (us : List Message) (n : ℕ) → least_with n us ≤ n
     below us n = least-within us n
+
     one : (p : Option Message) (n : ℕ) → n ≤ top → least_with n (option_to_list p) ≡ min n (least_with top (option_to_list p))
     one None n le = omega (arith, le)
     one (Some m) n le = omega (arith, le)

@@ -1,5 +1,5 @@
 -- On the way from a base to a later number.
-use Rattle.std.proofs.Common.{◌≡◌, ℕ, zero, suc, ◌+◌, ◌-◌, ◌<◌, ◌≤◌, arith, Bool, true, false, ◌==◌, nat_lt, nat_le, if◌then◌else◌, List, [], ◌∷◌, ◌++◌, length, drop, append_assoc, append-nil, refl, sym, ap, ap₂, ◌∙◌}
+use Rattle.std.proofs.Common.{◌≡◌, ℕ, zero, suc, ◌+◌, ◌-◌, ◌<◌, ◌≤◌, arith, Bool, true, false, ◌==◌, nat_lt, nat_le, List, [], ◌∷◌, ◌++◌, length, drop, append_assoc, append-nil, refl, sym, ap, ap₂, ◌∙◌}
 use Rattle.std.specs.Prelude.{slice_index_or, Result, Ok, Err, OnErr}
 use Rattle.fluid_json.specs.declared.memory.NoMemory.{NoMemory}
 use Rattle.std.proofs.lemmas.Bool.{le-leb}
@@ -8,7 +8,7 @@ use Rattle.fluid_types.specs.Quorum.{Quorum}
 use Rattle.fluid_quorum.specs.After.{after}
 use Rattle.fluid_quorum.specs.Noops.{advanced}
 use Rattle.fluid_quorum.proofs.Advanced.{stays-later, advanced-at}
-use Rattle.fluid_scribe.specs.State.{Minima, Reached, risen, reached, with_next, Brought, brought}
+use Rattle.fluid_scribe.specs.State.{Minima, Reached, risen, reached, with_next, brought}
 use Rattle.fluid_scribe.specs.Tails.{IsPast, IsReached, IsBrought}
 use Rattle.fluid_scribe.specs.declared.tail.Place.{Place}
 

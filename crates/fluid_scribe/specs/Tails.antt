@@ -1,12 +1,12 @@
 -- What is kept in memory for quorums, for private clauses.
-use Rattle.std.specs.Prelude.{◌≡◌, ℕ, nat_le, false, List, [], ◌∷◌, drop, Option, Some, None, option_map, unwrap_or}
+use Rattle.std.specs.Prelude.{◌≡◌, ℕ, nat_le, false, List, [], ◌∷◌, drop, None, option_map, unwrap_or}
 use Rattle.std.specs.Option.{option_map_or}
 use Rattle.std.specs.List.{last_or}
 use Rattle.fluid_types.specs.declared.messages.Message.{Message}
 use Rattle.fluid_types.specs.Quorum.{Quorum}
 use Rattle.fluid_tree.specs.declared.id.SummaryRef.{SummaryRef}
 use Rattle.fluid_quorum.specs.declared.state.ScribeState.{ScribeState}
-use Rattle.fluid_scribe.specs.State.{Minima, Reached, Brought, reached, brought}
+use Rattle.fluid_scribe.specs.State.{Minima, Brought, reached, brought}
 use Rattle.fluid_scribe.specs.declared.tail.Tail.{Tail}
 use Rattle.fluid_scribe.specs.declared.tail.Place.{Place}
 

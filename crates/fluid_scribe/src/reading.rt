@@ -109,5 +109,8 @@ pub(crate) fn kept_of(alloc: Global, message: &Message) -> Result<Option<Message
 fn is_kept(kind: Kind) -> bool
     ensures { result ≡ is_kept kind }
 {
-    matches!(kind, Kind::Join | Kind::Leave | Kind::Propose | Kind::Summarize)
+    matches!(
+        kind,
+        Kind::Join | Kind::Leave | Kind::Propose | Kind::Summarize
+    )
 }

@@ -16,7 +16,9 @@ use crate::job::Job;
 use crate::reading::{ack_of, answered_by, kept_of};
 use crate::ready::ScribeReady;
 use crate::tail::{Parts, Tail};
-use crate::waiting::{add_one, copied_acks, copied_messages, least_reference, lesser, sorted, wait};
+use crate::waiting::{
+    add_one, copied_acks, copied_messages, least_reference, lesser, sorted, wait,
+};
 use fluid_json::NoMemory;
 use fluid_quorum::{Acks, Minima, Quorum, ScribeState};
 use fluid_rules::Answer;

@@ -140,9 +140,9 @@ impl Tail {
     fn bring_due(&self, alloc: Global, base: &mut Quorum) -> Result<Place, NoMemory>
         requires { base.old ≡ self.now.base }
         ensures { IfOk result (λ place. record {
-            quorum = base.new;
-            behind = drop place.messages self.now.behind.items;
-            minima = drop place.changes self.now.minima.items;
+          quorum = base.new;
+          behind = drop place.messages self.now.behind.items;
+          minima = drop place.changes self.now.minima.items;
         } ≡ seen self.now) }
     {
         let mut place = Place::START;

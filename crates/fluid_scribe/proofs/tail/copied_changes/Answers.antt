@@ -1,4 +1,4 @@
-use Rattle.std.proofs.Common.{◌≡◌, ◌<◌, ◌≤◌, ◌++◌, ◌∷◌, [], length, ap, ◌∙◌, rules}
+use Rattle.std.proofs.Common.{◌<◌, ◌≤◌, length, rules}
 use Rattle.fluid_scribe.proofs.Walked.{copied-on, copied-end}
 use Rattle.fluid_scribe.proofs.tail.copied_changes.Goals as goal
 

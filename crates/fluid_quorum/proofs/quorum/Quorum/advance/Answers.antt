@@ -1,9 +1,9 @@
-use Rattle.std.proofs.Common.{rules, ◌≡◌, ◌+◌, ◌∷◌, ◌++◌, not, filter, fold, take, drop, arith, sym, subst, ap, ◌∙◌}
+use Rattle.std.proofs.Common.{rules, ◌≡◌, ◌+◌, ◌++◌, not, filter, fold, drop, arith, sym, subst}
 use Rattle.fluid_quorum.specs.After.{is_due, with_accepted}
 use Rattle.fluid_quorum.specs.Order.{StandsFor}
-use Rattle.fluid_quorum.specs.Noops.{noops_to, advanced}
-use Rattle.fluid_quorum.specs.Kept.{AreRising, AreUpTo, values_of}
-use Rattle.fluid_quorum.proofs.Taken.{left-rising, left-bounded}
+use Rattle.fluid_quorum.specs.Noops.{noops_to}
+use Rattle.fluid_quorum.specs.Kept.{AreRising, values_of}
+use Rattle.fluid_quorum.proofs.Taken.{left-rising}
 use Rattle.fluid_quorum.proofs.Advanced.{IsParted, stays-later, stays-lower, stands-same, advanced-is, advanced-stands, shares, no_more}
 use Rattle.fluid_quorum.proofs.quorum.Quorum.advance.Goals as goal
 

@@ -1,4 +1,4 @@
-use Rattle.std.proofs.Common.{◌≡◌, ◌∙◌, rules}
+use Rattle.std.proofs.Common.{◌∙◌, rules}
 use Rattle.fluid_scribe.proofs.Taken.{stands-acks}
 use Rattle.fluid_scribe.proofs.scribe.Scribe.acks.Goals as goal
 

@@ -1,6 +1,5 @@
-use Rattle.std.proofs.Common.{◌≡◌, ◌<◌, ◌-◌, ◌^◌, ◌≤◌, ◌++◌, ◌∙◌, sym, ap, arith, rules}
+use Rattle.std.proofs.Common.{◌≡◌, ◌<◌, ◌++◌, ◌∙◌, sym, ap}
 use Rattle.std.specs.Prelude.{option_to_list}
-use Rattle.fluid_quorum.specs.declared.state.ScribeState.{ScribeState}
 use Rattle.fluid_scribe.specs.State.{brought, after}
 use Rattle.fluid_scribe.specs.Scribing.{Scribing, unanswered_at, spare_at}
 use Rattle.fluid_scribe.specs.Tails.{state_with, kept}
