@@ -1,9 +1,13 @@
-// The table of joined clients.
+// The table of joined clients. Nobody counts its steps.
+ghost use Rattle.std.specs.Prelude.{◌≡◌, ◌<◌};
+
 use crate::words::{number_of, split};
-use fluid_clients::{Clients, Row};
+use fluid_clients::{Clients, Row, Steps};
 use fluid_json::{NoMemory, Text};
 use fluid_types::{ClientId, Scopes};
 use std::alloc::Global;
+use std::marker::Brand;
+use std::sync::ledger::{Blank, Ledger};
 
 // What is answered to each of these calls on an empty table, which stand behind a semicolon each.
 pub(crate) fn told(alloc: Global, text: &str) -> Result<Text, NoMemory> {
@@ -54,21 +58,26 @@ fn answer_of(
     let (first, second) = split(numbers);
     let (first, second) = (number_of(first), number_of(second));
     match word {
-        "join" => join(alloc, clients, id, first),
-        "leave" => truth_told(alloc, clients.leave(&id)),
-        "accept" => accept(alloc, clients, &id, first, second),
-        "mark" => mark(alloc, clients, &id, first, second),
+        "join" => join::<Brand>(alloc, clients, id, first, Blank::new(1)),
+        "leave" => truth_told(alloc, leave::<Brand>(clients, &id, Blank::new(1))),
+        "accept" => accept::<Brand>(alloc, clients, &id, first, second, Blank::new(1)),
+        "mark" => mark::<Brand>(alloc, clients, &id, first, second, Blank::new(1)),
         "without" => number_told(alloc, clients.min_without(&id)),
         _ => Text::copied(alloc, "no such call"),
     }
 }
 
-fn join(
+fn join<L: Ledger>(
     alloc: Global,
     clients: &mut Clients,
     id: ClientId,
     reference: u64,
-) -> Result<Text, NoMemory> {
+    blank: Blank,
+) -> Result<Text, NoMemory>
+    requires name { blank.name ≡ L.name }
+    requires parts { blank.parts ≡ L.parts }
+    requires some { 0 < blank.parts }
+{
     if clients.row(&id).is_some() {
         return Text::copied(alloc, "joined before");
     }
@@ -83,38 +92,56 @@ fn join(
         },
         heard: 0,
     };
-    clients.join(id, row)?;
+    clients.join(id, row, &mut Steps::<L>::new(blank))?;
     Text::copied(alloc, "in")
 }
 
-fn accept(
+fn accept<L: Ledger>(
     alloc: Global,
     clients: &mut Clients,
     id: &ClientId,
     number: u64,
     reference: u64,
-) -> Result<Text, NoMemory> {
+    blank: Blank,
+) -> Result<Text, NoMemory>
+    requires name { blank.name ≡ L.name }
+    requires parts { blank.parts ≡ L.parts }
+    requires some { 0 < blank.parts }
+{
     clients.reserve()?;
     if clients.row(id).is_none() {
         return Text::copied(alloc, "not joined");
     }
-    clients.accept(id, number, reference);
+    clients.accept(id, number, reference, &mut Steps::<L>::new(blank));
     number_told(alloc, clients.min())
 }
 
-fn mark(
+fn mark<L: Ledger>(
     alloc: Global,
     clients: &mut Clients,
     id: &ClientId,
     number: u64,
     minimum: u64,
-) -> Result<Text, NoMemory> {
+    blank: Blank,
+) -> Result<Text, NoMemory>
+    requires name { blank.name ≡ L.name }
+    requires parts { blank.parts ≡ L.parts }
+    requires some { 0 < blank.parts }
+{
     clients.reserve()?;
     if clients.row(id).is_none() {
         return Text::copied(alloc, "not joined");
     }
-    clients.mark(id, number, minimum);
+    clients.mark(id, number, minimum, &mut Steps::<L>::new(blank));
     number_told(alloc, clients.min())
+}
+
+fn leave<L: Ledger>(clients: &mut Clients, id: &ClientId, blank: Blank) -> bool
+    requires name { blank.name ≡ L.name }
+    requires parts { blank.parts ≡ L.parts }
+    requires some { 0 < blank.parts }
+{
+    clients.leave(id, &mut Steps::<L>::new(blank))
 }
 
 fn truth_told(alloc: Global, truth: bool) -> Result<Text, NoMemory> {

@@ -105,6 +105,7 @@ impl Sequencer {
     pub fn seq(&self) -> u64
         ensures is { result ≡ self.now.state.sequence }
         ensures few { result ≤ 2 ^ 53 - 1 }
+        ensures sound { IsSound self.now.state }
         ensures stands { (ledger : Ledger) → StandsFor self.now.state ledger → result ≡ last_sequence ledger }
     {
         self.sequence

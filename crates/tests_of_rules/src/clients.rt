@@ -1,8 +1,14 @@
 // The least reference with another one of a client, and moments, over a table of clients.
-use fluid_clients::{Clients, Row};
+ghost use Rattle.std.specs.Prelude.{◌≡◌, ◌<◌, None};
+ghost use Rattle.std.specs.FinMap.{get};
+
+use fluid_clients::{Clients, Row, Steps};
+use fluid_json::NoMemory;
 use fluid_types::{ClientId, Scopes};
 use std::alloc::Global;
+use std::marker::Brand;
 use std::process::Abort;
+use std::sync::ledger::{Blank, Ledger};
 
 const WRITER: Scopes = Scopes {
     read: true,
@@ -20,7 +26,22 @@ fn join(rt: &impl Abort, alloc: Global, clients: &mut Clients, name: &str, refer
         scopes: WRITER,
         heard: 1,
     };
-    clients.join(id, row).expect(rt, "memory");
+    take_in::<Brand>(clients, id, row, Blank::new(1)).expect(rt, "memory");
+}
+
+// Takes a client in. Nobody counts the steps.
+fn take_in<L: Ledger>(
+    clients: &mut Clients,
+    id: ClientId,
+    row: Row,
+    blank: Blank,
+) -> Result<(), NoMemory>
+    requires name { blank.name ≡ L.name }
+    requires parts { blank.parts ≡ L.parts }
+    requires some { 0 < blank.parts }
+    requires absent { get clients.old.rows id ≡ None }
+{
+    clients.join(id, row, &mut Steps::<L>::new(blank))
 }
 
 fn least_with(
