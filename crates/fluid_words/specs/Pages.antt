@@ -1,14 +1,21 @@
--- The pages that are shown to a person.
-use Rattle.std.specs.Prelude.{ℕ, List, Option, Some, None}
+-- Which commands are built, and the pages that are shown to a person.
+use Rattle.std.specs.Prelude.{ℕ, Bool, List, Option, Some, None, is_some}
 use Rattle.fluid_words.specs.declared.command.CommandName.{CommandName}
 use Rattle.fluid_words.specs.declared.command.CommandName.TheVariants as name
 use Rattle.fluid_words.specs.declared.pages.TheConstants.{PROGRAM, SEQUENCE, VERSION}
 
+-- the commands that are built, each with its page
+abbrev pub built : CommandName → Option (List ℕ)
+built name.Sequence = Some SEQUENCE.now
+built topic = None
+
+abbrev pub is_built : CommandName → Bool
+is_built topic = is_some (built topic)
+
 -- the page on the program, and the one on each command that is built
 abbrev pub page : Option CommandName → Option (List ℕ)
 page None = Some PROGRAM.now
-page (Some name.Sequence) = Some SEQUENCE.now
-page (Some topic) = None
+page (Some topic) = built topic
 
 -- the program's name and its version
 abbrev pub version_page : List ℕ

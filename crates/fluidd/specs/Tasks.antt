@@ -1,9 +1,11 @@
 -- What the words ask of the program as it is built.
-use Rattle.std.specs.Prelude.{◌≡◌, ◌⊎◌, ℕ, List, Option, Some, None, Result, Ok, Err, codes}
-use Rattle.fluid_words.specs.Pages.{page, version_page}
+use Rattle.std.specs.Prelude.{◌≡◌, ◌⊎◌, ℕ, List, Option, Some, None, Result, Ok, Err, codes, if◌then◌else◌}
+use Rattle.fluid_words.specs.Pages.{is_built, page, version_page}
 use Rattle.fluid_words.specs.Words.{command_of}
 use Rattle.fluid_words.specs.declared.command.Command.{Command}
-use Rattle.fluid_words.specs.declared.command.Command.TheVariants.{Sequence, Help, Version}
+use Rattle.fluid_words.specs.declared.command.Command.TheVariants.{Sequence, Script, Load, Workload, Serve, Help, Version}
+use Rattle.fluid_words.specs.declared.command.CommandName.{CommandName}
+use Rattle.fluid_words.specs.declared.command.CommandName.TheVariants as name
 use Rattle.fluid_words.specs.declared.command.WordsFault.{WordsFault}
 use Rattle.fluidd.specs.declared.status.Status.{Status}
 use Rattle.fluidd.specs.declared.status.Status.TheVariants as status
@@ -14,9 +16,9 @@ use Rattle.fluidd.specs.declared.task.Task.TheVariants as taken
 abbrev pub usage_line : List ℕ
 usage_line = codes "usage: fluidd sequence | script | load DOC | workload N [--clients C] [--ops K] | serve PORT [--connections N] [--lines]\n"
 
--- what may be done: the command `sequence`, a page for a person, or the usage line
+-- what may be done: a command that is built, a page for a person, or the usage line
 pub data Task : Type 0 where
-  Sequencing : Task
+  Doing : Command → Task
   Showing : (page : List ℕ) → Task
   Usage : Task
 
@@ -25,12 +27,18 @@ abbrev pub page_task : Option (List ℕ) → Task
 page_task (Some text) = Showing text
 page_task None = Usage
 
--- which commands are built: one that isn't gets the usage line
+-- a command where the one of this name is built, and else the usage line
+abbrev pub if_built : CommandName → Command → Task
+if_built topic command = if is_built topic then Doing command else Usage
+
 abbrev pub task_by : Command → Task
-task_by Sequence = Sequencing
+task_by Sequence = if_built name.Sequence Sequence
+task_by Script = if_built name.Script Script
+task_by (Load document) = if_built name.Load (Load document)
+task_by (Workload number clients ops) = if_built name.Workload (Workload number clients ops)
+task_by (Serve port connections lines) = if_built name.Serve (Serve port connections lines)
 task_by (Help topic) = page_task (page topic)
 task_by Version = Showing version_page
-task_by command = Usage
 
 abbrev pub task_for : Result Command WordsFault → Task
 task_for (Ok command) = task_by command
@@ -45,9 +53,10 @@ abbrev pub IsShown : Status → List ℕ → Taken → Type 0
 IsShown status text taken.Sequence = ⊥
 IsShown status text (taken.Show its_status its_text) = (its_status ≡ status) × (its_text.now ≡ text)
 
--- what is done is what is asked for
+-- what is done is what is asked for; of the commands only `sequence` is done, so no other may be built
 abbrev pub IsTask : Task → Taken → Type 0
-IsTask Sequencing done = done ≡ taken.Sequence
+IsTask (Doing Sequence) done = done ≡ taken.Sequence
+IsTask (Doing command) done = ⊥
 IsTask (Showing text) done = IsShown status.Done text done
 IsTask Usage done = IsShown status.Usage usage_line done
 

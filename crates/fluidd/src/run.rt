@@ -2,7 +2,8 @@
 ghost use Rattle.std.specs.Prelude.{◌≡◌, ℕ, List};
 ghost use Rattle.fluidd.specs.Input.{full};
 ghost use Rattle.fluidd.specs.Output.{Sequences, Shows, code_of};
-ghost use Rattle.fluidd.specs.Tasks.{IsPage, Sequencing, Showing, Usage, task_of, usage_line};
+ghost use Rattle.fluid_words.specs.declared.command.Command.TheVariants.{Sequence};
+ghost use Rattle.fluidd.specs.Tasks.{Doing, IsPage, Showing, Usage, task_of, usage_line};
 
 use crate::sequence::sequence_within;
 use crate::status::Status;
@@ -22,12 +23,12 @@ pub fn run<R, S: Source, K: Sink>(
     input: &mut S,
     output: &mut K,
 ) -> u8
-    ensures sequence { task_of words.now ≡ Sequencing →
+    ensures sequence { task_of words.now ≡ Doing Sequence →
         Sequences full (S.seen input.old) (K.seen output.old) (S.seen input.new) (K.seen output.new) result }
     ensures page { (text : List ℕ) → task_of words.now ≡ Showing text →
         Shows 0 text (K.seen output.old) (K.seen output.new) result }
     ensures usage { task_of words.now ≡ Usage → Shows 2 usage_line (K.seen output.old) (K.seen output.new) result }
-    ensures untouched { (task_of words.now ≡ Sequencing → ⊥) → S.seen input.new ≡ S.seen input.old }
+    ensures untouched { (task_of words.now ≡ Doing Sequence → ⊥) → S.seen input.new ≡ S.seen input.old }
 {
     match read_task(alloc, words) {
         Ok(Task::Sequence) => {

@@ -5,7 +5,8 @@ ghost use Rattle.fluidd.specs.Output.{code_of};
 /// How a run ends; its code is the exit status of the program.
 #[derive(Clone, Copy, Debug, PartialEq, Eq)]
 pub enum Status {
-    /// No line is refused, the source has nothing left, and the verdict line of each record was written to the sink.
+    /// What the words ask for is done. Of a command: no line is refused, the source has nothing left, and the verdict line
+    /// of each record was written to the sink. Of a page or the version: its text was written.
     Done,
     /// The words are no command.
     Usage,

@@ -1,691 +1,414 @@
-//! The program over readers and writers in memory.
-ghost use Rattle.std.specs.Prelude.{◌<◌};
+//! The program over readers and writers in memory: what fails, what limits refuse, and what stays unread. What the program
+//! writes for an input and for words is among the examples, which are run outside the proofs.
 
 use crate::run::run;
 use crate::sequence::sequence_within;
-use fluid_io::{Failed, MemorySink, MemorySource, Source};
+use fluid_io::{MemorySink, MemorySource, Source};
 use fluid_json::Text;
-use fluid_words::{CommandName, VERSION, page};
-use std::alloc::{AllocError, Global};
-use std::fmt::Write;
+use std::alloc::Global;
 use std::process::Abort;
-use std::test::Fail;
 
 // A join, and the line of its verdict in an empty document.
 const JOIN: &str =
-    r#"{"raw":"join","clientId":"A","detail":null,"scopes":["doc:read","doc:write"],"moment":5}"#;
+    r#"{"raw":"join","clientId":"A","detail":null,"scopes":["doc:read","doc:write"],"moment":5}
+"#;
 
 const JOINED: &str =
-    r#"{"sequenced":{"clientId":null,"clientSequenceNumber":-1,"contents":null,"data":"{\"clientId\":\"A\",\"detail\":null}","minimumSequenceNumber":0,"referenceSequenceNumber":-1,"sequenceNumber":1,"timestamp":5,"type":"join"}}"#;
+    r#"{"sequenced":{"clientId":null,"clientSequenceNumber":-1,"contents":null,"data":"{\"clientId\":\"A\",\"detail\":null}","minimumSequenceNumber":0,"referenceSequenceNumber":-1,"sequenceNumber":1,"timestamp":5,"type":"join"}}
+"#;
 
-const USAGE: &str =
-    "usage: fluidd sequence | script | load DOC | workload N [--clients C] [--ops K] | serve PORT [--connections N] [--lines]\n";
+// The same with a refused line behind it.
+const REFUSED: &str =
+    r#"{"sequenced":{"clientId":null,"clientSequenceNumber":-1,"contents":null,"data":"{\"clientId\":\"A\",\"detail\":null}","minimumSequenceNumber":0,"referenceSequenceNumber":-1,"sequenceNumber":1,"timestamp":5,"type":"join"}}
+bad line 2: not JSON
+"#;
 
-// Two clients: one falls below the minimum, is refused until it leaves, and still counts in the minimum; then they leave, and a third joins.
-const MARKED_CLIENT: &[(&str, &str)] = &[
-    (
-        r#"{"raw":"join","clientId":"A","detail":null,"scopes":["doc:read","doc:write"],"moment":1}"#,
-        r#"{"sequenced":{"clientId":null,"clientSequenceNumber":-1,"contents":null,"data":"{\"clientId\":\"A\",\"detail\":null}","minimumSequenceNumber":0,"referenceSequenceNumber":-1,"sequenceNumber":1,"timestamp":1,"type":"join"}}"#,
-    ),
-    (
-        r#"{"raw":"join","clientId":"B","detail":null,"scopes":["doc:read","doc:write"],"moment":2}"#,
-        r#"{"sequenced":{"clientId":null,"clientSequenceNumber":-1,"contents":null,"data":"{\"clientId\":\"B\",\"detail\":null}","minimumSequenceNumber":0,"referenceSequenceNumber":-1,"sequenceNumber":2,"timestamp":2,"type":"join"}}"#,
-    ),
-    (
-        r#"{"raw":"submit","clientId":"A","moment":3,"operation":{"clientSequenceNumber":1,"contents":null,"referenceSequenceNumber":2,"type":"op"}}"#,
-        r#"{"sequenced":{"clientId":"A","clientSequenceNumber":1,"contents":null,"minimumSequenceNumber":0,"referenceSequenceNumber":2,"sequenceNumber":3,"timestamp":3,"type":"op"}}"#,
-    ),
-    (
-        r#"{"raw":"submit","clientId":"B","moment":4,"operation":{"clientSequenceNumber":1,"contents":null,"referenceSequenceNumber":3,"type":"op"}}"#,
-        r#"{"sequenced":{"clientId":"B","clientSequenceNumber":1,"contents":null,"minimumSequenceNumber":2,"referenceSequenceNumber":3,"sequenceNumber":4,"timestamp":4,"type":"op"}}"#,
-    ),
-    (
-        r#"{"raw":"join","clientId":"A","detail":null,"scopes":["doc:read","doc:write"],"moment":5}"#,
-        r#"{"dropped":true}"#,
-    ),
-    (
-        r#"{"raw":"submit","clientId":"A","moment":9,"operation":{"clientSequenceNumber":2,"contents":null,"referenceSequenceNumber":1,"type":"op"}}"#,
-        r#"{"clientId":"A","nacked":{"content":{"code":400,"message":"Reference below the minimum","type":"BadRequestError"},"operation":{"clientSequenceNumber":2,"contents":null,"referenceSequenceNumber":1,"type":"op"},"sequenceNumber":2}}"#,
-    ),
-    (
-        r#"{"raw":"submit","clientId":"B","moment":10,"operation":{"clientSequenceNumber":2,"contents":null,"referenceSequenceNumber":4,"type":"op"}}"#,
-        r#"{"sequenced":{"clientId":"B","clientSequenceNumber":2,"contents":null,"minimumSequenceNumber":2,"referenceSequenceNumber":4,"sequenceNumber":5,"timestamp":10,"type":"op"}}"#,
-    ),
-    (
-        r#"{"raw":"submit","clientId":"A","moment":11,"operation":{"clientSequenceNumber":2,"contents":null,"referenceSequenceNumber":4,"type":"op"}}"#,
-        r#"{"dropped":true}"#,
-    ),
-    (
-        r#"{"raw":"submit","clientId":"A","moment":12,"operation":{"clientSequenceNumber":4,"contents":null,"referenceSequenceNumber":4,"type":"op"}}"#,
-        r#"{"clientId":"A","nacked":{"content":{"code":400,"message":"Gap in client sequence numbers","type":"BadRequestError"},"operation":{"clientSequenceNumber":4,"contents":null,"referenceSequenceNumber":4,"type":"op"},"sequenceNumber":2}}"#,
-    ),
-    (
-        r#"{"raw":"submit","clientId":"A","moment":13,"operation":{"clientSequenceNumber":3,"contents":null,"referenceSequenceNumber":4,"type":"op"}}"#,
-        r#"{"clientId":"A","nacked":{"content":{"code":400,"message":"Nonexistent client","type":"BadRequestError"},"operation":{"clientSequenceNumber":3,"contents":null,"referenceSequenceNumber":4,"type":"op"},"sequenceNumber":2}}"#,
-    ),
-    (
-        r#"{"raw":"submit","clientId":"A","moment":14,"operation":{"clientSequenceNumber":3,"contents":null,"referenceSequenceNumber":4,"type":"op"}}"#,
-        r#"{"clientId":"A","nacked":{"content":{"code":400,"message":"Nonexistent client","type":"BadRequestError"},"operation":{"clientSequenceNumber":3,"contents":null,"referenceSequenceNumber":4,"type":"op"},"sequenceNumber":2}}"#,
-    ),
-    (
-        r#"{"raw":"leave","clientId":"A","moment":15}"#,
-        r#"{"sequenced":{"clientId":null,"clientSequenceNumber":-1,"contents":null,"data":"\"A\"","minimumSequenceNumber":4,"referenceSequenceNumber":-1,"sequenceNumber":6,"timestamp":15,"type":"leave"}}"#,
-    ),
-    (
-        r#"{"raw":"leave","clientId":"B","moment":16}"#,
-        r#"{"sequenced":{"clientId":null,"clientSequenceNumber":-1,"contents":null,"data":"\"B\"","minimumSequenceNumber":7,"referenceSequenceNumber":-1,"sequenceNumber":7,"timestamp":16,"type":"leave"}}"#,
-    ),
-    (
-        r#"{"raw":"leave","clientId":"B","moment":17}"#,
-        r#"{"dropped":true}"#,
-    ),
-    (
-        r#"{"raw":"join","clientId":"C","detail":null,"scopes":["doc:read","doc:write"],"moment":18}"#,
-        r#"{"sequenced":{"clientId":null,"clientSequenceNumber":-1,"contents":null,"data":"{\"clientId\":\"C\",\"detail\":null}","minimumSequenceNumber":7,"referenceSequenceNumber":-1,"sequenceNumber":8,"timestamp":18,"type":"join"}}"#,
-    ),
-    (
-        r#"{"raw":"submit","clientId":"D","moment":19,"operation":{"clientSequenceNumber":1,"contents":null,"referenceSequenceNumber":8,"type":"op"}}"#,
-        r#"{"clientId":"D","nacked":{"content":{"code":400,"message":"Nonexistent client","type":"BadRequestError"},"operation":{"clientSequenceNumber":1,"contents":null,"referenceSequenceNumber":8,"type":"op"},"sequenceNumber":7}}"#,
-    ),
-    (
-        r#"{"raw":"submit","clientId":"C","moment":20,"operation":{"clientSequenceNumber":1,"contents":null,"referenceSequenceNumber":-1,"type":"op"}}"#,
-        r#"{"sequenced":{"clientId":"C","clientSequenceNumber":1,"contents":null,"minimumSequenceNumber":9,"referenceSequenceNumber":9,"sequenceNumber":9,"timestamp":20,"type":"op"}}"#,
-    ),
-    (
-        r#"{"raw":"submit","clientId":"C","moment":21,"operation":{"clientSequenceNumber":2,"contents":null,"referenceSequenceNumber":10,"type":"op"}}"#,
-        r#"{"clientId":"C","nacked":{"content":{"code":400,"message":"Reference ahead of the order","type":"BadRequestError"},"operation":{"clientSequenceNumber":2,"contents":null,"referenceSequenceNumber":10,"type":"op"},"sequenceNumber":9}}"#,
-    ),
-    (
-        r#"{"raw":"submit","clientId":"C","moment":22,"operation":{"clientSequenceNumber":2,"contents":null,"referenceSequenceNumber":9,"type":"op"}}"#,
-        r#"{"sequenced":{"clientId":"C","clientSequenceNumber":2,"contents":null,"minimumSequenceNumber":9,"referenceSequenceNumber":9,"sequenceNumber":10,"timestamp":22,"type":"op"}}"#,
-    ),
-    (
-        r#"{"raw":"submit","clientId":"C","moment":23,"operation":{"clientSequenceNumber":0,"contents":null,"referenceSequenceNumber":9,"type":"op"}}"#,
-        r#"{"dropped":true}"#,
-    ),
+// A join, a line that is no JSON, and one more or none behind it.
+const THREE: &str =
+    r#"{"raw":"join","clientId":"A","detail":null,"scopes":["doc:read","doc:write"],"moment":5}
+7 8
+{"raw":"join","clientId":"A","detail":null,"scopes":["doc:read","doc:write"],"moment":5}
+"#;
+
+const CUT: &str =
+    r#"{"raw":"join","clientId":"A","detail":null,"scopes":["doc:read","doc:write"],"moment":5}
+7 8"#;
+
+// A run: its words, its input, how many bytes a call reads or writes at most, and which reads and which calls of the sink
+// fail. It ends with a status, and writes so many bytes from the front of an output.
+#[derive(Clone, Copy)]
+struct Run<'a> {
+    words: &'a [&'a str],
+    input: &'a str,
+    most: usize,
+    reads: &'a [u64],
+    writes: &'a [u64],
+    status: u8,
+    length: usize,
+    output: &'a str,
+}
+
+const FAULTS: &[Run] = &[
+    // Reads of 96 bytes give the first line and the second one, and the third in parts.
+    Run {
+        words: &["sequence"],
+        input: THREE,
+        most: 96,
+        reads: &[1],
+        writes: &[],
+        status: 4,
+        length: 0,
+        output: REFUSED,
+    },
+    Run {
+        words: &["sequence"],
+        input: THREE,
+        most: 96,
+        reads: &[2],
+        writes: &[],
+        status: 3,
+        length: 243,
+        output: REFUSED,
+    },
+    // With no line end behind it a line was read once a read has given nothing.
+    Run {
+        words: &["sequence"],
+        input: CUT,
+        most: 96,
+        reads: &[2],
+        writes: &[],
+        status: 4,
+        length: 222,
+        output: REFUSED,
+    },
+    Run {
+        words: &["sequence"],
+        input: CUT,
+        most: 96,
+        reads: &[3],
+        writes: &[],
+        status: 3,
+        length: 243,
+        output: REFUSED,
+    },
+    // Four writes of 64 bytes take the line, and then the sink hands it on.
+    Run {
+        words: &["sequence"],
+        input: JOIN,
+        most: 64,
+        reads: &[],
+        writes: &[1],
+        status: 5,
+        length: 0,
+        output: JOINED,
+    },
+    Run {
+        words: &["sequence"],
+        input: JOIN,
+        most: 64,
+        reads: &[],
+        writes: &[2],
+        status: 5,
+        length: 64,
+        output: JOINED,
+    },
+    Run {
+        words: &["sequence"],
+        input: JOIN,
+        most: 64,
+        reads: &[],
+        writes: &[3],
+        status: 5,
+        length: 128,
+        output: JOINED,
+    },
+    Run {
+        words: &["sequence"],
+        input: JOIN,
+        most: 64,
+        reads: &[],
+        writes: &[4],
+        status: 5,
+        length: 192,
+        output: JOINED,
+    },
+    Run {
+        words: &["sequence"],
+        input: JOIN,
+        most: 64,
+        reads: &[],
+        writes: &[5],
+        status: 5,
+        length: 222,
+        output: JOINED,
+    },
+    // A page, the version and the usage line, and the version with a sink that doesn't hand it on.
+    Run {
+        words: &["--help"],
+        input: "",
+        most: 64,
+        reads: &[],
+        writes: &[1],
+        status: 5,
+        length: 0,
+        output: "",
+    },
+    Run {
+        words: &["--version"],
+        input: "",
+        most: 64,
+        reads: &[],
+        writes: &[1],
+        status: 5,
+        length: 0,
+        output: "",
+    },
+    Run {
+        words: &[],
+        input: "",
+        most: 64,
+        reads: &[],
+        writes: &[1],
+        status: 5,
+        length: 0,
+        output: "",
+    },
+    Run {
+        words: &["--version"],
+        input: "",
+        most: 64,
+        reads: &[],
+        writes: &[2],
+        status: 5,
+        length: 13,
+        output: "fluidd 0.1.0\n",
+    },
 ];
 
-// A summary whose tree isn't stored, one that is acknowledged with the order's state at 3, and one that builds on another; each
-// report again, and one on a join, is dropped.
-const REPORTS: &[(&str, &str)] = &[
-    (
-        r#"{"raw":"join","clientId":"A","detail":null,"scopes":["doc:read","doc:write","summary:write"],"moment":1}"#,
-        r#"{"sequenced":{"clientId":null,"clientSequenceNumber":-1,"contents":null,"data":"{\"clientId\":\"A\",\"detail\":null}","minimumSequenceNumber":0,"referenceSequenceNumber":-1,"sequenceNumber":1,"timestamp":1,"type":"join"}}"#,
-    ),
-    (
-        r#"{"raw":"submit","clientId":"A","moment":2,"operation":{"clientSequenceNumber":1,"contents":{"handle":"4b825dc642cb6eb9a060e54bf8d69288fbee4904","head":""},"referenceSequenceNumber":1,"type":"summarize"}}"#,
-        r#"{"sequenced":{"clientId":"A","clientSequenceNumber":1,"contents":{"handle":"4b825dc642cb6eb9a060e54bf8d69288fbee4904","head":""},"minimumSequenceNumber":1,"referenceSequenceNumber":1,"sequenceNumber":2,"timestamp":2,"type":"summarize"}}"#,
-    ),
-    (
-        r#"{"raw":"report","found":false,"moment":3,"summary":2}"#,
-        r#"{"sequenced":{"clientId":null,"clientSequenceNumber":-1,"contents":{"code":400,"message":"summary tree is not stored","summaryProposal":{"summarySequenceNumber":2}},"minimumSequenceNumber":1,"referenceSequenceNumber":-1,"sequenceNumber":3,"timestamp":3,"type":"summaryNack"}}"#,
-    ),
-    (
-        r#"{"raw":"report","found":false,"moment":4,"summary":2}"#,
-        r#"{"dropped":true}"#,
-    ),
-    (
-        r#"{"raw":"submit","clientId":"A","moment":5,"operation":{"clientSequenceNumber":2,"contents":{"handle":"4b825dc642cb6eb9a060e54bf8d69288fbee4904","head":""},"referenceSequenceNumber":3,"type":"summarize"}}"#,
-        r#"{"sequenced":{"clientId":"A","clientSequenceNumber":2,"contents":{"handle":"4b825dc642cb6eb9a060e54bf8d69288fbee4904","head":""},"minimumSequenceNumber":3,"referenceSequenceNumber":3,"sequenceNumber":4,"timestamp":5,"type":"summarize"}}"#,
-    ),
-    (
-        r#"{"raw":"report","found":true,"moment":6,"summary":1}"#,
-        r#"{"dropped":true}"#,
-    ),
-    (
-        r#"{"raw":"report","found":true,"moment":7,"summary":4}"#,
-        r#"{"sequenced":{"clientId":null,"clientSequenceNumber":-1,"contents":{"handle":"bd68040e94df41e8e3d8ba9dbbabace616548f73","summaryProposal":{"summarySequenceNumber":4}},"minimumSequenceNumber":3,"referenceSequenceNumber":-1,"sequenceNumber":5,"timestamp":7,"type":"summaryAck"}}"#,
-    ),
-    (
-        r#"{"raw":"report","found":true,"moment":8,"summary":4}"#,
-        r#"{"dropped":true}"#,
-    ),
-    (
-        r#"{"raw":"submit","clientId":"A","moment":9,"operation":{"clientSequenceNumber":3,"contents":{"handle":"4b825dc642cb6eb9a060e54bf8d69288fbee4904","head":""},"referenceSequenceNumber":5,"type":"summarize"}}"#,
-        r#"{"sequenced":{"clientId":"A","clientSequenceNumber":3,"contents":{"handle":"4b825dc642cb6eb9a060e54bf8d69288fbee4904","head":""},"minimumSequenceNumber":5,"referenceSequenceNumber":5,"sequenceNumber":6,"timestamp":9,"type":"summarize"}}"#,
-    ),
-    (
-        r#"{"raw":"report","found":true,"moment":10,"summary":6}"#,
-        r#"{"sequenced":{"clientId":null,"clientSequenceNumber":-1,"contents":{"code":400,"message":"head is not the last acknowledged summary","summaryProposal":{"summarySequenceNumber":6}},"minimumSequenceNumber":5,"referenceSequenceNumber":-1,"sequenceNumber":7,"timestamp":10,"type":"summaryNack"}}"#,
-    ),
-    (
-        r#"{"raw":"submit","clientId":"A","moment":11,"operation":{"clientSequenceNumber":4,"contents":{"handle":"4b825dc642cb6eb9a060e54bf8d69288fbee4904","head":"bd68040e94df41e8e3d8ba9dbbabace616548f73"},"referenceSequenceNumber":2,"type":"summarize"}}"#,
-        r#"{"clientId":"A","nacked":{"content":{"code":400,"message":"Reference below the minimum","type":"BadRequestError"},"operation":{"clientSequenceNumber":4,"contents":{"handle":"4b825dc642cb6eb9a060e54bf8d69288fbee4904","head":"bd68040e94df41e8e3d8ba9dbbabace616548f73"},"referenceSequenceNumber":2,"type":"summarize"},"sequenceNumber":5}}"#,
-    ),
-    (
-        r#"{"raw":"leave","clientId":"A","moment":12}"#,
-        r#"{"sequenced":{"clientId":null,"clientSequenceNumber":-1,"contents":null,"data":"\"A\"","minimumSequenceNumber":8,"referenceSequenceNumber":-1,"sequenceNumber":8,"timestamp":12,"type":"leave"}}"#,
-    ),
+// A leave of nobody and the line of its verdict, 4,000 times: 168,000 bytes in and 68,000 out. Which reads of 64 KiB fail and
+// which calls of the sink, the status, and how many bytes are written.
+const LEAVE: &str = r#"{"raw":"leave","clientId":"B","moment":1}
+"#;
+
+const DROPPED: &str = r#"{"dropped":true}
+"#;
+
+const LONG: &[(&[u64], &[u64], u8, usize)] = &[
+    // 65,536 bytes have 1,560 lines in them, and twice as many 3,120. The fourth read tells the end, and a fifth there isn't.
+    (&[1], &[], 4, 0),
+    (&[2], &[], 4, 26_520),
+    (&[3], &[], 4, 53_040),
+    (&[4], &[], 4, 68_000),
+    (&[5], &[], 0, 68_000),
+    // Lines go to the sink once they are 64 KiB, which 3,856 of them are, and at the end; with two calls each time.
+    (&[], &[1], 5, 0),
+    (&[], &[2], 5, 65_552),
+    (&[], &[3], 5, 65_552),
+    (&[], &[4], 5, 68_000),
+    (&[], &[5], 0, 68_000),
 ];
 
-// A summarize needs its scope; the number that it was refused under isn't used up.
-const MISSING_SCOPE: &[(&str, &str)] = &[
-    (
-        r#"{"raw":"join","clientId":"A","detail":null,"scopes":["doc:write"],"moment":1}"#,
-        r#"{"sequenced":{"clientId":null,"clientSequenceNumber":-1,"contents":null,"data":"{\"clientId\":\"A\",\"detail\":null}","minimumSequenceNumber":0,"referenceSequenceNumber":-1,"sequenceNumber":1,"timestamp":1,"type":"join"}}"#,
-    ),
-    (
-        r#"{"raw":"submit","clientId":"A","moment":2,"operation":{"clientSequenceNumber":1,"contents":null,"referenceSequenceNumber":1,"type":"summarize"}}"#,
-        r#"{"clientId":"A","nacked":{"content":{"code":403,"message":"summary:write is missing","type":"InvalidScopeError"},"operation":{"clientSequenceNumber":1,"contents":null,"referenceSequenceNumber":1,"type":"summarize"},"sequenceNumber":0}}"#,
-    ),
-    (
-        r#"{"raw":"submit","clientId":"A","moment":3,"operation":{"clientSequenceNumber":1,"contents":null,"referenceSequenceNumber":1,"type":"op"}}"#,
-        r#"{"sequenced":{"clientId":"A","clientSequenceNumber":1,"contents":null,"minimumSequenceNumber":1,"referenceSequenceNumber":1,"sequenceNumber":2,"timestamp":3,"type":"op"}}"#,
-    ),
-];
-
-// A client with its scope submits each of the five kinds.
-const FIVE_KINDS: &[(&str, &str)] = &[
-    (
-        r#"{"raw":"join","clientId":"A","detail":null,"scopes":["summary:write","doc:other","doc:read"],"moment":1}"#,
-        r#"{"sequenced":{"clientId":null,"clientSequenceNumber":-1,"contents":null,"data":"{\"clientId\":\"A\",\"detail\":null}","minimumSequenceNumber":0,"referenceSequenceNumber":-1,"sequenceNumber":1,"timestamp":1,"type":"join"}}"#,
-    ),
-    (
-        r#"{"raw":"submit","clientId":"A","moment":2,"operation":{"clientSequenceNumber":1,"contents":{"b":[1,true],"a":"x"},"metadata":null,"referenceSequenceNumber":1,"type":"op"}}"#,
-        r#"{"sequenced":{"clientId":"A","clientSequenceNumber":1,"contents":{"a":"x","b":[1,true]},"metadata":null,"minimumSequenceNumber":1,"referenceSequenceNumber":1,"sequenceNumber":2,"timestamp":2,"type":"op"}}"#,
-    ),
-    (
-        r#"{"raw":"submit","clientId":"A","moment":3,"operation":{"clientSequenceNumber":2,"contents":{"b":[1,true],"a":"x"},"metadata":null,"referenceSequenceNumber":2,"type":"noop"}}"#,
-        r#"{"sequenced":{"clientId":"A","clientSequenceNumber":2,"contents":{"a":"x","b":[1,true]},"metadata":null,"minimumSequenceNumber":2,"referenceSequenceNumber":2,"sequenceNumber":3,"timestamp":3,"type":"noop"}}"#,
-    ),
-    (
-        r#"{"raw":"submit","clientId":"A","moment":4,"operation":{"clientSequenceNumber":3,"contents":{"b":[1,true],"a":"x"},"metadata":null,"referenceSequenceNumber":2,"type":"propose"}}"#,
-        r#"{"sequenced":{"clientId":"A","clientSequenceNumber":3,"contents":{"a":"x","b":[1,true]},"metadata":null,"minimumSequenceNumber":2,"referenceSequenceNumber":2,"sequenceNumber":4,"timestamp":4,"type":"propose"}}"#,
-    ),
-    (
-        r#"{"raw":"submit","clientId":"A","moment":5,"operation":{"clientSequenceNumber":4,"contents":{"b":[1,true],"a":"x"},"metadata":null,"referenceSequenceNumber":2,"type":"reject"}}"#,
-        r#"{"sequenced":{"clientId":"A","clientSequenceNumber":4,"contents":{"a":"x","b":[1,true]},"metadata":null,"minimumSequenceNumber":2,"referenceSequenceNumber":2,"sequenceNumber":5,"timestamp":5,"type":"reject"}}"#,
-    ),
-    (
-        r#"{"raw":"submit","clientId":"A","moment":6,"operation":{"clientSequenceNumber":5,"contents":{"b":[1,true],"a":"x"},"metadata":null,"referenceSequenceNumber":2,"type":"summarize"}}"#,
-        r#"{"sequenced":{"clientId":"A","clientSequenceNumber":5,"contents":{"a":"x","b":[1,true]},"metadata":null,"minimumSequenceNumber":2,"referenceSequenceNumber":2,"sequenceNumber":6,"timestamp":6,"type":"summarize"}}"#,
-    ),
-];
-
-// What a line behind a join gets, and the status: its verdict, or why it is refused.
-const SECOND_LINES: &[(&str, u8, &str)] = &[
-    (r#"{"raw":"leave","clientId":"#, 3, "bad line 2: not JSON"),
-    ("7 8", 3, "bad line 2: not JSON"),
-    (" ", 3, "bad line 2: not JSON"),
-    (
-        r#"{"raw":"leave","clientId":"A","moment":1.5}"#,
-        3,
-        "bad line 2: a number is not whole",
-    ),
-    (
-        r#"{"raw":"leave","clientId":"A","moment":1e3}"#,
-        3,
-        "bad line 2: a number is not whole",
-    ),
-    (
-        r#"{"raw":"leave","clientId":"A","moment":-0}"#,
-        3,
-        "bad line 2: a number is not whole",
-    ),
-    (
-        r#"{"raw":"leave","clientId":"A","moment":9223372036854775808}"#,
-        3,
-        "bad line 2: a number is not whole",
-    ),
-    (
-        r#"{"raw":"leave","clientId":"A","moment":9007199254740992}"#,
-        3,
-        "bad line 2: bad field moment: out of range",
-    ),
-    (
-        r#"{"raw":"leave","clientId":"A","moment":-1}"#,
-        3,
-        "bad line 2: bad field moment: out of range",
-    ),
-    (
-        r#"{"raw":"leave","clientId":"A B","moment":1}"#,
-        3,
-        "bad line 2: bad field clientId: bad name",
-    ),
-    (
-        r#"{"raw":"leave","clientId":"","moment":1}"#,
-        3,
-        "bad line 2: bad field clientId: bad name",
-    ),
-    (
-        r#"{"raw":"leave","clientId":7,"moment":"x"}"#,
-        3,
-        "bad line 2: bad field clientId: not a text",
-    ),
-    (
-        r#"{"raw":"leave","moment":1}"#,
-        3,
-        "bad line 2: bad field clientId: missing",
-    ),
-    (
-        r#"{"raw":"left","clientId":7}"#,
-        3,
-        "bad line 2: bad field raw: not allowed",
-    ),
-    (r#"["raw"]"#, 3, "bad line 2: bad field raw: not an object"),
-    (
-        r#"{"raw":"report","summary":1,"found":true,"moment":1}"#,
-        0,
-        r#"{"dropped":true}"#,
-    ),
-    (
-        r#"{"raw":"report","summary":0,"found":true,"moment":1}"#,
-        3,
-        "bad line 2: bad field summary: out of range",
-    ),
-    (
-        r#"{"raw":"join","clientId":"B","moment":1}"#,
-        3,
-        "bad line 2: bad field scopes: missing",
-    ),
-    (
-        r#"{"raw":"join","clientId":"B","moment":1,"scopes":["doc:read",1]}"#,
-        3,
-        "bad line 2: bad field scopes: not a text",
-    ),
-    (
-        r#"{"raw":"submit","clientId":"A","moment":1,"operation":{"clientSequenceNumber":1,"referenceSequenceNumber":-2,"type":"op"}}"#,
-        3,
-        "bad line 2: bad field referenceSequenceNumber: out of range",
-    ),
-    (
-        r#"{"raw":"submit","clientId":"A","moment":1,"operation":{"clientSequenceNumber":1,"referenceSequenceNumber":1,"type":"join"}}"#,
-        3,
-        "bad line 2: bad field type: not allowed",
-    ),
-    (
-        r#"{"raw":"submit","clientId":"A","moment":1,"operation":[]}"#,
-        3,
-        "bad line 2: bad field operation: not an object",
-    ),
-    (
-        r#"{"raw":"leave","clientId":"0123456789012345678901234567890123456789012345678901234567890123","moment":1}"#,
-        0,
-        r#"{"dropped":true}"#,
-    ),
-    (
-        r#"{"raw":"leave","clientId":"01234567890123456789012345678901234567890123456789012345678901234","moment":1}"#,
-        3,
-        "bad line 2: bad field clientId: bad name",
-    ),
-    (
-        r#"{"raw":"leave","clientId":"B","moment":1,"other":[[[[[[[[[[[[[[[[[[[[[[[[[[[[[[[[[[[[[[[[[[[[[[[[[[[[[[[[[[[[[[[[[[[[[[[[[[[[[[[[[[[[[[[[[[[[[[[[[[[]]]]]]]]]]]]]]]]]]]]]]]]]]]]]]]]]]]]]]]]]]]]]]]]]]]]]]]]]]]]]]]]]]]]]]]]]]]]]]]]]]]]]]]]]]]]]]]]]]]}"#,
-        0,
-        r#"{"dropped":true}"#,
-    ),
-    (
-        r#"{"raw":"leave","clientId":"B","moment":1,"other":[[[[[[[[[[[[[[[[[[[[[[[[[[[[[[[[[[[[[[[[[[[[[[[[[[[[[[[[[[[[[[[[[[[[[[[[[[[[[[[[[[[[[[[[[[[[[[[[[[[[]]]]]]]]]]]]]]]]]]]]]]]]]]]]]]]]]]]]]]]]]]]]]]]]]]]]]]]]]]]]]]]]]]]]]]]]]]]]]]]]]]]]]]]]]]]]]]]]]]]]}"#,
-        3,
-        "bad line 2: nested too deep",
-    ),
-];
-
-// What each limit refuses: how many entries and clients may be, the lines behind a join, the status, and what is written for them.
-const LIMITS: &[(u64, u32, &[&str], u8, &[&str])] = &[
+// What each limit refuses: how many entries and clients may be, the input, the status, and the output.
+const LIMITS: &[(u64, u32, &str, u8, &str)] = &[
     (
         2,
         1,
-        &[r#"{"raw":"join","clientId":"B","detail":null,"scopes":[],"moment":6}"#],
+        r#"{"raw":"join","clientId":"A","detail":null,"scopes":["doc:read","doc:write"],"moment":5}
+{"raw":"join","clientId":"B","detail":null,"scopes":[],"moment":6}
+"#,
         3,
-        &[r#"bad line 2: too many clients"#],
+        r#"{"sequenced":{"clientId":null,"clientSequenceNumber":-1,"contents":null,"data":"{\"clientId\":\"A\",\"detail\":null}","minimumSequenceNumber":0,"referenceSequenceNumber":-1,"sequenceNumber":1,"timestamp":5,"type":"join"}}
+bad line 2: too many clients
+"#,
     ),
     // The full document comes first.
     (
         1,
         1,
-        &[r#"{"raw":"join","clientId":"B","detail":null,"scopes":[],"moment":6}"#],
+        r#"{"raw":"join","clientId":"A","detail":null,"scopes":["doc:read","doc:write"],"moment":5}
+{"raw":"join","clientId":"B","detail":null,"scopes":[],"moment":6}
+"#,
         3,
-        &[r#"bad line 2: document is full"#],
+        r#"{"sequenced":{"clientId":null,"clientSequenceNumber":-1,"contents":null,"data":"{\"clientId\":\"A\",\"detail\":null}","minimumSequenceNumber":0,"referenceSequenceNumber":-1,"sequenceNumber":1,"timestamp":5,"type":"join"}}
+bad line 2: document is full
+"#,
     ),
     (
         2,
         5,
-        &[
-            r#"{"raw":"submit","clientId":"A","moment":6,"operation":{"clientSequenceNumber":1,"contents":null,"referenceSequenceNumber":1,"type":"op"}}"#,
-            r#"{"raw":"submit","clientId":"A","moment":7,"operation":{"clientSequenceNumber":2,"contents":null,"referenceSequenceNumber":2,"type":"op"}}"#,
-        ],
+        r#"{"raw":"join","clientId":"A","detail":null,"scopes":["doc:read","doc:write"],"moment":5}
+{"raw":"submit","clientId":"A","moment":6,"operation":{"clientSequenceNumber":1,"contents":null,"referenceSequenceNumber":1,"type":"op"}}
+{"raw":"submit","clientId":"A","moment":7,"operation":{"clientSequenceNumber":2,"contents":null,"referenceSequenceNumber":2,"type":"op"}}
+"#,
         3,
-        &[
-            r#"{"sequenced":{"clientId":"A","clientSequenceNumber":1,"contents":null,"minimumSequenceNumber":1,"referenceSequenceNumber":1,"sequenceNumber":2,"timestamp":6,"type":"op"}}"#,
-            r#"bad line 3: document is full"#,
-        ],
+        r#"{"sequenced":{"clientId":null,"clientSequenceNumber":-1,"contents":null,"data":"{\"clientId\":\"A\",\"detail\":null}","minimumSequenceNumber":0,"referenceSequenceNumber":-1,"sequenceNumber":1,"timestamp":5,"type":"join"}}
+{"sequenced":{"clientId":"A","clientSequenceNumber":1,"contents":null,"minimumSequenceNumber":1,"referenceSequenceNumber":1,"sequenceNumber":2,"timestamp":6,"type":"op"}}
+bad line 3: document is full
+"#,
     ),
     // A leave enters a full document.
     (
         2,
         5,
-        &[
-            r#"{"raw":"submit","clientId":"A","moment":6,"operation":{"clientSequenceNumber":1,"contents":null,"referenceSequenceNumber":1,"type":"op"}}"#,
-            r#"{"raw":"leave","clientId":"A","moment":8}"#,
-        ],
+        r#"{"raw":"join","clientId":"A","detail":null,"scopes":["doc:read","doc:write"],"moment":5}
+{"raw":"submit","clientId":"A","moment":6,"operation":{"clientSequenceNumber":1,"contents":null,"referenceSequenceNumber":1,"type":"op"}}
+{"raw":"leave","clientId":"A","moment":8}
+"#,
         0,
-        &[
-            r#"{"sequenced":{"clientId":"A","clientSequenceNumber":1,"contents":null,"minimumSequenceNumber":1,"referenceSequenceNumber":1,"sequenceNumber":2,"timestamp":6,"type":"op"}}"#,
-            r#"{"sequenced":{"clientId":null,"clientSequenceNumber":-1,"contents":null,"data":"\"A\"","minimumSequenceNumber":3,"referenceSequenceNumber":-1,"sequenceNumber":3,"timestamp":8,"type":"leave"}}"#,
-        ],
+        r#"{"sequenced":{"clientId":null,"clientSequenceNumber":-1,"contents":null,"data":"{\"clientId\":\"A\",\"detail\":null}","minimumSequenceNumber":0,"referenceSequenceNumber":-1,"sequenceNumber":1,"timestamp":5,"type":"join"}}
+{"sequenced":{"clientId":"A","clientSequenceNumber":1,"contents":null,"minimumSequenceNumber":1,"referenceSequenceNumber":1,"sequenceNumber":2,"timestamp":6,"type":"op"}}
+{"sequenced":{"clientId":null,"clientSequenceNumber":-1,"contents":null,"data":"\"A\"","minimumSequenceNumber":3,"referenceSequenceNumber":-1,"sequenceNumber":3,"timestamp":8,"type":"leave"}}
+"#,
     ),
     // A second join of a joined client is no new client, and is dropped.
     (
         2,
         1,
-        &[
-            r#"{"raw":"join","clientId":"A","detail":null,"scopes":["doc:read","doc:write"],"moment":5}"#,
-        ],
+        r#"{"raw":"join","clientId":"A","detail":null,"scopes":["doc:read","doc:write"],"moment":5}
+{"raw":"join","clientId":"A","detail":null,"scopes":["doc:read","doc:write"],"moment":5}
+"#,
         0,
-        &[r#"{"dropped":true}"#],
+        r#"{"sequenced":{"clientId":null,"clientSequenceNumber":-1,"contents":null,"data":"{\"clientId\":\"A\",\"detail\":null}","minimumSequenceNumber":0,"referenceSequenceNumber":-1,"sequenceNumber":1,"timestamp":5,"type":"join"}}
+{"dropped":true}
+"#,
     ),
     // A dropped join counts.
     (
         2,
         5,
-        &[
-            r#"{"raw":"join","clientId":"A","detail":null,"scopes":["doc:read","doc:write"],"moment":5}"#,
-            r#"{"raw":"submit","clientId":"A","moment":6,"operation":{"clientSequenceNumber":1,"contents":null,"referenceSequenceNumber":1,"type":"op"}}"#,
-        ],
+        r#"{"raw":"join","clientId":"A","detail":null,"scopes":["doc:read","doc:write"],"moment":5}
+{"raw":"join","clientId":"A","detail":null,"scopes":["doc:read","doc:write"],"moment":5}
+{"raw":"submit","clientId":"A","moment":6,"operation":{"clientSequenceNumber":1,"contents":null,"referenceSequenceNumber":1,"type":"op"}}
+"#,
         3,
-        &[r#"{"dropped":true}"#, r#"bad line 3: document is full"#],
+        r#"{"sequenced":{"clientId":null,"clientSequenceNumber":-1,"contents":null,"data":"{\"clientId\":\"A\",\"detail\":null}","minimumSequenceNumber":0,"referenceSequenceNumber":-1,"sequenceNumber":1,"timestamp":5,"type":"join"}}
+{"dropped":true}
+bad line 3: document is full
+"#,
     ),
 ];
 
-// Runs the program with these words over this input, where each read gives and each write takes at most so many bytes,
-// and these reads and writes fail; it ends with this status, and writes this.
-fn ends(
-    rt: &impl Abort,
-    alloc: Global,
-    words: &[&str],
-    input: &[u8],
-    pieces: (usize, &[u64], &[u64]),
-    status: u8,
-    output: &str,
-) -> Result<(), AllocError>
-    requires { 0 < pieces.0 }
-{
-    let (most, reads, writes) = pieces;
+fn texts(rt: &impl Abort, alloc: Global, words: &[&str]) -> Vec<Text> {
     let mut texts = Vec::new(alloc);
     for word in words {
-        texts.push(Text::new(String::from_str(alloc, word)?))?;
+        let text = Text::copied(alloc, word).expect(rt, "memory");
+        texts.push(text).expect(rt, "memory");
     }
-    let mut source = MemorySource::in_pieces(
-        Vec::from_slice(alloc, input)?,
-        most,
-        Vec::from_slice(alloc, reads)?,
-    );
-    let mut sink = MemorySink::in_pieces(alloc, most, Vec::from_slice(alloc, writes)?);
-    let ended = run(rt, alloc, &texts, &mut source, &mut sink);
-    assert!(rt; ended == status, "{ended}, and not {status}");
-    assert!(rt;
-        sink.written() == output.as_bytes(),
-        "what was written, at {status}"
-    );
-    Ok(())
+    texts
 }
 
-// The same with `sequence`, without a fault.
-fn sequences(
+fn source(rt: &impl Abort, alloc: Global, input: &str, most: usize, reads: &[u64]) -> MemorySource {
+    let bytes = Vec::from_slice(alloc, input.as_bytes()).expect(rt, "memory");
+    let failing = Vec::from_slice(alloc, reads).expect(rt, "memory");
+    MemorySource::in_pieces(bytes, most.max(1), failing)
+}
+
+fn sink(rt: &impl Abort, alloc: Global, most: usize, writes: &[u64]) -> MemorySink {
+    let failing = Vec::from_slice(alloc, writes).expect(rt, "memory");
+    MemorySink::in_pieces(alloc, most.max(1), failing)
+}
+
+// So many bytes are written, which are the front of this output.
+fn has_written(rt: &impl Abort, sink: &MemorySink, length: usize, output: &str) {
+    let written = sink.written();
+    assert!(rt;
+        written.len() == length && output.as_bytes().starts_with(written),
+        "{length} bytes"
+    );
+}
+
+fn ends(rt: &impl Abort, alloc: Global, row: &Run) {
+    let words = texts(rt, alloc, row.words);
+    let mut source = source(rt, alloc, row.input, row.most, row.reads);
+    let mut sink = sink(rt, alloc, row.most, row.writes);
+    let status = run(rt, alloc, &words, &mut source, &mut sink);
+    assert!(rt; status == row.status, "{status}");
+    has_written(rt, &sink, row.length, row.output);
+    drop(sink);
+    drop(source);
+    drop(words);
+}
+
+// Runs `sequence` within the limits of a row, with its status and its output.
+fn sequenced(
     rt: &impl Abort,
     alloc: Global,
-    input: &[u8],
-    status: u8,
-    output: &str,
-) -> Result<(), AllocError> {
-    ends(
-        rt,
+    source: &mut MemorySource,
+    row: &(u64, u32, &str, u8, &str),
+) {
+    let (entries, clients, _, wanted, output) = row;
+    let mut sink = sink(rt, alloc, usize::MAX, &[]);
+    let status = sequence_within(rt, alloc, source, &mut sink, *entries, *clients);
+    assert!(rt; status == *wanted, "{status}");
+    has_written(rt, &sink, output.len(), output);
+    drop(sink);
+}
+
+// How many bytes are left in a source, which are fewer than 100.
+fn left_in(rt: &impl Abort, alloc: Global, source: &mut MemorySource) -> usize {
+    let mut piece = vec![in alloc; 0; 100].expect(rt, "memory");
+    let mut left = 0_usize;
+    for _ in 0..100 {
+        let more = source.read(&mut piece).expect(rt, "a reading");
+        left = left.saturating_add(more);
+    }
+    drop(piece);
+    left
+}
+
+#[test]
+fn each_fault_leaves_whole_lines_or_a_beginning(rt: HostRuntime) {
+    for row in FAULTS {
+        ends(&rt, rt.alloc(), row);
+    }
+}
+
+#[test]
+fn a_long_input_is_answered_as_far_as_it_was_read_and_written(rt: HostRuntime) {
+    let alloc = rt.alloc();
+    let input = LEAVE.repeat(alloc, 4_000).expect(&rt, "memory");
+    let output = DROPPED.repeat(alloc, 4_000).expect(&rt, "memory");
+    for (reads, writes, status, length) in LONG {
+        ends(
+            &rt,
+            alloc,
+            &Run {
+                words: &["sequence"],
+                input: input.as_str(),
+                most: usize::MAX,
+                reads,
+                writes,
+                status: *status,
+                length: *length,
+                output: output.as_str(),
+            },
+        );
+    }
+    drop(output);
+    drop(input);
+}
+
+#[test]
+fn a_document_takes_no_more_than_its_limits(rt: HostRuntime) {
+    let alloc = rt.alloc();
+    for row in LIMITS {
+        let mut source = source(&rt, alloc, row.2, usize::MAX, &[]);
+        sequenced(&rt, alloc, &mut source, row);
+        drop(source);
+    }
+}
+
+#[test]
+fn what_is_behind_a_refused_line_stays_in_the_source(rt: HostRuntime) {
+    let alloc = rt.alloc();
+    let mut source = source(&rt, alloc, "7 8\n12345678\n", 1, &[]);
+    sequenced(
+        &rt,
         alloc,
-        &["sequence"],
-        input,
-        (usize::MAX, &[], &[]),
-        status,
-        output,
-    )
-}
-
-#[test]
-fn words_ask_for_a_command_for_a_page_or_for_nothing(rt: HostRuntime) -> Result<(), AllocError> {
-    let alloc = rt.alloc();
-    let program = page(None).expect(&rt, "a page");
-    let sequence = page(Some(CommandName::Sequence)).expect(&rt, "a page");
-    for (words, status, output) in [
-        (["sequence"].as_slice(), 0, ""),
-        (["--help"].as_slice(), 0, program),
-        (["sequence", "--help"].as_slice(), 0, sequence),
-        (["--version"].as_slice(), 0, VERSION),
-        ([].as_slice(), 2, USAGE),
-        (["sequences"].as_slice(), 2, USAGE),
-        (["sequence", "d"].as_slice(), 2, USAGE),
-        (["script"].as_slice(), 2, USAGE),
-        (["script", "--help"].as_slice(), 2, USAGE),
-        (["load", "d"].as_slice(), 2, USAGE),
-    ] {
-        ends(
-            &rt,
-            alloc,
-            words,
-            b"",
-            (usize::MAX, &[], &[]),
-            status,
-            output,
-        )?;
-    }
-    for words in [
-        ["--help"].as_slice(),
-        ["--version"].as_slice(),
-        [].as_slice(),
-    ] {
-        ends(&rt, alloc, words, b"", (64, &[], &[1]), 5, "")?;
-    }
-    Ok(())
-}
-
-#[test]
-fn each_entry_gets_its_verdict_line(rt: HostRuntime) -> Result<(), Fail> {
-    let alloc = rt.alloc();
-    for table in [MARKED_CLIENT, REPORTS, MISSING_SCOPE, FIVE_KINDS] {
-        let mut input = String::new(alloc);
-        let mut output = String::new(alloc);
-        for (record, line) in table {
-            writeln!(input, "{record}")?;
-            writeln!(output, "{line}")?;
-        }
-        sequences(&rt, alloc, input.as_bytes(), 0, output.as_str())?;
-    }
-    Ok(())
-}
-
-#[test]
-fn a_second_line_gets_its_answer(rt: HostRuntime) -> Result<(), Fail> {
-    let alloc = rt.alloc();
-    for (line, status, answer) in SECOND_LINES {
-        let input = format!(in alloc; "{JOIN}\n{line}\n")?;
-        let output = format!(in alloc; "{JOINED}\n{answer}\n")?;
-        sequences(&rt, alloc, input.as_bytes(), *status, output.as_str())?;
-    }
-    Ok(())
-}
-
-#[test]
-fn a_second_line_may_be_empty_too_long_cut_or_no_text(rt: HostRuntime) -> Result<(), Fail> {
-    let alloc = rt.alloc();
-    let long = " ".repeat(alloc, 1_048_577)?;
-    for (line, status, answer) in [
-        (b"\n".as_slice(), 0, ""),
-        (b"\r\n".as_slice(), 0, ""),
-        (long.as_bytes(), 3, "bad line 2: too long\n"),
-        (b"\xff\n".as_slice(), 3, "bad line 2: not UTF-8\n"),
-        (b"\xc3\x28".as_slice(), 3, "bad line 2: not UTF-8\n"),
-        (
-            b"{\"raw\":\"leave\",\"clientId\":".as_slice(),
-            3,
-            "bad line 2: not JSON\n",
-        ),
-    ] {
-        let mut input = Vec::from_slice(alloc, JOIN.as_bytes())?;
-        input.push(b'\n')?;
-        input.extend_from_slice(line)?;
-        let output = format!(in alloc; "{JOINED}\n{answer}")?;
-        sequences(&rt, alloc, &input, status, output.as_str())?;
-    }
-    Ok(())
-}
-
-#[test]
-fn each_fault_leaves_whole_lines_or_a_beginning(rt: HostRuntime) -> Result<(), Fail> {
-    let alloc = rt.alloc();
-    let joined = format!(in alloc; "{JOINED}\n")?;
-    let refused = format!(in alloc; "{JOINED}\nbad line 2: not JSON\n")?;
-    // Reads of 96 bytes give the first line and the second one, and the third in parts.
-    let input = format!(in alloc; "{JOIN}\n7 8\n{JOIN}\n")?;
-    for (read, status, output) in [(1, 4, ""), (2, 3, refused.as_str())] {
-        ends(
-            &rt,
-            alloc,
-            &["sequence"],
-            input.as_bytes(),
-            (96, &[read], &[]),
-            status,
-            output,
-        )?;
-    }
-    // With no line end behind it a line was read once a read has given nothing.
-    let input = format!(in alloc; "{JOIN}\n7 8")?;
-    for (read, status, output) in [(2, 4, joined.as_str()), (3, 3, refused.as_str())] {
-        ends(
-            &rt,
-            alloc,
-            &["sequence"],
-            input.as_bytes(),
-            (96, &[read], &[]),
-            status,
-            output,
-        )?;
-    }
-    // Four writes of 64 bytes take the line, and then the sink hands it on.
-    let input = format!(in alloc; "{JOIN}\n")?;
-    for (write, length) in [(1, 0), (2, 64), (3, 128), (4, 192), (5, 222)] {
-        let front = joined.as_str().get(..length).expect(&rt, "a beginning");
-        ends(
-            &rt,
-            alloc,
-            &["sequence"],
-            input.as_bytes(),
-            (64, &[], &[write]),
-            5,
-            front,
-        )?;
-    }
-    Ok(())
-}
-
-#[test]
-fn a_document_takes_no_more_than_its_limits(rt: HostRuntime) -> Result<(), Fail> {
-    let alloc = rt.alloc();
-    for (entries, clients, records, status, answers) in LIMITS {
-        let mut input = format!(in alloc; "{JOIN}\n")?;
-        let mut output = format!(in alloc; "{JOINED}\n")?;
-        for record in *records {
-            writeln!(input, "{record}")?;
-        }
-        for answer in *answers {
-            writeln!(output, "{answer}")?;
-        }
-        let bytes = Vec::from_slice(alloc, input.as_bytes())?;
-        let mut source = MemorySource::new(bytes, Vec::new(alloc));
-        let mut sink = MemorySink::new(alloc, Vec::new(alloc));
-        let ended = sequence_within(&rt, alloc, &mut source, &mut sink, *entries, *clients);
-        assert!(rt; ended == *status && sink.written() == output.as_bytes());
-    }
-    Ok(())
-}
-
-// An input of more than two buffers, its output, and where each of its lines ends in both.
-#[derive(Drop)]
-struct Long {
-    input: String,
-    output: String,
-    ends: Vec<(usize, usize)>,
-}
-
-// A join, and then 140 operations of a thousand bytes each.
-fn long_input(alloc: Global) -> Result<Long, Fail> {
-    let wide = "w".repeat(alloc, 1_000)?;
-    let mut input = format!(in alloc; "{JOIN}\n")?;
-    let mut output = format!(in alloc; "{JOINED}\n")?;
-    let mut ends = Vec::new(alloc);
-    for number in 1..=140_u64 {
-        ends.push((input.len(), output.len()))?;
-        let sequence = number.saturating_add(1);
-        writeln!(
-            input,
-            r#"{{"raw":"submit","clientId":"A","moment":3,"operation":{{"clientSequenceNumber":{number},"contents":"{wide}","referenceSequenceNumber":1,"type":"op"}}}}"#
-        )?;
-        writeln!(
-            output,
-            r#"{{"sequenced":{{"clientId":"A","clientSequenceNumber":{number},"contents":"{wide}","minimumSequenceNumber":1,"referenceSequenceNumber":1,"sequenceNumber":{sequence},"timestamp":3,"type":"op"}}}}"#
-        )?;
-    }
-    ends.push((input.len(), output.len()))?;
-    Ok(Long {
-        input,
-        output,
-        ends,
-    })
-}
-
-#[test]
-fn a_long_input_is_answered_as_far_as_it_was_read(rt: HostRuntime) -> Result<(), Fail> {
-    let alloc = rt.alloc();
-    let long = long_input(alloc)?;
-    // Each read gives a buffer of 64 KiB; the fourth tells the end, and a fifth there isn't.
-    for (read, bytes, status) in [
-        (1, 0, 4),
-        (2, 65_536, 4),
-        (3, 131_072, 4),
-        (4, usize::MAX, 4),
-        (5, usize::MAX, 0),
-    ] {
-        let mut length = 0;
-        for (end, answered) in &long.ends {
-            if *end <= bytes {
-                length = *answered;
-            }
-        }
-        let front = long
-            .output
-            .as_str()
-            .get(..length)
-            .expect(&rt, "whole lines");
-        ends(
-            &rt,
-            alloc,
-            &["sequence"],
-            long.input.as_bytes(),
-            (usize::MAX, &[read], &[]),
-            status,
-            front,
-        )?;
-    }
-    Ok(())
-}
-
-#[test]
-fn what_is_behind_a_refused_line_stays_in_the_source(rt: HostRuntime) -> Result<(), Fail> {
-    let alloc = rt.alloc();
-    let behind = "\n".repeat(alloc, 100_000)?;
-    let input = format!(in alloc; "7 8\n{behind}")?;
-    // Read byte by byte, or with one buffer of 64 KiB.
-    for (most, left) in [(1, 100_000), (usize::MAX, 34_468)] {
-        let bytes = Vec::from_slice(alloc, input.as_bytes())?;
-        let mut source = MemorySource::in_pieces(bytes, most.max(1), Vec::new(alloc));
-        let mut sink = MemorySink::new(alloc, Vec::new(alloc));
-        let status = sequence_within(&rt, alloc, &mut source, &mut sink, 9, 9);
-        let mut count = 0_usize;
-        let mut piece = vec![in alloc; 0; 200_000]?;
-        for _ in 0..100_001 {
-            match source.read(&mut piece) {
-                Ok(more) => count = count.saturating_add(more),
-                Err(Failed) => count = 0,
-            }
-        }
-        assert!(rt; status == 3 && count == left, "{most}");
-    }
-    Ok(())
+        &mut source,
+        &(9, 9, "", 3, "bad line 1: not JSON\n"),
+    );
+    let left = left_in(&rt, alloc, &mut source);
+    assert!(rt; left == 9, "{left}");
+    drop(source);
 }
