@@ -72,11 +72,13 @@ verdict-stands s raw verdict l by stands = by ∙ ap (λ u. verdict_in u raw) st
 pub stands-push : (s t : State) (raw : Raw) (verdict : Verdict) (l : Ledger) → verdict ≡ verdict_in s raw → t ≡ after s raw verdict → StandsFor s l →
     (verdict ≡ rules.verdict l raw) × StandsFor t (l ++ (raw, verdict) ∷ [])
 stands-push s t raw verdict l by is stands =
-    let said = verdict-stands s raw verdict l by stands in
-    (said, record {
-      legal = legal-push l (raw, verdict) stands.legal said;
-      is = is ∙ ap (λ u. after u raw verdict) stands.is ∙ sym (state_of-push l raw verdict stands.legal said);
-    })
+    let said = verdict-stands s raw verdict l by stands in (
+      said,
+      record {
+        legal = legal-push l (raw, verdict) stands.legal said;
+        is = is ∙ ap (λ u. after u raw verdict) stands.is ∙ sym (state_of-push l raw verdict stands.legal said);
+      },
+    )
 
 pub start-stands : StandsFor start []
 unfolding state_of order

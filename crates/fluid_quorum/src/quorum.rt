@@ -97,12 +97,7 @@ impl Quorum {
         self.values.reserve(accepted)?;
         // What is due already is accepted by the next message, and what only this minimum reaches by the last.
         let first = due(&self.pending, self.minimum);
-        accept(
-            &mut self.values,
-            &mut self.pending,
-            first,
-            self.number + 1,
-        );
+        accept(&mut self.values, &mut self.pending, first, self.number + 1);
         let accepted = due(&self.pending, minimum);
         accept(&mut self.values, &mut self.pending, accepted, number);
         self.number = number;

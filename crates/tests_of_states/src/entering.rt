@@ -110,10 +110,7 @@ fn enter_all(rt: &impl Abort, alloc: Global, core: &mut Core, renews: bool) {
             renew(rt, alloc, core);
         }
         assert_entered(rt, alloc, core, entry, *wanted);
-        assert!(rt;
-            pending(rt, alloc, core) == *waits,
-            "behind {wanted:?}"
-        );
+        assert!(rt; pending(rt, alloc, core) == *waits, "behind {wanted:?}");
     }
 }
 

@@ -50,7 +50,7 @@ returns-clause-after c =
     let first : IsParted c.self.inside.minimum c.due-first.result c.self.inside.pending.items = record { due = rw same at c.due-first.ensures.due; rest = rw same at c.due-first.ensures.rest } in
     let pending : c.accept-2.new.pending.items ≡ filter (λ p. not (is_due c.args.minimum p)) (filter (λ p. not (is_due c.self.inside.minimum p)) c.self.inside.pending.items) = search rules in
     let values : values_of c.accept-2.new.values.items ≡ fold (with_accepted c.args.number) (fold (with_accepted (c.self.inside.number + 1)) (values_of c.self.inside.values.items) (filter (is_due c.self.inside.minimum) c.self.inside.pending.items))
-        (filter (is_due c.args.minimum) (filter (λ p. not (is_due c.self.inside.minimum p)) c.self.inside.pending.items)) = search rules in
+    (filter (is_due c.args.minimum) (filter (λ p. not (is_due c.self.inside.minimum p)) c.self.inside.pending.items)) = search rules in
     rw (← c.self.view_is) (rw (pending, values) (sym (advanced-is _ c.args.number c.args.minimum c.due-first.result c.if-number-self.false c.if-minimum-self.false first)))
 
 pub returns-clause-stands : goal.returns-clause-stands
