@@ -1,5 +1,4 @@
-"""Builds, feeds and times the programs of the benchmarks: the proved `fluidd sequence`, the proved program that enters the same
-records into a lane, and the hand-written baseline."""
+"""Builds, feeds and times the programs of the benchmarks: the proved `fluidd sequence` and the hand-written baseline."""
 import filecmp
 import os
 import re
@@ -47,11 +46,6 @@ def built(crate, words):
 def proved():
     """The proved program that gives a verdict line for each record."""
     return built("fluidd", ["sequence"])
-
-
-def lane():
-    """The proved program that enters each record into a lane over a keeper in memory."""
-    return built("lane_bench", [])
 
 
 def baseline():

@@ -1,7 +1,7 @@
 //! The table of the clients that are joined to a document: what the sequencer keeps of each.
 //!
 //! A finite map from ids to rows. An id is found in a number of comparisons that grows with the
-//! logarithm of the clients; the least reference is found by a scan.
+//! logarithm of the clients; the least reference stands at the top of an index.
 //!
 //! - `table`: `Clients` and its `Row`.
 //! - `index`: `Least`, which finds the least of values that have a `Rank`, and `round`, one round of its tournament.
