@@ -96,19 +96,26 @@ impl Connection {
         }
     }
 
-    /// What comes in next: it waits until there is something to answer.
+    /// What comes in next: it waits until there is something to answer, and for the socket once at most.
     pub(crate) fn receive<R: Wait>(&mut self, rt: &R, alloc: Global, place: &mut Place) -> Step {
         if let Some(step) = self.open() {
             return step;
         }
         self.refill();
+        let mut woken = false;
         for _ in rt.forever() {
             match self.framing.receive(alloc) {
                 Step::Passed => {}
-                Step::Blocked => match self.sleep(place) {
-                    Step::Blocked => {}
-                    step => return step,
-                },
+                Step::Blocked => {
+                    // what woke it was no whole text: a peer that sends bit by bit keeps nobody from looking round
+                    if woken {
+                        return Step::Quiet;
+                    }
+                    match self.sleep(place) {
+                        Step::Blocked => woken = true,
+                        step => return step,
+                    }
+                }
                 Step::Text(text) => return Step::Text(text),
                 step => {
                     self.framing = Framing::Over;
@@ -240,8 +247,10 @@ impl Connection {
         text: &str,
         place: &mut Place,
     ) -> Sent {
-        if let Some(_step) = self.open() {
-            return Sent::Failed;
+        match self.open() {
+            None => {}
+            Some(Step::NoMemory) => return Sent::NoMemory,
+            Some(_) => return Sent::Failed,
         }
         let sent = self.framing.send(alloc, text);
         if sent != Sent::Blocked {

@@ -1,4 +1,5 @@
-//! Texts as lines: each ends in a line feed, before which one carriage return is left out.
+//! Texts as lines: each ends in a line feed, before which one carriage return is left out. A last line without a line feed keeps
+//! its carriage return.
 
 use crate::metered::Metered;
 use crate::step::{Sent, Step};
@@ -72,7 +73,7 @@ impl LineStream {
         match memchr(b'\n', ahead) {
             Some(at) => {
                 let end = self.searched.saturating_add(at);
-                let step = self.line(alloc, end);
+                let step = self.line(alloc, end, true);
                 self.start = end.saturating_add(1);
                 self.searched = self.start;
                 Some(step)
@@ -94,23 +95,24 @@ impl LineStream {
         if self.start >= end {
             return Step::End;
         }
-        let step = self.line(alloc, end);
+        let step = self.line(alloc, end, false);
         self.start = end;
         self.searched = end;
         step
     }
 
-    // The line before `end`. One that ends as the first line of a request of HTTP is a fault, where it is the first: any
-    // page can send lines in the body of one.
-    fn line(&mut self, alloc: Global, end: usize) -> Step {
-        let Some(line) = self.held.get(self.start..end) else {
+    // The line before `end`. To its line feed, where it has one, a carriage return before it belongs. One that ends as the
+    // first line of a request of HTTP is a fault, where it is the first: any page can send lines in the body of one.
+    fn line(&mut self, alloc: Global, end: usize, has_feed: bool) -> Step {
+        let Some(whole) = self.held.get(self.start..end) else {
             return Step::Failed;
         };
-        let line = line.strip_suffix(b"\r".as_slice()).unwrap_or(line);
-        if self.first && (line.ends_with(b" HTTP/1.0") || line.ends_with(b" HTTP/1.1")) {
+        let bare = whole.strip_suffix(b"\r".as_slice()).unwrap_or(whole);
+        if self.first && (bare.ends_with(b" HTTP/1.0") || bare.ends_with(b" HTTP/1.1")) {
             return Step::Failed;
         }
         self.first = false;
+        let line = if has_feed { bare } else { whole };
         if line.len() > LONGEST_TEXT {
             return Step::TooLong(LONGEST_TEXT as u64 + 1);
         }

@@ -57,6 +57,13 @@ struct Member {
     gone: AtomicBool,
 }
 
+impl Member {
+    // Whether the wire has left the room.
+    fn is_gone(&self) -> bool {
+        self.gone.load(Ordering::SeqCst)
+    }
+}
+
 // The members of a room in their order, and how far a call has come.
 #[derive(Drop)]
 struct Ring {
@@ -77,7 +84,7 @@ impl Ring {
                 continue;
             };
             self.next = self.next.saturating_add(1);
-            if member.sleeper.call() {
+            if !member.is_gone() && member.sleeper.call() {
                 return true;
             }
         }
@@ -96,9 +103,23 @@ impl Ring {
         }
     }
 
+    // One more is in the room. A call that goes round goes one further, so that it still reaches the others.
+    fn enter(&mut self, member: Arc<Member>) -> Result<(), NoMemory> {
+        self.leave_out_the_gone();
+        self.members.push(member)?;
+        if self.left > 0 {
+            self.left = self.left.saturating_add(1);
+        }
+        Ok(())
+    }
+
+    // Where somebody has gone, the places have shifted: a call that goes round reaches all once more.
     fn leave_out_the_gone(&mut self) {
-        self.members
-            .retain(|member| !member.gone.load(Ordering::SeqCst));
+        let before = self.members.len();
+        self.members.retain(|member| !member.is_gone());
+        if self.left > 0 && self.members.len() < before {
+            self.left = self.members.len().saturating_add(1);
+        }
     }
 }
 
@@ -129,10 +150,7 @@ impl Room {
     }
 
     fn enter<R: Wait>(&self, rt: &R, member: Arc<Member>) -> Result<(), NoMemory> {
-        let mut ring = self.ring.lock(rt);
-        ring.leave_out_the_gone();
-        ring.members.push(member)?;
-        Ok(())
+        self.ring.lock(rt).enter(member)
     }
 
     fn is_empty(&self) -> bool {
@@ -145,14 +163,29 @@ impl Room {
 
     fn pass_on<R: Wait>(&self, rt: &R) {
         if !self.ring.lock(rt).pass() {
-            self.running.fetch_sub(1, Ordering::SeqCst);
+            self.one_fewer_runs();
+        }
+    }
+
+    // A call ends here. Where none is known to run, as for a wire that was woken in another room, nothing changes.
+    fn one_fewer_runs(&self) {
+        for _ in 0..u64::MAX {
+            let running = self.running.load(Ordering::SeqCst);
+            let fewer = running.saturating_sub(1);
+            if self
+                .running
+                .compare_exchange(running, fewer, Ordering::SeqCst, Ordering::SeqCst)
+                .is_ok()
+            {
+                return;
+            }
         }
     }
 
     // A wire that is gone calls the others where nobody has the room at the moment; else they hear of it by their ticks.
     fn leave(&self, called: bool) {
         if called {
-            self.running.fetch_sub(1, Ordering::SeqCst);
+            self.one_fewer_runs();
         }
         self.wires.fetch_sub(1, Ordering::SeqCst);
         if let Some(mut ring) = self.ring.try_lock() {

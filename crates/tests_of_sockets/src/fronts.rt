@@ -24,6 +24,10 @@ fn a_front_says_where_it_listens_or_why_it_does_not(rt: HostRuntime) {
         "the port is taken"
     );
     assert!(rt; second.port() == 0);
+    assert!(rt;
+        TcpStream::connect(&rt, SocketAddr::from((Ipv4Addr::new(127, 0, 0, 2), port))).is_err(),
+        "it listens at no other address"
+    );
     assert!(rt; second.listen(&rt, 0, true).is_ok());
     let other = second.port();
     let said = second.into_writer();

@@ -1,5 +1,6 @@
-use crate::peers::{HOUR, PATIENT, connected, listening, write_bytes};
+use crate::peers::{HOUR, PATIENT, connected, listening, shaken, write_bytes};
 use fluid_lines::{Recv, Wire};
+use std::io::Write;
 use std::thread;
 use std::time::{Duration, Instant};
 
@@ -11,9 +12,19 @@ fn a_text_is_heard_by_the_others_of_its_document_at_once(rt: HostRuntime) {
     let mut front = listening(&rt, alloc, true, waits);
     let (mut stream, mut first) = connected(&rt, alloc, &mut front);
     let (_other, mut second) = connected(&rt, alloc, &mut front);
+    let (mut apart, mut third) = connected(&rt, alloc, &mut front);
     first.follow(&rt, "a");
     second.follow(&rt, "b");
     second.follow(&rt, "a");
+    third.follow(&rt, "b");
+    // that its peer takes texts ends the first wait of each wire
+    for wire in [&mut second, &mut third] {
+        assert!(rt; matches!(wire.recv(&rt, alloc), Ok(Recv::Quiet)));
+    }
+    let stranger = thread::spawn(&rt, move || {
+        matches!(third.recv(&rt, alloc), Ok(Recv::Text(_)))
+    })
+    .expect(&rt, "a thread");
     write_bytes(&rt, &mut stream, b"text\n");
     let listener = thread::spawn(&rt, move || {
         matches!(second.recv(&rt, alloc), Ok(Recv::Quiet))
@@ -34,5 +45,49 @@ fn a_text_is_heard_by_the_others_of_its_document_at_once(rt: HostRuntime) {
         told.elapsed(&rt).expect(&rt, "a clock") < Duration::from_secs(1),
         "in a second"
     );
+    write_bytes(&rt, &mut apart, b"text\n");
+    assert!(rt;
+        stranger.join(&rt),
+        "a wire of another document is told of nothing"
+    );
     drop(front);
+}
+
+// What a peer sends bit by bit: a line without an end, and pings.
+const DRIPS: [(bool, &[u8]); 2] = [(true, b"a"), (false, b"\x89\x80\0\0\0\0")];
+
+#[test]
+fn a_peer_that_sends_bit_by_bit_keeps_nobody_from_looking_round(rt: HostRuntime) {
+    let alloc = rt.alloc();
+    let mut waits = PATIENT;
+    waits.tick_milliseconds = 5000;
+    for (lines, drip) in DRIPS {
+        let mut front = listening(&rt, alloc, lines, waits);
+        let (stream, mut wire) = connected(&rt, alloc, &mut front);
+        let mut stream = if lines {
+            stream
+        } else {
+            shaken(&rt, alloc, stream, &mut wire).into_inner()
+        };
+        let dripper = thread::spawn(&rt, move || {
+            for _ in 0..200 {
+                if stream.write_all(drip).is_err() {
+                    break;
+                }
+                thread::sleep(&rt, Duration::from_millis(50));
+            }
+        })
+        .expect(&rt, "a thread");
+        for _ in 0..8 {
+            let asked = Instant::now(&rt).expect(&rt, "a clock");
+            assert!(rt; matches!(wire.recv(&rt, alloc), Ok(Recv::Quiet)));
+            assert!(rt;
+                asked.elapsed(&rt).expect(&rt, "a clock") < Duration::from_secs(1),
+                "lines: {lines}"
+            );
+        }
+        drop(wire);
+        dripper.join(&rt);
+        drop(front);
+    }
 }

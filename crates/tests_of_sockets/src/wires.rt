@@ -182,7 +182,7 @@ fn a_text_that_is_taken_late_arrives_whole(rt: HostRuntime) {
 }
 
 // What is sent, and what the wire answers. Then the peer ends.
-const LINES: [(&str, &[u8], &str); 8] = [
+const LINES: [(&str, &[u8], &str); 10] = [
     (
         "two lines, and one without an end",
         b"a\r\n\nb",
@@ -199,6 +199,12 @@ const LINES: [(&str, &[u8], &str); 8] = [
         "[a][GET / HTTP/1.1].",
     ),
     ("another version", b"GET / HTTP/1.2\n", "[GET / HTTP/1.2]."),
+    (
+        "a carriage return without a line feed",
+        b"a\r\nb\r",
+        "[a][b\r].",
+    ),
+    ("nothing but that", b"\r", "[\r]."),
 ];
 
 #[test]
@@ -229,7 +235,7 @@ struct Long {
     want: usize,
 }
 
-const LONG: [Long; 6] = [
+const LONG: [Long; 7] = [
     Long {
         lines: true,
         head: b"",
@@ -242,6 +248,13 @@ const LONG: [Long; 6] = [
         head: b"",
         letters: 1_048_577,
         end: b"\n",
+        want: 0,
+    },
+    Long {
+        lines: true,
+        head: b"",
+        letters: 1_048_576,
+        end: b"\r",
         want: 0,
     },
     Long {
@@ -322,7 +335,7 @@ fn a_text_that_is_too_long_is_refused(rt: HostRuntime) {
 }
 
 // An origin, and whether a page of it may connect.
-const ORIGINS: [(&str, bool); 16] = [
+const ORIGINS: [(&str, bool); 17] = [
     ("", true),
     ("Origin: http://localhost\r\n", true),
     ("Origin: http://localhost:8080\r\n", true),
@@ -340,6 +353,10 @@ const ORIGINS: [(&str, bool); 16] = [
     ("Origin: ://localhost\r\n", false),
     (
         "Origin: http://localhost\r\nOrigin: http://example.org\r\n",
+        false,
+    ),
+    (
+        "Origin: http://example.org\r\nOrigin: http://localhost\r\n",
         false,
     ),
 ];
