@@ -324,7 +324,7 @@ fn assert_room(rt: &impl Abort, alloc: Global, failing: u64) {
         "call {failing}"
     );
     assert!(rt;
-        deltas.resident() == 4096 && keeper.deltas() + 1 == failing,
+        deltas.resident() == 4096 && keeper.deltas().wrapping_add(1) == failing,
         "call {failing}"
     );
     assert!(rt;
