@@ -18,9 +18,8 @@ fn a_text_is_heard_by_the_others_of_its_document_at_once(rt: HostRuntime) {
     second.follow(&rt, "a");
     third.follow(&rt, "b");
     // that its peer takes texts ends the first wait of each wire
-    for wire in [&mut second, &mut third] {
-        assert!(rt; matches!(wire.recv(&rt, alloc), Ok(Recv::Quiet)));
-    }
+    assert!(rt; matches!(second.recv(&rt, alloc), Ok(Recv::Quiet)));
+    assert!(rt; matches!(third.recv(&rt, alloc), Ok(Recv::Quiet)));
     let stranger = thread::spawn(&rt, move || {
         matches!(third.recv(&rt, alloc), Ok(Recv::Text(_)))
     })
