@@ -315,40 +315,56 @@ fn the_oldest_page_goes(rt: HostRuntime) {
     drop(keeper);
 }
 
-// Where this call fails, room is made at the second try, and the keeper has so many deltas before it.
-fn assert_room(rt: &impl Abort, alloc: Global, failing: u64) {
-    let mut keeper = keeper_of(rt, alloc, failing);
-    let mut deltas = pushed_over(rt, alloc, 4096, &mut keeper);
+// Every second call of a keeper, so that each put fails once: the calls 1, 3, 5 and so on up to 511.
+fn odd_calls(rt: &impl Abort, alloc: Global) -> Vec<u64> {
+    let mut failing = Vec::new(alloc);
+    for put in 0..256_u64 {
+        failing
+            .push(put.wrapping_mul(2).wrapping_add(1))
+            .expect(rt, "memory");
+    }
+    failing
+}
+
+// Room is tried to be made where one put fails behind so many, and the page is there still.
+fn assert_no_room(
+    rt: &impl Abort,
+    alloc: Global,
+    deltas: &mut Deltas,
+    keeper: &mut MemoryKeeper,
+    kept: u64,
+) {
+    let fault = FaultNote {
+        before: kept,
+        after: kept.wrapping_add(1),
+    };
+    let wanted = Err(DeltaFault::DeltaFailed(fault));
     assert!(rt;
-        make_room(rt, alloc, &mut deltas, &mut keeper) == Err(FAILED),
-        "call {failing}"
+        make_room(rt, alloc, deltas, keeper) == wanted,
+        "behind {kept} puts"
     );
     assert!(rt;
-        deltas.resident() == 4096 && keeper.deltas().wrapping_add(1) == failing,
-        "call {failing}"
+        deltas.resident() == 4096 && keeper.deltas() == kept,
+        "behind {kept} puts"
     );
     assert!(rt;
-        run_held(&deltas, (1, 257)) == Some((1, 256)),
-        "call {failing}"
+        run_held(deltas, (1, 257)) == Some((1, 256)),
+        "behind {kept} puts"
     );
-    assert!(rt;
-        make_room(rt, alloc, &mut deltas, &mut keeper) == Ok(()),
-        "call {failing}"
-    );
-    assert!(rt;
-        deltas.resident() == 3840 && keeper.deltas() == 256,
-        "call {failing}"
-    );
-    drop(deltas);
-    drop(keeper);
 }
 
 #[test]
 fn a_page_stays_until_all_its_messages_are_kept(rt: HostRuntime) {
     let alloc = rt.alloc();
-    for failing in [1, 2, 128, 255, 256] {
-        assert_room(&rt, alloc, failing);
+    let mut keeper = MemoryKeeper::new(alloc, odd_calls(&rt, alloc), Vec::new(alloc));
+    let mut deltas = pushed_over(&rt, alloc, 4096, &mut keeper);
+    for kept in 0..256 {
+        assert_no_room(&rt, alloc, &mut deltas, &mut keeper, kept);
     }
+    assert!(rt; make_room(&rt, alloc, &mut deltas, &mut keeper) == Ok(()));
+    assert!(rt; deltas.resident() == 3840 && keeper.deltas() == 256);
+    drop(deltas);
+    drop(keeper);
 }
 
 // Where this call fails, a range over the last three deltas and the first message in memory is given at the second try.
