@@ -3,6 +3,6 @@ mod Played
 mod Without
 mod Grown
 mod Indexed
-mod Kept
+mod Seating
 pub mod Down
 pub mod Laws

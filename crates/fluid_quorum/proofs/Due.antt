@@ -4,7 +4,7 @@ use Rattle.std.specs.List.{AllWithin}
 use Rattle.std.specs.List.Sorted.{IsPartitionedBy}
 use Rattle.fluid_types.specs.declared.quorum.Proposal.{Proposal}
 use Rattle.fluid_quorum.specs.After.{is_due}
-use Rattle.fluid_quorum.specs.Kept.{AreRising}
+use Rattle.fluid_quorum.specs.Lists.{AreRising}
 
 none_pass : {X : Type 0} (p : X → Bool) (xs : List X) → AllWithin (λ x. p x ≡ false) xs 0 (length xs) → (filter p xs ≡ []) × (filter (λ x. not (p x)) xs ≡ xs)
 none_pass p [] h = (refl, refl)

@@ -14,7 +14,7 @@ use Rattle.fluid_types.specs.Texts.{name_of}
 use Rattle.fluid_types.specs.declared.fault.Field.TheVariants as field
 use Rattle.fluid_types.specs.declared.quorum.Proposal.{Proposal}
 use Rattle.fluid_table.proofs.Ordered.{rises}
-use Rattle.fluid_quorum.specs.Kept.{AreRising, AreUpTo}
+use Rattle.fluid_quorum.specs.Lists.{AreRising, AreUpTo}
 use Rattle.fluid_quorum.specs.Reading.{within, count_at, text_at, proposal_form, each, as_utf8}
 
 -- ---- one item after another

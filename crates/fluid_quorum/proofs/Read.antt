@@ -18,7 +18,7 @@ use Rattle.fluid_types.specs.declared.quorum.Proposal.{Proposal}
 use Rattle.fluid_types.specs.Quorum.{Quorum}
 use Rattle.fluid_types.specs.Blobs.{blob_text, attributes_tree, member_tree, proposal_tree, value_tree, list_tree}
 use Rattle.fluid_quorum.specs.declared.accepting.KeyValue.{KeyValue}
-use Rattle.fluid_quorum.specs.Kept.{members_of, values_of}
+use Rattle.fluid_quorum.specs.Lists.{members_of, values_of}
 use Rattle.fluid_quorum.specs.Reading.{text_in, said_by, attributes_form, member_form, members_form, proposals_form, value_form, values_form, each, attributes_in, members_in, proposals_in, values_in, or_bad, answer}
 use Rattle.fluid_quorum.specs.Laws.{IsOnlyBlobs}
 use Rattle.fluid_quorum.proofs.Sorted.{its_own}

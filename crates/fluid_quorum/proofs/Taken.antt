@@ -14,7 +14,7 @@ use Rattle.fluid_types.specs.Quorum.{Table, Quorum, quorum_of, members, pending,
 use Rattle.fluid_types.proofs.Numbers.{numbered_more, last_number}
 use Rattle.fluid_quorum.specs.Order.{StandsFor}
 use Rattle.fluid_quorum.specs.After.{without, with_member, with_accepted, is_due, waiting, after}
-use Rattle.fluid_quorum.specs.Kept.{AreRising, AreUpTo}
+use Rattle.fluid_quorum.specs.Lists.{AreRising, AreUpTo}
 use Rattle.fluid_quorum.proofs.Approvals.{numbered}
 use Rattle.fluid_quorum.proofs.Pushed.{goes_on}
 

@@ -10,7 +10,7 @@ use Rattle.fluid_types.specs.declared.quorum.QuorumBlob.TheVariants.{Attributes,
 use Rattle.fluid_types.specs.Quorum.{Quorum}
 use Rattle.fluid_types.specs.Blobs.{member_tree, value_tree, list_tree, blob_text}
 use Rattle.fluid_quorum.specs.declared.accepting.KeyValue.{KeyValue}
-use Rattle.fluid_quorum.specs.Kept.{members_of, values_of, IsInIdOrder, IsInKeyOrder}
+use Rattle.fluid_quorum.specs.Lists.{members_of, values_of, IsInIdOrder, IsInKeyOrder}
 use Rattle.fluid_quorum.specs.Node.{AreTexts}
 use Rattle.fluid_quorum.proofs.Sorted.{its_own}
 

@@ -1,7 +1,7 @@
 pub mod Order
 pub mod After
 pub mod Noops
-pub mod Kept
+pub mod Lists
 pub mod Codes
 pub mod Rows
 pub mod Node

@@ -26,7 +26,7 @@ use Rattle.fluid_types.specs.declared.quorum.QuorumBlob.TheVariants as blob
 use Rattle.fluid_types.specs.Quorum.{Quorum, as_name}
 use Rattle.fluid_types.specs.Blobs.{attributes_tree, member_tree, proposal_tree, value_tree, list_tree}
 use Rattle.fluid_quorum.specs.declared.accepting.KeyValue.{KeyValue}
-use Rattle.fluid_quorum.specs.Kept.{members_of, values_of}
+use Rattle.fluid_quorum.specs.Lists.{members_of, values_of}
 
 -- one step after another: where the first gives nothing, nothing
 infixl 1 ◌>>=◌

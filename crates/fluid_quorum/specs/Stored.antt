@@ -12,7 +12,7 @@ use Rattle.fluid_types.specs.Quorum.{Quorum}
 use Rattle.fluid_quorum.specs.declared.accepting.KeyValue.{KeyValue}
 use Rattle.fluid_quorum.specs.Reading.{greatest_minimum}
 use Rattle.fluid_quorum.specs.Node.{AreTexts}
-use Rattle.fluid_quorum.specs.Kept.{members_of, values_of, IsInIdOrder, IsInKeyOrder}
+use Rattle.fluid_quorum.specs.Lists.{members_of, values_of, IsInIdOrder, IsInKeyOrder}
 
 -- the number of one of the first messages
 pub record IsNumber (last n : ℕ) : Type 0 where

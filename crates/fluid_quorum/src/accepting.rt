@@ -1,7 +1,7 @@
 // The values of keys, and which proposals a minimum accepts.
 ghost use Rattle.std.specs.Prelude.{◌≡◌, ◌+◌, ◌<◌, ◌≤◌, ◌++◌, not, fold, filter, take, drop, length, vec_len, vec_capacity, option_to_list};
 ghost use Rattle.fluid_quorum.specs.After.{is_due, with_accepted, with_member, without};
-ghost use Rattle.fluid_quorum.specs.Kept.{AreRising, members_of, IsInIdOrder, values_of, IsInKeyOrder};
+ghost use Rattle.fluid_quorum.specs.Lists.{AreRising, members_of, IsInIdOrder, values_of, IsInKeyOrder};
 
 use crate::saying::Saying;
 use fluid_json::Text;

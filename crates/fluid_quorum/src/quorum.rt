@@ -28,7 +28,7 @@ pub struct Quorum {
 impl Model for Quorum {
     ghost use Rattle.fluid_types.specs.Quorum.{Quorum as AQuorum};
     ghost use Rattle.fluid_quorum.specs.Codes.{quorum_code};
-    ghost use Rattle.fluid_quorum.specs.Kept.{members_of, values_of, IsInIdOrder, IsInKeyOrder, AreRising, AreUpTo};
+    ghost use Rattle.fluid_quorum.specs.Lists.{members_of, values_of, IsInIdOrder, IsInKeyOrder, AreRising, AreUpTo};
 
     ghost Value = { AQuorum };
 

@@ -8,7 +8,7 @@ ghost use Rattle.fluid_json.specs.Tree.{Tree, trees};
 ghost use Rattle.fluid_json.specs.Spelled.{answer_stored};
 ghost use Rattle.fluid_tree.specs.Summary.{children};
 ghost use Rattle.fluid_types.specs.declared.fault.BlobFault.TheVariants.{NoMemory as no_memory};
-ghost use Rattle.fluid_quorum.specs.Kept.{IsInIdOrder, IsInKeyOrder, AreRising, AreUpTo};
+ghost use Rattle.fluid_quorum.specs.Lists.{IsInIdOrder, IsInKeyOrder, AreRising, AreUpTo};
 ghost use Rattle.fluid_quorum.specs.Reading.{as_utf8, find_child, text_in, within, count_at, text_at, attributes_form, member_form, proposal_form, value_form, each, members_form, proposals_form, values_form, attributes_in, members_in, proposals_in, values_in, bad, answer};
 
 use crate::accepting::KeyValue;

@@ -12,7 +12,7 @@ use Rattle.fluid_types.specs.Quorum.{Table, standing, members, proposals, pendin
 use Rattle.fluid_types.proofs.Numbers.{last_number}
 use Rattle.fluid_quorum.specs.declared.accepting.KeyValue.{KeyValue}
 use Rattle.fluid_quorum.specs.Order.{AreFirst}
-use Rattle.fluid_quorum.specs.Kept.{members_of, values_of}
+use Rattle.fluid_quorum.specs.Lists.{members_of, values_of}
 use Rattle.fluid_quorum.specs.Node.{node_of, AreTexts}
 use Rattle.fluid_quorum.specs.Reading.{greatest_minimum, answer}
 use Rattle.fluid_quorum.specs.Stored.{MembersKept, ProposalsKept, ValuesKept, of_parts, IsStored}

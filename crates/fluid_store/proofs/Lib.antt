@@ -1,6 +1,6 @@
 mod Maps
 mod Added
-mod Kept
+mod FoundOrPut
 mod Lists
 mod Distinct
 mod Stood

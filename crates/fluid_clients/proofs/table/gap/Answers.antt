@@ -2,7 +2,7 @@ use Rattle.std.proofs.Common.{sym, ◌∙◌}
 use Rattle.std.proofs.lemmas.Option.{none-some}
 use Rattle.fluid_table.proofs.KeyedPlaces.{get_there}
 use Rattle.fluid_clients.specs.Seats.{id_of, row_of}
-use Rattle.fluid_clients.proofs.Kept.{no_seat}
+use Rattle.fluid_clients.proofs.Seating.{no_seat}
 use Rattle.fluid_clients.proofs.table.gap.Goals as goal
 
 -- a client that isn't joined has no place

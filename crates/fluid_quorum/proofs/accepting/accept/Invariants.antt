@@ -1,7 +1,7 @@
 use Rattle.std.proofs.Common.{◌≡◌, ◌+◌, ◌≤◌, fold, take, drop, vec_len, vec_capacity}
 use Rattle.std.specs.Vec.Iter.{drain_items, drain_len, drain_kept}
 use Rattle.fluid_quorum.specs.After.{with_accepted}
-use Rattle.fluid_quorum.specs.Kept.{values_of, IsInKeyOrder}
+use Rattle.fluid_quorum.specs.Lists.{values_of, IsInKeyOrder}
 use Rattle.fluid_quorum.proofs.accepting.accept.Given as goal
 
 -- what is accepted so far, and then what is left, is all

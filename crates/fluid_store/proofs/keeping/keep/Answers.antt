@@ -1,4 +1,4 @@
-use Rattle.fluid_store.proofs.Kept.{placed, compared}
+use Rattle.fluid_store.proofs.FoundOrPut.{placed, compared}
 use Rattle.fluid_store.proofs.keeping.keep.Goals as goal
 
 pub returns-in-None-clause-does : goal.returns-in-None-clause-does

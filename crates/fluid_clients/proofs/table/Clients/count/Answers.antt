@@ -1,5 +1,5 @@
 use Rattle.std.proofs.Common.{sym, ◌∙◌}
-use Rattle.fluid_clients.proofs.Kept.{count_of}
+use Rattle.fluid_clients.proofs.Seating.{count_of}
 use Rattle.fluid_clients.proofs.table.Clients.count.Goals as goal
 
 pub returns : goal.returns

@@ -4,7 +4,7 @@ use Rattle.fluid_table.proofs.KeyedPlaces.{get_gap}
 use Rattle.fluid_clients.specs.declared.table.Row.{Row}
 use Rattle.fluid_clients.specs.Seats.{id_of, row_of}
 use Rattle.fluid_clients.proofs.Laws.{change-there, change-absent}
-use Rattle.fluid_clients.proofs.Kept.{row-there, rows-changed, kept-heard}
+use Rattle.fluid_clients.proofs.Seating.{row-there, rows-changed, kept-heard}
 use Rattle.fluid_clients.proofs.table.Clients.hear.Goals as goal
 
 pub invariant_of-self : goal.invariant_of-self

@@ -3,7 +3,7 @@ use Rattle.std.specs.Option.{option_copied}
 use Rattle.std.proofs.lemmas.Bool.{ltb-true, ltb-false}
 use Rattle.std.proofs.lemmas.Option.{slice_get_read, slice_get_past}
 use Rattle.fluid_clients.specs.declared.table.Seat.{Seat}
-use Rattle.fluid_clients.proofs.Kept.{ids_of}
+use Rattle.fluid_clients.proofs.Seating.{ids_of}
 use Rattle.fluid_clients.proofs.table.Clients.id_at.Goals as goal
 
 pub returns-in_err-seat : goal.returns-in_err-seat

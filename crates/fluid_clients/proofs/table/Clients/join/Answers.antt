@@ -4,7 +4,7 @@ use Rattle.std.specs.FinMap.{insert}
 use Rattle.fluid_clients.specs.declared.table.Seat.{Seat}
 use Rattle.fluid_clients.specs.Table.{Table}
 use Rattle.fluid_clients.specs.Seats.{IsKept}
-use Rattle.fluid_clients.proofs.Kept.{rows_in, slot-free, rows-joined, kept-joined, joined-count, roomier}
+use Rattle.fluid_clients.proofs.Seating.{rows_in, slot-free, rows-joined, kept-joined, joined-count, roomier}
 use Rattle.fluid_clients.proofs.table.Clients.join.Goals as goal
 
 pub set-requires : goal.set-requires

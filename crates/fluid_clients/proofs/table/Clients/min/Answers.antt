@@ -1,5 +1,5 @@
 use Rattle.std.proofs.Common.{Some, None}
-use Rattle.fluid_clients.proofs.Kept.{least-indexed}
+use Rattle.fluid_clients.proofs.Seating.{least-indexed}
 use Rattle.fluid_clients.proofs.table.Clients.min.Goals as goal
 
 pub returns-in-Some : goal.returns-in-Some

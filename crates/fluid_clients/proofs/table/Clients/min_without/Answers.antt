@@ -3,7 +3,7 @@ use Rattle.std.specs.Vec.{vec_capacity}
 use Rattle.fluid_table.proofs.KeyedPlaces.{remove_gap}
 use Rattle.fluid_clients.specs.Table.{least}
 use Rattle.fluid_clients.specs.Seats.{id_of, row_of}
-use Rattle.fluid_clients.proofs.Kept.{slot-there, least-others}
+use Rattle.fluid_clients.proofs.Seating.{slot-there, least-others}
 use Rattle.fluid_clients.proofs.table.Clients.min_without.Goals as goal
 
 pub least_of_others-requires-clause-slot : goal.least_of_others-requires-clause-slot

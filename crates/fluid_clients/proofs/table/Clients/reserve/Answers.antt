@@ -1,7 +1,7 @@
 use Rattle.std.proofs.Common.{◌≡◌, ◌+◌, ◌≤◌, ◌++◌, ◌∷◌, [], suc, length, ap, arith}
 use Rattle.std.specs.Vec.{vec_capacity}
 use Rattle.fluid_clients.specs.Seats.{IsKept}
-use Rattle.fluid_clients.proofs.Kept.{kept-more}
+use Rattle.fluid_clients.proofs.Seating.{kept-more}
 use Rattle.fluid_clients.proofs.table.Clients.reserve.Goals as goal
 
 pub invariant_of-self-2 : goal.invariant_of-self-2

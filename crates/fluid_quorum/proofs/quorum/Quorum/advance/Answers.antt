@@ -2,7 +2,7 @@ use Rattle.std.proofs.Common.{rules, ◌≡◌, ◌+◌, ◌++◌, not, filter, 
 use Rattle.fluid_quorum.specs.After.{is_due, with_accepted}
 use Rattle.fluid_quorum.specs.Order.{StandsFor}
 use Rattle.fluid_quorum.specs.Noops.{noops_to}
-use Rattle.fluid_quorum.specs.Kept.{AreRising, values_of}
+use Rattle.fluid_quorum.specs.Lists.{AreRising, values_of}
 use Rattle.fluid_quorum.proofs.Taken.{left-rising}
 use Rattle.fluid_quorum.proofs.Advanced.{IsParted, stays-later, stays-lower, stands-same, advanced-is, advanced-stands, shares, no_more}
 use Rattle.fluid_quorum.proofs.quorum.Quorum.advance.Goals as goal

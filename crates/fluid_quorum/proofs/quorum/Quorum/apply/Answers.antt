@@ -3,7 +3,7 @@ use Rattle.std.specs.Prelude.{option_to_list}
 use Rattle.fluid_types.specs.Quorum.{member_of, left_by, proposal_of}
 use Rattle.fluid_quorum.specs.After.{is_due, with_member, without, with_accepted}
 use Rattle.fluid_quorum.specs.Order.{StandsFor}
-use Rattle.fluid_quorum.specs.Kept.{AreRising, AreUpTo, members_of, values_of}
+use Rattle.fluid_quorum.specs.Lists.{AreRising, AreUpTo, members_of, values_of}
 use Rattle.fluid_quorum.proofs.Taken.{waiting-rising, waiting-bounded, left-rising, left-bounded, one_more, taken, stands-after}
 use Rattle.fluid_quorum.proofs.quorum.Quorum.apply.Goals as goal
 

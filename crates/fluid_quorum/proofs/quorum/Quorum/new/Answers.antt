@@ -1,7 +1,7 @@
 use Rattle.std.proofs.Common.{refl, ap, ◌∙◌}
 use Rattle.fluid_table.specs.Table.{byte_order}
 use Rattle.fluid_table.proofs.Maps.{from_sorted_nothing}
-use Rattle.fluid_quorum.specs.Kept.{members_of, values_of}
+use Rattle.fluid_quorum.specs.Lists.{members_of, values_of}
 use Rattle.fluid_quorum.proofs.Taken.{of_nothing}
 use Rattle.fluid_quorum.proofs.quorum.Quorum.new.Goals as goal
 

@@ -7,7 +7,7 @@ use Rattle.fluid_types.specs.Words.{blob_word}
 use Rattle.fluid_types.specs.declared.quorum.QuorumBlob.TheVariants.{Attributes, Members, Proposals, Values}
 use Rattle.fluid_types.specs.Blobs.{attributes_tree, member_tree, proposal_tree, value_tree, list_tree, blobs_of, blob_text}
 use Rattle.fluid_table.specs.Keyed.{pairs_of}
-use Rattle.fluid_quorum.specs.Kept.{members_of, values_of}
+use Rattle.fluid_quorum.specs.Lists.{members_of, values_of}
 use Rattle.fluid_quorum.specs.Node.{node_of, AreTexts}
 use Rattle.fluid_quorum.proofs.Written.{members_text, values_text, four_texts}
 use Rattle.fluid_quorum.proofs.quorum.Quorum.to_blobs.Goals as goal
