@@ -21,7 +21,7 @@ impl Forgetful {
 }
 
 impl Keeper for Forgetful {
-    ghost use Rattle.std.specs.Prelude.{None, ⋆};
+    ghost use Rattle.std.specs.Prelude.{None};
 
     ghost seen = { λ keeper. record {
       content = None;
@@ -32,7 +32,7 @@ impl Keeper for Forgetful {
       reads = 0;
     } };
 
-    ghost sized = { λ keeper. ⋆ };
+    ghost sized = { λ keeper. tt };
 
     fn faults(&self) -> u64 {
         0
