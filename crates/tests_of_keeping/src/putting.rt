@@ -311,6 +311,13 @@ fn the_oldest_page_goes(rt: HostRuntime) {
         let given = run_given(&rt, alloc, &mut deltas, &mut keeper, *bounds);
         assert!(rt; given == Ok(run), "{bounds:?}");
     }
+    assert!(rt; flush(&rt, alloc, &mut deltas, &mut keeper) == Ok(()));
+    assert!(rt; keeper.deltas() == 4097);
+    deltas.resume(4096);
+    assert!(rt; deltas.resident() == 0 && run_held(&deltas, (4096, 4097)).is_none());
+    push(&rt, alloc, &mut deltas);
+    let given = run_given(&rt, alloc, &mut deltas, &mut keeper, (4095, 4098));
+    assert!(rt; given == Ok(Some((4095, 3))));
     drop(deltas);
     drop(keeper);
 }
@@ -367,22 +374,44 @@ fn a_page_stays_until_all_its_messages_are_kept(rt: HostRuntime) {
     drop(keeper);
 }
 
-// Where this call fails, a range over the last three deltas and the first message in memory is given at the second try.
-fn assert_read(rt: &impl Abort, alloc: Global, failing: u64) {
-    let mut keeper = keeper_of(rt, alloc, failing);
-    let mut deltas = pushed_over(rt, alloc, 4097, &mut keeper);
-    let given = run_given(rt, alloc, &mut deltas, &mut keeper, (254, 258));
-    assert!(rt; given == Err(FAILED), "call {failing}");
-    let given = run_given(rt, alloc, &mut deltas, &mut keeper, (254, 258));
-    assert!(rt; given == Ok(Some((254, 4))), "call {failing}");
-    drop(deltas);
-    drop(keeper);
+// The last read of each try to read a whole page: the first call behind the 256 puts, the third, the sixth and so on.
+fn last_reads(rt: &impl Abort, alloc: Global) -> Vec<u64> {
+    let mut failing = Vec::new(alloc);
+    let mut call = 256_u64;
+    for reads in 1..=256 {
+        call = call.wrapping_add(reads);
+        failing.push(call).expect(rt, "memory");
+    }
+    failing
+}
+
+// The read of one delta fails behind so many that were read.
+fn assert_unread(
+    rt: &impl Abort,
+    alloc: Global,
+    deltas: &mut Deltas,
+    keeper: &mut MemoryKeeper,
+    read: u64,
+) {
+    let fault = FaultNote {
+        before: read,
+        after: read.wrapping_add(1),
+    };
+    let wanted = Err(DeltaFault::DeltaFailed(fault));
+    let given = run_given(rt, alloc, deltas, keeper, (1, 258));
+    assert!(rt; given == wanted, "behind {read} reads");
 }
 
 #[test]
 fn each_delta_of_a_range_may_fail(rt: HostRuntime) {
     let alloc = rt.alloc();
-    for failing in [257, 258, 259] {
-        assert_read(&rt, alloc, failing);
+    let mut keeper = MemoryKeeper::new(alloc, last_reads(&rt, alloc), Vec::new(alloc));
+    let mut deltas = pushed_over(&rt, alloc, 4097, &mut keeper);
+    for read in 0..256 {
+        assert_unread(&rt, alloc, &mut deltas, &mut keeper, read);
     }
+    let given = run_given(&rt, alloc, &mut deltas, &mut keeper, (1, 258));
+    assert!(rt; given == Ok(Some((1, 257))));
+    drop(deltas);
+    drop(keeper);
 }
