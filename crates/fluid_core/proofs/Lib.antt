@@ -1,2 +1,3 @@
 pub mod Entered
 mod Jobs
+mod Within
