@@ -1,0 +1,13 @@
+mod Answered
+pub mod Onwards
+mod Levels
+mod Growing
+mod Records
+mod Entering
+pub mod Keeps
+pub mod Foldings
+pub mod Orders
+pub mod Reloading
+mod Progress
+mod Takes
+mod Beginnings
