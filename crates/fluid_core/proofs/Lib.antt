@@ -1,2 +1,2 @@
 pub mod Entered
-mod Jobs
+pub mod Jobs
