@@ -1,11 +1,18 @@
 //! The sequencer of `fluidd sequence`, written by hand in plain Rust over serde_json: raw records of one document
 //! on standard input, one verdict line for each on standard output. It is what the proved program is measured against,
 //! and an independent reading of the same rules: both must write the same bytes.
-use serde::ser::{Serialize, SerializeStruct, Serializer};
+//!
+//! It is tuned: lines are found by memchr and read where they stand in the input's buffer, members are taken out of an object
+//! in one pass, ids are hashed by few steps, and output goes straight into one buffer.
+use memchr::memchr;
 use serde_json::{Map, Value};
 use std::collections::{BTreeMap, HashMap};
-use std::io::{self, BufRead, BufReader, BufWriter, Write};
+use std::hash::{BuildHasherDefault, Hasher};
+use std::io::{self, BufRead, BufReader, Write};
 use std::process::ExitCode;
+
+/// What goes out at once.
+const BLOCK: usize = 65_536;
 
 const LINE_BYTES: usize = 1_048_576;
 const LINES: u64 = 16_777_216;
@@ -13,6 +20,7 @@ const ENTRIES: u64 = 4_194_304;
 const CLIENTS: usize = 1_024;
 const DEPTH: usize = 100;
 const GREATEST: i64 = (1 << 53) - 1;
+const DROPPED: &str = "{\"dropped\":true}\n";
 
 /// Why a line is refused, as its text.
 type Why = String;
@@ -43,10 +51,43 @@ struct Row {
     scopes: Scopes,
 }
 
+/// A fast hash of short texts: eight bytes at a time are turned and multiplied.
+#[derive(Default)]
+struct Fast {
+    hash: u64,
+}
+
+impl Fast {
+    fn add(&mut self, word: u64) {
+        self.hash = (self.hash.rotate_left(5) ^ word).wrapping_mul(0x51_7c_c1_b7_27_22_0a_95);
+    }
+}
+
+impl Hasher for Fast {
+    fn write(&mut self, bytes: &[u8]) {
+        let mut words = bytes.chunks_exact(8);
+        for word in &mut words {
+            self.add(u64::from_le_bytes(word.try_into().unwrap()));
+        }
+        let mut last = [0; 8];
+        let rest = words.remainder();
+        last[..rest.len()].copy_from_slice(rest);
+        self.add(u64::from_le_bytes(last));
+    }
+
+    fn write_u8(&mut self, byte: u8) {
+        self.add(u64::from(byte));
+    }
+
+    fn finish(&self) -> u64 {
+        self.hash
+    }
+}
+
 /// The joined clients, with a count of clients for each reference so that the least one is at hand.
 #[derive(Default)]
 struct Clients {
-    rows: HashMap<String, Row>,
+    rows: HashMap<String, Row, BuildHasherDefault<Fast>>,
     references: BTreeMap<u64, usize>,
 }
 
@@ -82,66 +123,95 @@ struct Message<'a> {
     kind: &'static str,
 }
 
-impl Serialize for Message<'_> {
-    fn serialize<S: Serializer>(&self, to: S) -> Result<S::Ok, S::Error> {
-        let mut message = to.serialize_struct("message", 10)?;
-        message.serialize_field("clientId", &self.client)?;
-        message.serialize_field("clientSequenceNumber", &self.client_number)?;
-        message.serialize_field("contents", self.contents)?;
-        if let Some(data) = &self.data {
-            message.serialize_field("data", data)?;
-        }
-        if let Some(metadata) = self.metadata {
-            message.serialize_field("metadata", metadata)?;
-        }
-        message.serialize_field("minimumSequenceNumber", &self.minimum)?;
-        message.serialize_field("referenceSequenceNumber", &self.reference)?;
-        message.serialize_field("sequenceNumber", &self.number)?;
-        message.serialize_field("timestamp", &self.timestamp)?;
-        message.serialize_field("type", self.kind)?;
-        message.end()
+/// Output, which is written in blocks.
+#[derive(Default)]
+struct Out {
+    bytes: Vec<u8>,
+}
+
+impl Out {
+    fn put(&mut self, text: &str) {
+        self.bytes.extend_from_slice(text.as_bytes());
     }
-}
 
-impl Serialize for Submission {
-    fn serialize<S: Serializer>(&self, to: S) -> Result<S::Ok, S::Error> {
-        let mut submission = to.serialize_struct("submission", 5)?;
-        submission.serialize_field("clientSequenceNumber", &self.number)?;
-        submission.serialize_field("contents", &self.contents)?;
-        if let Some(metadata) = &self.metadata {
-            submission.serialize_field("metadata", metadata)?;
-        }
-        submission.serialize_field("referenceSequenceNumber", &self.reference)?;
-        submission.serialize_field("type", self.kind)?;
-        submission.end()
+    fn number<N: itoa::Integer>(&mut self, number: N) {
+        self.put(itoa::Buffer::new().format(number));
     }
-}
 
-#[derive(serde::Serialize)]
-struct Sequenced<'a> {
-    sequenced: Message<'a>,
-}
+    fn value(&mut self, value: &Value) {
+        serde_json::to_writer(&mut self.bytes, value).expect("a vector takes all");
+    }
 
-#[derive(serde::Serialize)]
-struct Content {
-    code: u32,
-    message: &'static str,
-    r#type: &'static str,
-}
+    fn text(&mut self, text: &str) {
+        serde_json::to_writer(&mut self.bytes, text).expect("a vector takes all");
+    }
 
-#[derive(serde::Serialize)]
-#[allow(non_snake_case)]
-struct Nack<'a> {
-    content: Content,
-    operation: &'a Submission,
-    sequenceNumber: u64,
-}
+    fn flush(&mut self) -> io::Result<()> {
+        io::stdout().lock().write_all(&self.bytes)?;
+        self.bytes.clear();
+        Ok(())
+    }
 
-#[derive(serde::Serialize)]
-#[allow(non_snake_case)]
-struct Nacked<'a> {
-    clientId: &'a str,
-    nacked: Nack<'a>,
+    /// A line with a message. A client's id needs no escapes.
+    fn sequenced(&mut self, message: &Message) {
+        match message.client {
+            Some(id) => {
+                self.put("{\"sequenced\":{\"clientId\":\"");
+                self.put(id);
+                self.put("\",\"clientSequenceNumber\":");
+            }
+            None => self.put("{\"sequenced\":{\"clientId\":null,\"clientSequenceNumber\":"),
+        }
+        self.number(message.client_number);
+        self.put(",\"contents\":");
+        self.value(message.contents);
+        if let Some(data) = &message.data {
+            self.put(",\"data\":");
+            self.text(data);
+        }
+        if let Some(metadata) = message.metadata {
+            self.put(",\"metadata\":");
+            self.value(metadata);
+        }
+        self.put(",\"minimumSequenceNumber\":");
+        self.number(message.minimum);
+        self.put(",\"referenceSequenceNumber\":");
+        self.number(message.reference);
+        self.put(",\"sequenceNumber\":");
+        self.number(message.number);
+        self.put(",\"timestamp\":");
+        self.number(message.timestamp);
+        self.put(",\"type\":\"");
+        self.put(message.kind);
+        self.put("\"}}\n");
+    }
+
+    fn nacked(&mut self, id: &str, nack: (u32, &str, &str), operation: &Submission, minimum: u64) {
+        let (code, kind, text) = nack;
+        self.put("{\"clientId\":\"");
+        self.put(id);
+        self.put("\",\"nacked\":{\"content\":{\"code\":");
+        self.number(code);
+        self.put(",\"message\":\"");
+        self.put(text);
+        self.put("\",\"type\":\"");
+        self.put(kind);
+        self.put("\"},\"operation\":{\"clientSequenceNumber\":");
+        self.number(operation.number);
+        self.put(",\"contents\":");
+        self.value(&operation.contents);
+        if let Some(metadata) = &operation.metadata {
+            self.put(",\"metadata\":");
+            self.value(metadata);
+        }
+        self.put(",\"referenceSequenceNumber\":");
+        self.number(operation.reference);
+        self.put(",\"type\":\"");
+        self.put(operation.kind);
+        self.put("\"},\"sequenceNumber\":");
+        self.number(minimum);
+        self.put("}}\n");
+    }
 }
 
 /// Whether brackets outside strings ever stand more than `DEPTH` deep.
@@ -183,36 +253,47 @@ fn fault(field: &str, what: &str) -> Why {
     format!("bad field {field}: {what}")
 }
 
-fn present(members: &mut Map<String, Value>, field: &str) -> Result<Value, Why> {
-    members.remove(field).ok_or_else(|| fault(field, "missing"))
+/// The values of these members, taken out of an object in one pass.
+fn open<const N: usize>(object: Map<String, Value>, names: [&str; N]) -> [Option<Value>; N] {
+    let mut values = [const { None }; N];
+    for (name, value) in object {
+        if let Some(at) = names.iter().position(|known| *known == name) {
+            values[at] = Some(value);
+        }
+    }
+    values
+}
+
+fn present(value: Option<Value>, field: &str) -> Result<Value, Why> {
+    value.ok_or_else(|| fault(field, "missing"))
 }
 
 fn is_name(text: &str) -> bool {
     (1..=64).contains(&text.len()) && text.bytes().all(|b| b.is_ascii_alphanumeric() || b == b'_' || b == b'-')
 }
 
-fn text(members: &mut Map<String, Value>, field: &str) -> Result<String, Why> {
-    match present(members, field)? {
+fn text(value: Option<Value>, field: &str) -> Result<String, Why> {
+    match present(value, field)? {
         Value::String(text) => Ok(text),
         _ => Err(fault(field, "not a text")),
     }
 }
 
-fn name(members: &mut Map<String, Value>, field: &str) -> Result<String, Why> {
-    let text = text(members, field)?;
-    if is_name(&text) { Ok(text) } else { Err(fault(field, "bad name")) }
+fn name(value: Option<Value>) -> Result<String, Why> {
+    let text = text(value, "clientId")?;
+    if is_name(&text) { Ok(text) } else { Err(fault("clientId", "bad name")) }
 }
 
-fn whole(members: &mut Map<String, Value>, field: &str, least: i64) -> Result<i64, Why> {
-    match present(members, field)?.as_i64() {
+fn whole(value: Option<Value>, field: &str, least: i64) -> Result<i64, Why> {
+    match present(value, field)?.as_i64() {
         None => Err(fault(field, "not a whole number")),
         Some(number) if number < least || number > GREATEST => Err(fault(field, "out of range")),
         Some(number) => Ok(number),
     }
 }
 
-fn scopes(members: &mut Map<String, Value>) -> Result<Scopes, Why> {
-    let Value::Array(items) = present(members, "scopes")? else {
+fn scopes(value: Option<Value>) -> Result<Scopes, Why> {
+    let Value::Array(items) = present(value, "scopes")? else {
         return Err(fault("scopes", "not a list"));
     };
     let mut scopes = Scopes { summary: false };
@@ -226,14 +307,15 @@ fn scopes(members: &mut Map<String, Value>) -> Result<Scopes, Why> {
 }
 
 fn submission(value: Value) -> Result<Submission, Why> {
-    let Value::Object(mut members) = value else {
+    let Value::Object(object) = value else {
         return Err(fault("operation", "not an object"));
     };
-    let number = whole(&mut members, "clientSequenceNumber", 0)?;
-    let contents = members.remove("contents").unwrap_or(Value::Null);
-    let metadata = members.remove("metadata");
-    let reference = whole(&mut members, "referenceSequenceNumber", -1)?;
-    let kind = match text(&mut members, "type")?.as_str() {
+    let names = ["clientSequenceNumber", "contents", "metadata", "referenceSequenceNumber", "type"];
+    let [number, contents, metadata, reference, kind] = open(object, names);
+    let number = whole(number, "clientSequenceNumber", 0)?;
+    let contents = contents.unwrap_or(Value::Null);
+    let reference = whole(reference, "referenceSequenceNumber", -1)?;
+    let kind = match text(kind, "type")?.as_str() {
         "op" => "op",
         "noop" => "noop",
         "propose" => "propose",
@@ -252,35 +334,37 @@ fn read(line: &str) -> Result<Raw, Why> {
     if !all_whole(&value) {
         return Err("a number is not whole".into());
     }
-    let Value::Object(mut members) = value else {
+    let Value::Object(object) = value else {
         return Err(fault("raw", "not an object"));
     };
-    match text(&mut members, "raw")?.as_str() {
+    let names = ["clientId", "detail", "found", "moment", "operation", "raw", "scopes", "summary"];
+    let [id, detail, found, moment, operation, raw, held, summary] = open(object, names);
+    match text(raw, "raw")?.as_str() {
         "join" => {
-            let id = name(&mut members, "clientId")?;
-            let detail = members.remove("detail").unwrap_or(Value::Null);
-            let moment = whole(&mut members, "moment", 0)?;
-            let scopes = scopes(&mut members)?;
+            let id = name(id)?;
+            let detail = detail.unwrap_or(Value::Null);
+            let moment = whole(moment, "moment", 0)?;
+            let scopes = scopes(held)?;
             Ok(Raw::Join { id, scopes, detail, moment })
         }
         "leave" => {
-            let id = name(&mut members, "clientId")?;
-            let moment = whole(&mut members, "moment", 0)?;
+            let id = name(id)?;
+            let moment = whole(moment, "moment", 0)?;
             Ok(Raw::Leave { id, moment })
         }
         "submit" => {
-            let id = name(&mut members, "clientId")?;
-            let moment = whole(&mut members, "moment", 0)?;
-            let submission = submission(present(&mut members, "operation")?)?;
+            let id = name(id)?;
+            let moment = whole(moment, "moment", 0)?;
+            let submission = submission(present(operation, "operation")?)?;
             Ok(Raw::Submit { id, submission, moment })
         }
         "report" => {
-            match present(&mut members, "found")? {
+            match present(found, "found")? {
                 Value::Bool(_) => {}
                 _ => return Err(fault("found", "not a truth value")),
             }
-            whole(&mut members, "moment", 0)?;
-            whole(&mut members, "summary", 1)?;
+            whole(moment, "moment", 0)?;
+            whole(summary, "summary", 1)?;
             Ok(Raw::Report)
         }
         _ => Err(fault("raw", "not allowed")),
@@ -302,54 +386,50 @@ impl Document {
         self.clients.minimum().unwrap_or(self.number)
     }
 
-    fn enter<W: Write>(&mut self, raw: Raw, out: &mut W) -> io::Result<Result<(), Why>> {
+    fn enter(&mut self, raw: Raw, out: &mut Out) -> Result<(), Why> {
         match raw {
-            Raw::Report => return Ok(Err("not a record".into())),
+            Raw::Report => return Err("not a record".into()),
             Raw::Join { .. } | Raw::Submit { .. } if self.counted >= ENTRIES => {
-                return Ok(Err("document is full".into()))
+                return Err("document is full".into())
             }
             Raw::Join { id, scopes, detail, moment } => {
                 if self.clients.rows.contains_key(&id) {
                     self.counted += 1;
-                    out.write_all(b"{\"dropped\":true}\n")?;
-                    return Ok(Ok(()));
+                    out.put(DROPPED);
+                    return Ok(());
                 }
                 if self.clients.rows.len() >= CLIENTS {
-                    return Ok(Err("too many clients".into()));
+                    return Err("too many clients".into());
                 }
                 self.counted += 1;
                 self.number += 1;
-                let data = format!(
-                    "{{\"clientId\":{},\"detail\":{}}}",
-                    serde_json::to_string(&id)?,
-                    serde_json::to_string(&detail)?
-                );
+                let data = format!("{{\"clientId\":\"{id}\",\"detail\":{detail}}}");
                 self.clients.put(self.minimum);
                 let row = Row { last: 0, reference: self.minimum, nacked: false, scopes };
                 self.clients.rows.insert(id, row);
                 self.minimum = self.minimum_now();
-                self.system(out, data, moment, "join")?;
+                self.system(out, data, moment, "join");
             }
             Raw::Leave { id, moment } => {
                 let Some(row) = self.clients.rows.remove(&id) else {
-                    out.write_all(b"{\"dropped\":true}\n")?;
-                    return Ok(Ok(()));
+                    out.put(DROPPED);
+                    return Ok(());
                 };
                 self.clients.take(row.reference);
                 self.number += 1;
                 self.minimum = self.minimum_now();
-                let data = serde_json::to_string(&id)?;
-                self.system(out, data, moment, "leave")?;
+                let data = format!("\"{id}\"");
+                self.system(out, data, moment, "leave");
             }
             Raw::Submit { id, submission, moment } => {
                 self.counted += 1;
-                self.submit(id, submission, moment, out)?;
+                self.submit(id, submission, moment, out);
             }
         }
-        Ok(Ok(()))
+        Ok(())
     }
 
-    fn system<W: Write>(&mut self, out: &mut W, data: String, timestamp: i64, kind: &'static str) -> io::Result<()> {
+    fn system(&mut self, out: &mut Out, data: String, timestamp: i64, kind: &'static str) {
         self.last_minimum = self.minimum;
         let message = Message {
             client: None,
@@ -363,15 +443,14 @@ impl Document {
             timestamp,
             kind,
         };
-        serde_json::to_writer(&mut *out, &Sequenced { sequenced: message })?;
-        out.write_all(b"\n")
+        out.sequenced(&message);
     }
 
-    fn submit<W: Write>(&mut self, id: String, operation: Submission, moment: i64, out: &mut W) -> io::Result<()> {
+    fn submit(&mut self, id: String, operation: Submission, moment: i64, out: &mut Out) {
         let (seq, minimum) = (self.number, self.minimum);
         let (code, kind, message) = match self.clients.rows.get_mut(&id) {
             Some(row) if operation.number <= row.last => {
-                return out.write_all(b"{\"dropped\":true}\n");
+                return out.put(DROPPED);
             }
             Some(row) if operation.number > row.last + 1 => {
                 (400, "BadRequestError", "Gap in client sequence numbers")
@@ -404,7 +483,7 @@ impl Document {
                     let lifted = self.minimum_now();
                     if operation.contents.is_null() || lifted <= self.last_minimum {
                         self.minimum = lifted;
-                        return out.write_all(b"{\"absorbed\":true}\n");
+                        return out.put("{\"absorbed\":true}\n");
                     }
                 }
                 self.number += 1;
@@ -430,52 +509,65 @@ impl Document {
                     timestamp: moment,
                     kind: operation.kind,
                 };
-                serde_json::to_writer(&mut *out, &Sequenced { sequenced: message })?;
-                return out.write_all(b"\n");
+                return out.sequenced(&message);
             }
         };
-        let nack = Nack { content: Content { code, message, r#type: kind }, operation: &operation, sequenceNumber: minimum };
-        serde_json::to_writer(&mut *out, &Nacked { clientId: &id, nacked: nack })?;
-        out.write_all(b"\n")
+        out.nacked(&id, (code, kind, message), &operation, minimum);
     }
 }
 
+/// What becomes of the line of this number, which has no end any more.
+fn take(document: &mut Document, out: &mut Out, number: u64, line: &[u8]) -> Result<(), Why> {
+    if line.len() > LINE_BYTES {
+        return Err("too long".into());
+    }
+    let Ok(text) = std::str::from_utf8(line) else {
+        return Err("not UTF-8".into());
+    };
+    if number > LINES {
+        return Err("too many lines".into());
+    }
+    if text.is_empty() {
+        return Ok(());
+    }
+    document.enter(read(text)?, out)
+}
+
+/// The next line, with its end. It stands in the input's buffer, or in `parts` where the buffer has a part of it alone. Behind it
+/// so many bytes of the buffer are to be passed over.
+fn next<'a, R: BufRead>(input: &'a mut R, parts: &'a mut Vec<u8>) -> io::Result<(&'a [u8], usize)> {
+    parts.clear();
+    let whole = memchr(b'\n', input.fill_buf()?);
+    if let Some(end) = whole {
+        return Ok((&input.fill_buf()?[..=end], end + 1));
+    }
+    input.read_until(b'\n', parts)?;
+    Ok((parts, 0))
+}
+
 fn run() -> io::Result<u8> {
-    let mut input = BufReader::with_capacity(65_536, io::stdin().lock());
-    let mut out = BufWriter::with_capacity(65_536, io::stdout().lock());
+    let mut input = BufReader::with_capacity(BLOCK, io::stdin().lock());
+    let mut out = Out::default();
     let mut document = Document::default();
-    let mut bytes = Vec::new();
+    let mut parts = Vec::new();
     let mut number = 0;
     loop {
-        bytes.clear();
-        if input.read_until(b'\n', &mut bytes)? == 0 {
+        let (mut line, passed) = next(&mut input, &mut parts)?;
+        if line.is_empty() {
             break;
         }
         number += 1;
-        let mut line = bytes.as_slice();
         if let Some(rest) = line.strip_suffix(b"\n") {
             line = rest.strip_suffix(b"\r").unwrap_or(rest);
         }
-        let refused = if line.len() > LINE_BYTES {
-            Some("too long".to_string())
-        } else if let Ok(text) = std::str::from_utf8(line) {
-            if number > LINES {
-                Some("too many lines".into())
-            } else if text.is_empty() {
-                None
-            } else {
-                match read(text) {
-                    Ok(raw) => document.enter(raw, &mut out)?.err(),
-                    Err(why) => Some(why),
-                }
-            }
-        } else {
-            Some("not UTF-8".into())
-        };
-        if let Some(why) = refused {
-            writeln!(out, "bad line {number}: {why}")?;
+        if let Err(why) = take(&mut document, &mut out, number, line) {
+            out.put(&format!("bad line {number}: {why}\n"));
             out.flush()?;
             return Ok(3);
+        }
+        input.consume(passed);
+        if out.bytes.len() >= BLOCK {
+            out.flush()?;
         }
     }
     out.flush()?;

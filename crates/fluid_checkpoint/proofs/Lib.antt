@@ -1,1 +1,6 @@
 pub mod Back
+mod Canonical
+mod Entered
+mod Joined
+mod Utf8
+mod Whole

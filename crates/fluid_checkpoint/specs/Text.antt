@@ -1,92 +1,82 @@
--- The text of a checkpoint: one JSON object (RFC 8259) with the members `entered` and `version`. Which text is printed for a
--- state, which state a text spells, and which fault a text has that spells none.
-use Rattle.std.specs.Prelude.{ℕ, ℤ, pos, negsuc, ◌==◌, nat_le, List, [], ◌∷◌, Option, Some, None, option_and_then, Result, Ok, Err, if◌then◌else◌, codes}
-use Rattle.std.specs.Option.{ok_or}
-use Rattle.std.specs.Str.{is_utf8}
-use Rattle.fluid_json.specs.Tree as json
-use Rattle.fluid_json.specs.Tree.{Tree, object, members, find, as_whole, as_members}
+-- The text of a checkpoint: one JSON object (RFC 8259) with what is kept of a document's first entries. The members of each
+-- object stand in byte order of their names.
+use Rattle.std.specs.Prelude.{ℕ, List, [], ◌∷◌, ◌++◌, map, codes}
+use Rattle.std.specs.FinMap.{entries}
+use Rattle.hex.specs.Hex.{encode_lower}
+use Rattle.fluid_json.specs.Tree.{Tree, boolean, text, list, object, trees, members}
 use Rattle.fluid_json.specs.Printed.{printed}
-use Rattle.fluid_json.specs.Spelled.{answer_stored}
-use Rattle.fluid_json.specs.declared.fault.JsonFault.{JsonFault}
-use Rattle.fluid_types.specs.Printed.{count_tree}
-use Rattle.fluid_types.specs.Forms.{largest}
+use Rattle.fluid_types.specs.Printed.{Row as Pair, count_tree, scopes_tree, message_tree}
+use Rattle.fluid_types.specs.Blobs.{blob_tree, list_tree}
+use Rattle.fluid_types.specs.Words.{blob_word, quorum_blobs}
+use Rattle.fluid_types.specs.Quorum.{Quorum}
+use Rattle.fluid_tree.specs.declared.id.SummaryRef.{SummaryRef}
+use Rattle.fluid_clients.specs.declared.table.Row.{Row}
 use Rattle.fluid_checkpoint.specs.declared.state.State.{State}
-use Rattle.fluid_checkpoint.specs.declared.fault.CheckpointFault.{CheckpointFault}
-use Rattle.fluid_checkpoint.specs.declared.fault.CheckpointFault.TheVariants.{BadText, BadField, Version}
+use Rattle.fluid_checkpoint.specs.declared.version.Version.{Version}
+use Rattle.fluid_checkpoint.specs.declared.version.Version.TheVariants.{One, Two}
 
--- the version of this text
-abbrev pub this_version : ℕ
-this_version = 0
+abbrev pub version_number : Version → ℕ
+version_number One = 1
+version_number Two = 2
 
--- ---- printed: the members stand in byte order of their names
+-- ---- items
 
-abbrev pub state_tree : State → Tree
-state_tree s = object (members ((codes "entered", count_tree s.entered) ∷ (codes "version", count_tree this_version) ∷ []))
+abbrev pub ack_tree : SummaryRef → Tree
+ack_tree ack = object (members ((codes "handle", text (encode_lower ack.handle)) ∷ (codes "number", count_tree ack.number) ∷ []))
 
+-- a client without its moment
+abbrev pub client_tree : List ℕ × Row → Tree
+client_tree (id, row) =
+    object
+    (members
+    ((codes "id", text id)
+    ∷ (codes "last", count_tree row.last)
+    ∷ (codes "nacked", boolean row.nacked)
+    ∷ (codes "reference", count_tree row.reference)
+    ∷ (codes "scopes", scopes_tree row.scopes)
+    ∷ []))
+
+abbrev pub moment_tree : List ℕ × ℕ → Tree
+moment_tree (id, moment) = object (members ((codes "id", text id) ∷ (codes "moment", count_tree moment) ∷ []))
+
+-- a message with its new minimum
+abbrev pub change_tree : ℕ × ℕ → Tree
+change_tree (number, minimum) = list (trees (count_tree number ∷ count_tree minimum ∷ []))
+
+-- the four values that a summary keeps of a quorum, under the names of their blobs
+abbrev pub base_tree : Quorum → Tree
+base_tree base = object (members (map (λ blob. (blob_word blob, blob_tree base blob)) quorum_blobs))
+
+-- ---- the state
+
+-- version 1 has no moments
+abbrev pub moments_member : Version → State → List Pair
+moments_member One s = []
+moments_member Two s = (codes "heard", list_tree moment_tree s.heard) ∷ []
+
+unfoldable pub state_members : Version → State → List Pair
+state_members version s =
+    (codes "acks", list_tree ack_tree s.scribe.acks)
+    ∷ (codes "base", base_tree s.scribe.base)
+    ∷ (codes "behind", list_tree message_tree s.scribe.behind)
+    ∷ (codes "clients", list_tree client_tree (entries s.sequencer.rows))
+    ∷ (codes "counted", count_tree s.counted)
+    ∷ (codes "entered", count_tree s.entered)
+    ∷ (moments_member version s
+    ++ (codes "minima", list_tree change_tree s.scribe.minima)
+    ∷ (codes "minimum", count_tree s.sequencer.minimum)
+    ∷ (codes "pending", list_tree message_tree s.scribe.pending)
+    ∷ (codes "sequence", count_tree s.sequencer.sequence)
+    ∷ (codes "version", count_tree (version_number version))
+    ∷ [])
+
+abbrev pub state_tree : Version → State → Tree
+state_tree version s = object (members (state_members version s))
+
+-- the text in version 1, which is read and not printed
+abbrev pub first_printed : State → List ℕ
+first_printed s = printed (state_tree One s)
+
+-- the text of a state
 unfoldable pub state_printed : State → List ℕ
-state_printed s = printed (state_tree s)
-
--- ---- read: a value, or the first fault
-
-abbrev pub Read : Type 0 → Type 0
-Read A = Result A CheckpointFault
-
-infixl 1 ◌>>=◌
-abbrev pub ◌>>=◌ : {A B : Type 0} → Read A → (A → Read B) → Read B
-Ok a >>= f = f a
-Err fault >>= f = Err fault
-
--- the value counts where it is an object
-abbrev pub object_of : Tree → Read Tree
-object_of t = as_object t (as_members t)
-  where
-    as_object : Tree → Option json.Members → Read Tree
-    as_object t None = Err BadText
-    as_object t (Some ms) = Ok t
-
-abbrev pub of_value : Result Tree JsonFault → Read Tree
-of_value (Ok t) = object_of t
-of_value (Err fault) = Err BadText
-
--- the object that a text spells
-abbrev pub value_in : List ℕ → Read Tree
-value_in text = of_value (answer_stored text)
-
--- a member that is a whole number
-abbrev pub whole_member : List ℕ → Tree → Option ℤ
-whole_member name t = option_and_then as_whole (find name t)
-
-abbrev pub whole_at : List ℕ → Tree → Read ℤ
-whole_at name t = ok_or (whole_member name t) (BadField name)
-
--- another version than this one is refused, and a negative one is told as 0
-abbrev pub of_version : ℤ → Read (Unit {0})
-of_version (pos n) = if n == this_version then Ok tt else Err (Version n)
-of_version (negsuc n) = Err (Version 0)
-
--- a number from 0 to 2^53 - 1
-abbrev pub within : ℤ → Option ℕ
-within (pos n) = if nat_le n largest then Some n else None
-within (negsuc n) = None
-
--- a member that is such a number
-abbrev pub count_at : List ℕ → Tree → Read ℕ
-count_at name t = do
-  number ← whole_at name t
-  ok_or (within number) (BadField name)
-
--- the version is looked at first, then the other members in byte order of their names
-unfoldable pub state_in : Tree → Read State
-state_in t = do
-  version ← whole_at (codes "version") t
-  known ← of_version version
-  entered ← count_at (codes "entered") t
-  Ok (record { entered = entered })
-
--- the state that a text spells
-abbrev pub text_answer : List ℕ → Read State
-text_answer text = value_in text >>= state_in
-
--- the state that the bytes spell
-unfoldable pub answer : List ℕ → Read State
-answer bytes = if is_utf8 bytes then text_answer bytes else Err BadText
+state_printed s = printed (state_tree Two s)

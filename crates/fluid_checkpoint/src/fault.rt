@@ -1,7 +1,7 @@
 ghost use Rattle.std.specs.Prelude.{◌≡◌, ◌⊎◌};
 
-use fluid_json::Text;
-use std::alloc::Global;
+use fluid_json::{NoMemory, Text};
+use std::alloc::{AllocError, Global};
 
 /// Why the text of a checkpoint is refused. Bad text is looked for first, then the version, then the other members.
 #[derive(Drop)]
@@ -10,7 +10,7 @@ pub enum CheckpointFault {
     BadText,
     /// The first member that is missing or outside its form; `version` is looked at before all others.
     BadField(Text),
-    /// The version is a whole number other than the one that is read here; a negative one is told as 0.
+    /// The version is a whole number other than those that are read here, 1 and 2; a negative one is told as 0.
     Version(u64),
     NoMemory,
 }
@@ -24,5 +24,25 @@ impl CheckpointFault {
             Ok(name) => CheckpointFault::BadField(name),
             Err(_) => CheckpointFault::NoMemory,
         }
+    }
+}
+
+impl From<NoMemory> for CheckpointFault {
+    ghost use Rattle.fluid_checkpoint.specs.declared.fault.CheckpointFault.TheVariants.{NoMemory as Refused};
+
+    ghost from_gives = { λ _ fault. fault ≡ Refused };
+
+    fn from(_refused: NoMemory) -> CheckpointFault {
+        CheckpointFault::NoMemory
+    }
+}
+
+impl From<AllocError> for CheckpointFault {
+    ghost use Rattle.fluid_checkpoint.specs.declared.fault.CheckpointFault.TheVariants.{NoMemory as Refused};
+
+    ghost from_gives = { λ _ fault. fault ≡ Refused };
+
+    fn from(_refused: AllocError) -> CheckpointFault {
+        CheckpointFault::NoMemory
     }
 }

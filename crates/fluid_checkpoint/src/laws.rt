@@ -1,8 +1,9 @@
 //! What holds of the definitions, said by functions that do nothing.
 
-ghost use Rattle.fluid_checkpoint.specs.Laws.{IsReadBack};
+ghost use Rattle.fluid_checkpoint.specs.Laws.{IsReadBack, FirstIsRead};
 
-/// The text of a state is read back as it, and so no two states have one text.
+/// A state in the form is read back from its text as itself, and its text in version 1 as the number of its entries.
 pub fn printed_is_read_back()
-    ensures { IsReadBack }
+    ensures second { IsReadBack }
+    ensures first { FirstIsRead }
 {}

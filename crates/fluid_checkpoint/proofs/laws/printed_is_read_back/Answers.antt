@@ -1,5 +1,5 @@
-use Rattle.fluid_checkpoint.proofs.Back.{read_back}
+use Rattle.fluid_checkpoint.proofs.Back.{read_back, first_read}
 use Rattle.fluid_checkpoint.proofs.laws.printed_is_read_back.Goals as goal
 
 pub returns : goal.returns
-returns c = read_back
+returns c = record { second = read_back; first = first_read }

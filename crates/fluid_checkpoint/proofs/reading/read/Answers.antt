@@ -1,8 +1,8 @@
 use Rattle.std.proofs.Common.{refl, inr}
 use Rattle.std.proofs.lemmas.Str.{is_utf8-from_IsUtf8}
-use Rattle.fluid_checkpoint.specs.Text.{answer}
-use Rattle.fluid_checkpoint.proofs.Back.{no_utf8}
-use Rattle.fluid_checkpoint.proofs.state.read.Goals as goal
+use Rattle.fluid_checkpoint.specs.Reading.{answer}
+use Rattle.fluid_checkpoint.proofs.Utf8.{no_utf8}
+use Rattle.fluid_checkpoint.proofs.reading.read.Goals as goal
 
 pub returns-in-Ok : goal.returns-in-Ok
 unfolding answer
