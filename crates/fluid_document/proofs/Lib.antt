@@ -11,3 +11,11 @@ pub mod Reloading
 mod Progress
 mod Takes
 mod Beginnings
+mod Joined
+mod Moments
+mod Acked
+mod Scribed
+mod Shallow
+mod InForm
+mod InRange
+pub mod Saying

@@ -2,7 +2,7 @@
 use Rattle.std.proofs.Common.{◌≡◌, ℕ, zero, suc, ◌+◌, ◌-◌, ◌^◌, ◌<◌, ◌≤◌, List, [], ◌∷◌, ◌++◌, length, take, drop, get_or, slice_get, Some, refl, sym, ap, subst, ◌∙◌, append_assoc, append-nil, length-append, length-take, arith}
 use Rattle.std.specs.Prelude.{All}
 use Rattle.std.proofs.lemmas.List.{take-append-drop}
-use Rattle.std.proofs.lemmas.List.Elements.{All-append, All-nil, All-cons, All-head, All-tail}
+use Rattle.std.proofs.lemmas.List.Elements.{All-append, All-nil, All-cons, All-head, All-tail, All-weaker}
 use Rattle.std.proofs.Math.Seq.{drop-append_seam}
 use Rattle.std.proofs.lemmas.Option.{none-some, same_Some}
 use Rattle.fluid_types.specs.Forms.{largest}
@@ -14,33 +14,37 @@ use Rattle.fluid_types.specs.Ledger.{Ledger, order, seq, messages_of}
 use Rattle.fluid_types.proofs.Ledgers.{order-append, order-push, seq-le_length}
 use Rattle.fluid_rules.specs.Rules.{verdict, IsLegal, IsLegalBehind}
 use Rattle.fluid_rules.proofs.Legal.{legal-push, legal-first, legal-behind}
+use Rattle.fluid_readback.specs.Laws.{IsReadBack}
 use Rattle.fluid_readback.proofs.Messages.{sequenced_are_read_back}
 use Rattle.fluid_deltas.specs.Pushed.{IsKeepable}
 use Rattle.fluid_document.specs.Entries.{most}
 use Rattle.fluid_document.specs.Kept.{IsLoggable}
 
-messages_kept : (l : Ledger) (entry : Raw × Verdict) → IsLegal l → entry.1 ≡ verdict l entry.0 → IsLoggable entry → length l < most → All IsKeepable (messages_of entry.1)
-messages_kept l (raw, v) legal is is_loggable few = each v is
+messages_back : (l : Ledger) (entry : Raw × Verdict) → IsLegal l → entry.1 ≡ verdict l entry.0 → IsLoggable entry → length l < most → All IsReadBack (messages_of entry.1)
+messages_back l (raw, v) legal is is_loggable few = each v is
   where
-    each : (w : Verdict) → w ≡ verdict l raw → All IsKeepable (messages_of w)
-    each (Sequenced m) same =
-        let back = sequenced_are_read_back l raw m legal (omega (arith, few, seq-le_length l)) is_loggable.fits (sym same) in
-        All-cons IsKeepable m [] (record { short = omega (arith, back.short); read_back = back.read_back }) (All-nil IsKeepable)
-    each (Nacked nack) same = All-nil IsKeepable
-    each Dropped same = All-nil IsKeepable
-    each Absorbed same = All-nil IsKeepable
+    each : (w : Verdict) → w ≡ verdict l raw → All IsReadBack (messages_of w)
+    each (Sequenced m) same = All-cons IsReadBack m [] (sequenced_are_read_back l raw m legal (omega (arith, few, seq-le_length l)) is_loggable.fits (sym same)) (All-nil IsReadBack)
+    each (Nacked nack) same = All-nil IsReadBack
+    each Dropped same = All-nil IsReadBack
+    each Absorbed same = All-nil IsReadBack
 
-keepable_behind : (before l : Ledger) → IsLegal before → IsLegalBehind before l → All IsLoggable l → length before + length l ≤ most → All IsKeepable (order before) → All IsKeepable (order (before ++ l))
-keepable_behind before [] legal behind loggable few keepable = subst (λ m. All IsKeepable (order m)) (sym (append-nil before)) keepable
-keepable_behind before (entry ∷ l) legal behind loggable few keepable =
-    let one = messages_kept before entry legal behind.0 (All-head IsLoggable entry l loggable) (omega (arith, few)) in
-    let grown : All IsKeepable (order (before ++ entry ∷ [])) = subst (All IsKeepable) (sym (order-push before entry)) (All-append IsKeepable (order before) (messages_of entry.1) keepable one) in
-    subst (λ m. All IsKeepable (order m)) (append_assoc before (entry ∷ []) l)
-    (keepable_behind (before ++ entry ∷ []) l (legal-push before entry legal behind.0) behind.1 (All-tail IsLoggable entry l loggable) (omega (arith, few, length-append before (entry ∷ []))) grown)
+read_back_behind : (before l : Ledger) → IsLegal before → IsLegalBehind before l → All IsLoggable l → length before + length l ≤ most → All IsReadBack (order before) → All IsReadBack (order (before ++ l))
+read_back_behind before [] legal behind loggable few back = subst (λ m. All IsReadBack (order m)) (sym (append-nil before)) back
+read_back_behind before (entry ∷ l) legal behind loggable few back =
+    let one = messages_back before entry legal behind.0 (All-head IsLoggable entry l loggable) (omega (arith, few)) in
+    let grown : All IsReadBack (order (before ++ entry ∷ [])) = subst (All IsReadBack) (sym (order-push before entry)) (All-append IsReadBack (order before) (messages_of entry.1) back one) in
+    subst (λ m. All IsReadBack (order m)) (append_assoc before (entry ∷ []) l)
+    (read_back_behind (before ++ entry ∷ []) l (legal-push before entry legal behind.0) behind.1 (All-tail IsLoggable entry l loggable) (omega (arith, few, length-append before (entry ∷ []))) grown)
+
+-- each message of the order is in the grammar and read back from its text
+pub order-read_back : (l : Ledger) → IsLegal l → All IsLoggable l → length l ≤ most → All IsReadBack (order l)
+unfolding order
+order-read_back l legal loggable few = read_back_behind [] l tt legal loggable (omega (arith, few)) (All-nil IsReadBack)
 
 pub order-keepable : (l : Ledger) → IsLegal l → All IsLoggable l → length l ≤ most → All IsKeepable (order l)
-unfolding order
-order-keepable l legal loggable few = keepable_behind [] l tt legal loggable (omega (arith, few)) (All-nil IsKeepable)
+order-keepable l legal loggable few =
+    All-weaker IsReadBack IsKeepable (λ m back. record { short = omega (arith, back.short); read_back = back.read_back }) (order l) (order-read_back l legal loggable few)
 
 -- ---- an entry in its place
 

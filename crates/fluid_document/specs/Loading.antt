@@ -1,5 +1,5 @@
 -- How the entries of a document are read out of what a keeper keeps: a checkpoint, and the log behind it.
-use Rattle.std.specs.Prelude.{◌≡◌, ℕ, ◌+◌, ◌-◌, ◌^◌, ◌<◌, nat_le, ⊤, List, [], ◌∷◌, length, drop, slice_get, codes, Option, Some, None, Result, Ok, Err, if◌then◌else◌}
+use Rattle.std.specs.Prelude.{◌≡◌, ℕ, ◌+◌, ◌-◌, ◌^◌, ◌<◌, nat_le, min, ⊤, List, [], ◌∷◌, length, drop, slice_get, codes, Option, Some, None, Result, Ok, Err, if◌then◌else◌}
 use Rattle.std.specs.Str.{is_utf8}
 use Rattle.fluid_types.specs.Forms.{Read}
 use Rattle.fluid_types.specs.Fits.{longest_record}
@@ -10,8 +10,12 @@ use Rattle.fluid_types.specs.declared.messages.Message.{Message}
 use Rattle.fluid_log.specs.Keeping.{Content, Keeping}
 use Rattle.fluid_log.specs.Calls.{KeepsSame}
 use Rattle.fluid_deltas.specs.Flushes.{with_deltas}
-use Rattle.fluid_checkpoint.specs.Text as checkpoint
+use Rattle.fluid_core.specs.Entering.{sequencer_of}
+use Rattle.fluid_ticket.specs.State.{within_order}
+use Rattle.fluid_checkpoint.specs.Reading as checkpoint
 use Rattle.fluid_checkpoint.specs.declared.state.State.{State as Checkpoint}
+use Rattle.fluid_checkpoint.specs.declared.state.Form.{Form}
+use Rattle.fluid_checkpoint.specs.declared.state.Form.TheVariants.{One, Two}
 use Rattle.fluid_checkpoint.specs.declared.fault.CheckpointFault.{CheckpointFault}
 use Rattle.fluid_checkpoint.specs.declared.fault.CheckpointFault.TheVariants.{BadField}
 use Rattle.fluid_deltas.specs.Ranges.{IsNoted}
@@ -43,20 +47,47 @@ log_folded f (bytes ∷ log) =
 
 -- ---- a checkpoint
 
--- where a checkpoint begins: until it has a state of its own, behind no entries
-abbrev pub begun_by : (number records : ℕ) → Result Checkpoint CheckpointFault → Result Entries LoadFault
-begun_by number records (Ok state) =
-    if nat_le state.entered records then Ok nothing_entered else Err (BadCheckpoint number (BadField (codes "entered")))
-begun_by number records (Err fault) = Err (BadCheckpoint number fault)
+-- what the entries made by the state of a checkpoint: a part outside the order counts for nothing
+unfoldable pub entries_in : Checkpoint → Entries
+entries_in s = record {
+  state = record { sequencer = within_order (sequencer_of s.sequencer); scribe = s.scribe };
+  entered = s.entered;
+  counted = s.counted;
+}
 
-abbrev pub begun_in : (number records : ℕ) → Option (List ℕ) → Result Entries LoadFault
-begun_in number records None = Ok nothing_entered
-begun_in number records (Some text) = begun_by number records (checkpoint.answer text)
+-- one of its members is refused
+abbrev pub bad_member : ℕ → List ℕ → Result Entries LoadFault
+bad_member number name = Err (BadCheckpoint number (BadField name))
+
+-- a state has at most as many messages as entries, and all of them are among the deltas
+abbrev pub begun_from : (number deltas : ℕ) → Checkpoint → Result Entries LoadFault
+begun_from number deltas s =
+    if nat_le s.sequencer.sequence (min s.entered deltas) then Ok (entries_in s) else bad_member number (codes "sequence")
+
+-- one of version 1 has no moments, so all is read anew
+abbrev pub begun_as : (number deltas : ℕ) → Form → Result Entries LoadFault
+begun_as number deltas (Two s) = begun_from number deltas s
+begun_as number deltas (One entered) = Ok nothing_entered
+
+-- how many entries a checkpoint is of
+abbrev pub entered_in : Form → ℕ
+entered_in (Two s) = s.entered
+entered_in (One entered) = entered
+
+-- there have to be as many records
+abbrev pub begun_by : (number records deltas : ℕ) → Result Form CheckpointFault → Result Entries LoadFault
+begun_by number records deltas (Ok form) =
+    if nat_le (entered_in form) records then begun_as number deltas form else bad_member number (codes "entered")
+begun_by number records deltas (Err fault) = Err (BadCheckpoint number fault)
+
+abbrev pub begun_in : (number records deltas : ℕ) → Option (List ℕ) → Result Entries LoadFault
+begun_in number records deltas None = Ok nothing_entered
+begun_in number records deltas (Some text) = begun_by number records deltas (checkpoint.answer text)
 
 -- where a reading begins: at the checkpoint of this number, or behind no entries
 unfoldable pub begun : Content → Option ℕ → Result Entries LoadFault
 begun content None = Ok nothing_entered
-begun content (Some number) = begun_in number (length content.log) (slice_get content.checkpoints number)
+begun content (Some number) = begun_in number (length content.log) (length content.deltas) (slice_get content.checkpoints number)
 
 abbrev pub folded_behind : List (List ℕ) → Result Entries LoadFault → Result Entries LoadFault
 folded_behind log (Ok f) = log_folded f (drop f.entered log)
@@ -122,13 +153,13 @@ DecodesAs content place (Err (BadRecord bad)) = (bad ≡ place) × IsRecord cont
 DecodesAs content place (Err other) = ⊥
 
 -- the checkpoint of this number says so
-pub record IsSaid (content : Content) (number : ℕ) (answer : Result Checkpoint CheckpointFault) : Type 0 where
+pub record IsSaid (content : Content) (number : ℕ) (answer : Result Form CheckpointFault) : Type 0 where
   pub text : List ℕ
   pub kept : slice_get content.checkpoints number ≡ Some text
   pub said : checkpoint.answer text ≡ answer
 
-abbrev pub SaysAs : Content → ℕ → Result Checkpoint LoadFault → Type 0
-SaysAs content number (Ok state) = IsSaid content number (Ok state)
+abbrev pub SaysAs : Content → ℕ → Result Form LoadFault → Type 0
+SaysAs content number (Ok form) = IsSaid content number (Ok form)
 SaysAs content number (Err (LogFailed note)) = ⊤
 SaysAs content number (Err NoMemory) = ⊤
 SaysAs content number (Err (BadCheckpoint bad fault)) = (bad ≡ number) × IsSaid content number (Err fault)

@@ -1,16 +1,20 @@
 -- Records that are taken up one by one, over a keeper into which messages may be put to make room.
-use Rattle.std.specs.Prelude.{◌≡◌, ◌⊎◌, ⊤, false, ℕ, ◌+◌, List, ◌++◌, length, take, drop, Some, Result, Ok, Err}
+use Rattle.std.specs.Prelude.{◌≡◌, ◌⊎◌, ⊤, false, ℕ, ◌+◌, ◌≤◌, List, [], ◌++◌, length, take, drop, All, Some, Result, Ok, Err}
 use Rattle.fluid_io.specs.Causes.{Tells}
 use Rattle.fluid_types.specs.Ledger.{Ledger, order, seq, messages_of}
 use Rattle.fluid_types.specs.declared.entries.Raw.{Raw}
 use Rattle.fluid_types.specs.declared.messages.Message.{Message}
 use Rattle.fluid_log.specs.Keeping.{Content, Keeping}
 use Rattle.fluid_log.specs.Calls.{KeepsSame}
-use Rattle.fluid_deltas.specs.Pushed.{Pushed, pushed, AreDeltasOf, StandIn, StandFor}
+use Rattle.fluid_types.specs.Order.{AreFirst}
+use Rattle.fluid_checkpoint.specs.declared.state.State.{State as Checkpoint}
+use Rattle.fluid_checkpoint.specs.declared.state.Form.{Form}
+use Rattle.fluid_checkpoint.specs.declared.state.Form.TheVariants.{One, Two}
+use Rattle.fluid_deltas.specs.Pushed.{Pushed, pushed, IsKeepable, ArePartOf, AreDeltasOf, StandIn, StandFor}
 use Rattle.fluid_core.specs.Entering.{verdict_in}
-use Rattle.fluid_document.specs.Entries.{Entries, InMemory, entries_of, taken_up}
+use Rattle.fluid_document.specs.Entries.{Entries, InMemory, most, entries_of, taken_up}
 use Rattle.fluid_document.specs.Kept.{IsKept}
-use Rattle.fluid_document.specs.Loading.{IsRecord, DecodesAs}
+use Rattle.fluid_document.specs.Loading.{IsRecord, DecodesAs, entries_in}
 use Rattle.fluid_document.specs.declared.fault.LoadFault.{LoadFault}
 use Rattle.fluid_document.specs.declared.fault.LoadFault.TheVariants.{LogFailed, DeltaFailed, NoMemory}
 use Rattle.fluid_document.specs.declared.fault.EnterFault.{EnterFault}
@@ -49,6 +53,18 @@ pub record IsLeft (place : ℕ) (old new : Keeping) (before now : InMemory) (fau
 abbrev pub TakesNext : (place : ℕ) (old new : Keeping) (before now : InMemory) → Result (Unit {0}) LoadFault → Type 0
 TakesNext place old new before now (Ok done) = IsTaken place old new before now
 TakesNext place old new before now (Err fault) = Tells old.content (λ c. DecodesAs c place (Err fault)) × (KeepsSame old new ⊎ IsLeft place old new before now fault)
+
+-- what is in memory of a state that was read: its messages are all among the deltas
+pub record IsResumed (s : Checkpoint) (m : InMemory) : Type 0 where
+  pub entries : m.entries ≡ entries_in s
+  pub before : m.messages.before ≡ s.sequencer.sequence
+  pub held : m.messages.held ≡ []
+  pub part : (order : List Message) → s.sequencer.sequence ≤ length order → AreFirst order → All IsKeepable order → ArePartOf m.messages order
+
+-- what a text says is in range
+abbrev pub IsInRange : Form → Type 0
+IsInRange (Two s) = (s.entered ≤ most) × (s.counted ≤ most)
+IsInRange (One entered) = ⊤
 
 -- so many entries of a ledger are taken up, for which the keeper is kept
 pub record StandsAt (l : Ledger) (m : InMemory) (place : ℕ) (content : Content) : Type 0 where

@@ -13,12 +13,13 @@ ghost use Rattle.fluid_deltas.specs.Ranges.{IsAnswer, IsHeldAnswer, IsSlice, Are
 ghost use Rattle.fluid_deltas.specs.Flushes.{lacking, PutsAll, Writes, AreAll};
 ghost use Rattle.fluid_deltas.specs.declared.pages.TheConstants.{RESIDENT};
 ghost use Rattle.fluid_document.specs.Entries.{most, counts, nothing_entered, GoOn, Commits, IsLevelled, IsReadyIn, IsReady};
-ghost use Rattle.fluid_document.specs.Kept.{checkpoint_text};
+ghost use Rattle.fluid_document.specs.Kept.{IsPrinted};
+ghost use Rattle.fluid_document.specs.Taking.{IsResumed};
 ghost use Rattle.fluid_document.specs.Rooms.{for_room};
 
-use fluid_checkpoint::State;
+use fluid_checkpoint::{Moments, State};
 use fluid_clients::Clients;
-use fluid_core::{Core, CoreReady};
+use fluid_core::{Core, CoreParts, CoreReady};
 use fluid_deltas::{DeltaFault, Deltas};
 use fluid_json::{Bytes, NoMemory};
 use fluid_log::Keeper;
@@ -72,6 +73,30 @@ impl Document {
             messages: Deltas::new(alloc),
             entered: 0,
             counted: 0,
+        }
+    }
+
+    // What the state of a checkpoint keeps, whose messages are a keeper's first deltas.
+    pub(crate) fn resumed(alloc: Global, state: State) -> Document
+        requires few { state.entered ≤ most }
+        requires counted { state.counted ≤ most }
+        requires sequenced { state.sequencer.sequence ≤ state.entered }
+        ensures { IsResumed state result }
+    {
+        let State {
+            entered,
+            counted,
+            sequencer,
+            scribe,
+            heard: _heard,
+        } = state;
+        let mut messages = Deltas::new(alloc);
+        messages.resume(sequencer.sequence);
+        Document {
+            core: Core::of_parts(sequencer, scribe),
+            messages,
+            entered,
+            counted,
         }
     }
 
@@ -145,12 +170,17 @@ impl Document {
     }
 
     /// The text of a checkpoint of what the entries made.
-    #[tactic(auto, unfolding(crate::specs::Kept::checkpoint_text))]
     pub fn print(&self, alloc: Global) -> Result<Bytes, NoMemory>
-        ensures { IfOk result (λ text. text ≡ checkpoint_text self.now.entries) }
+        ensures { IfOk result (IsPrinted self.now.entries) }
     {
+        let CoreParts { sequencer, scribe } = self.core.parts(alloc)?;
+        let heard = Moments::of(alloc, &sequencer.clients)?;
         let state = State {
             entered: self.entered,
+            counted: self.counted,
+            sequencer,
+            scribe,
+            heard,
         };
         fluid_checkpoint::print(alloc, &state)
     }

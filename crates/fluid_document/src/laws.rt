@@ -1,6 +1,8 @@
 //! What a kept content comes back as.
 ghost use Rattle.fluid_document.specs.Laws.{RecordsAreFolded, KeptIsLoaded, CheckpointIsLoaded};
 
+use fluid_readback::blobs_of_messages_are_read_back;
+
 /// The records of a legal ledger behind another one are folded to both together: none is refused.
 pub fn records_are_folded()
     ensures { RecordsAreFolded }
@@ -11,4 +13,6 @@ pub fn records_are_folded()
 pub fn kept_is_loaded()
     ensures first { KeptIsLoaded }
     ensures checkpoints { CheckpointIsLoaded }
-{}
+{
+    blobs_of_messages_are_read_back();
+}

@@ -6,24 +6,24 @@ ghost use Rattle.fluid_types.specs.Fits.{Fits, longest_record};
 ghost use Rattle.fluid_types.specs.Printed.{raw_printed};
 ghost use Rattle.fluid_types.specs.Records.{raw_spelled};
 ghost use Rattle.fluid_log.specs.Calls.{KeepsSame, reads_after};
-ghost use Rattle.fluid_checkpoint.specs.Text.{answer as checkpoint_said};
 ghost use Rattle.fluid_deltas.specs.Ranges.{IsNoted};
 ghost use Rattle.fluid_types.specs.Ledger.{Ledger, messages_of};
 ghost use Rattle.fluid_core.specs.Entering.{verdict_in};
 ghost use Rattle.fluid_document.specs.Entries.{most, nothing_entered, taken_up};
-ghost use Rattle.fluid_document.specs.Loading.{record_in, fitting, log_folded, begun, loaded, SaysAs, IsLoadFault, IsLoaded, HasRead, ReadsBehind, PutsDeltas, DecodesAs};
+ghost use Rattle.fluid_document.specs.Loading.{record_in, fitting, log_folded, entered_in, begun_from, begun, loaded, SaysAs, IsLoadFault, IsLoaded, HasRead, ReadsBehind, PutsDeltas, DecodesAs};
 ghost use Rattle.fluid_document.specs.Kept.{IsKept};
-ghost use Rattle.fluid_document.specs.Taking.{TakesNext, StandOn, StandsAt, ReadsKept, IsOutside, unread};
+ghost use Rattle.fluid_document.specs.Taking.{TakesNext, StandOn, StandsAt, ReadsKept, IsOutside, IsResumed, IsInRange, unread};
 ghost use Rattle.fluid_deltas.specs.Pushed.{pushed};
 
 use crate::fault::{EnterFault, LoadFault};
 use crate::document::Document;
 use crate::entry::make_room;
-use fluid_checkpoint::{CheckpointFault, State};
+use fluid_checkpoint::{CheckpointFault, Form, State};
 use fluid_codec::{print_raw, read_raw};
 use fluid_io::FaultNote;
 use fluid_json::{LARGEST, NoMemory, Text};
 use fluid_log::{Keeper, KeeperFault};
+use fluid_readback::blobs_of_messages_are_read_back;
 use fluid_types::{CodecFault, Raw};
 use std::alloc::Global;
 use std::str;
@@ -207,18 +207,19 @@ fn read_checkpoint<K: Keeper>(
     alloc: Global,
     keeper: &mut K,
     number: u64,
-) -> Result<State, LoadFault>
+) -> Result<Form, LoadFault>
     requires { number < (K.seen keeper.old).checkpoints }
     ensures later { (K.seen keeper.old).faults ≤ (K.seen keeper.new).faults }
     ensures cause { IfErr result (IsLoadFault (K.seen keeper.old).records (K.seen keeper.old).faults (K.seen keeper.new).faults) }
     ensures same { KeepsSame (K.seen keeper.old) (K.seen keeper.new) }
     ensures reads { (K.seen keeper.new).reads ≡ (K.seen keeper.old).reads }
     ensures said { Tells (K.seen keeper.old).content (λ content. SaysAs content number result) }
+    ensures in_range { IfOk result IsInRange }
 {
     let before = keeper.faults();
     match keeper.checkpoint(alloc, number) {
         Ok(bytes) => match fluid_checkpoint::read(alloc, bytes.as_slice()) {
-            Ok(state) => Ok(state),
+            Ok(form) => Ok(form),
             Err(CheckpointFault::NoMemory) => Err(LoadFault::NoMemory),
             Err(fault) => Err(LoadFault::BadCheckpoint(number, fault)),
         },
@@ -240,11 +241,45 @@ fn begin_at<K: Keeper>(alloc: Global, keeper: &mut K, number: u64) -> Result<Doc
     ensures kept { (l : Ledger) → Tells (K.seen keeper.old).content (IsKept false l) →
         IfOk result (λ d. Tells (K.seen keeper.old).content (StandsAt l d d.entries.entered)) }
 {
-    let state = read_checkpoint(alloc, keeper, number)?;
-    if state.entered > keeper.len() {
+    let form = read_checkpoint(alloc, keeper, number)?;
+    let (records, deltas) = (keeper.len(), keeper.deltas());
+    if entered_in(&form) > records {
         return Err(bad_field(alloc, number, "entered"));
     }
-    Ok(Document::new(alloc))
+    blobs_of_messages_are_read_back();
+    match form {
+        Form::Two(state) => begin_with(alloc, state, deltas, number),
+        Form::One(_) => Ok(Document::new(alloc)),
+    }
+}
+
+// Where a reading from this state begins, over so many deltas.
+fn begin_with(
+    alloc: Global,
+    state: State,
+    deltas: u64,
+    number: u64,
+) -> Result<Document, LoadFault>
+    requires { IsInRange (Form.Two state) }
+    ensures refused { IfErr result (λ fault. (fault ≡ LoadFault.NoMemory) ⊎ (fault ≡ LoadFault.BadCheckpoint number (CheckpointFault.BadField (codes "sequence")))) }
+    ensures begun { IsLoaded (λ d. d.entries) result (begun_from number deltas state) }
+    ensures resumed { IfOk result (IsResumed state) }
+    ensures reached { IfOk result (λ d. d.messages.before ≤ deltas) }
+{
+    if state.sequencer.sequence > state.entered.min(deltas) {
+        return Err(bad_field(alloc, number, "sequence"));
+    }
+    Ok(Document::resumed(alloc, state))
+}
+
+// How many entries a checkpoint is of.
+fn entered_in(form: &Form) -> u64
+    ensures { result ≡ entered_in form.now }
+{
+    match form {
+        Form::Two(state) => state.entered,
+        Form::One(entered) => *entered,
+    }
 }
 
 /// The fault of a checkpoint whose member of this name is refused; want of memory where there is none for the name.

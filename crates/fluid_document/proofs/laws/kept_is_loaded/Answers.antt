@@ -5,4 +5,4 @@ pub returns-clause-first : goal.returns-clause-first
 returns-clause-first c = loaded-first
 
 pub returns-clause-checkpoints : goal.returns-clause-checkpoints
-returns-clause-checkpoints c = loaded-any
+returns-clause-checkpoints c = loaded-any c.blobs_of_messages_are_read_back.ensures
