@@ -1,5 +1,5 @@
 -- The state of a ledger, and what one entry more makes of it.
-use Rattle.std.proofs.Common.{◌≡◌, ℕ, ◌+◌, ◌-◌, ◌^◌, ◌<◌, ◌≤◌, List, [], ◌∷◌, ◌++◌, length, fold, Option, Some, None, refl, sym, ap, ap₂, ◌∙◌, append-nil, arith, All}
+use Rattle.std.proofs.Common.{◌≡◌, ℕ, ◌+◌, ◌-◌, ◌^◌, ◌<◌, ◌≤◌, [], ◌∷◌, ◌++◌, length, Option, Some, None, refl, sym, ap, ◌∙◌, arith, All}
 use Rattle.fluid_types.specs.declared.entries.Raw.{Raw}
 use Rattle.fluid_types.specs.declared.entries.Raw.TheVariants.{Join, Leave, Submit, Report}
 use Rattle.fluid_types.specs.declared.messages.Message.{Message}
@@ -10,10 +10,9 @@ use Rattle.fluid_types.proofs.Numbers.{numbered_most}
 use Rattle.fluid_quorum.specs.declared.state.ScribeState.{ScribeState}
 use Rattle.fluid_rules.specs.Rules as rules
 use Rattle.fluid_rules.specs.Rules.{IsLegal}
-use Rattle.fluid_rules.specs.Scribe.{answer, acks}
+use Rattle.fluid_rules.specs.Scribe.{acks}
 use Rattle.fluid_rules.proofs.Legal.{legal-push}
 use Rattle.fluid_scribe.specs.State as scribe
-use Rattle.fluid_scribe.specs.Jobs.{answer_in}
 use Rattle.fluid_scribe.specs.Scribing as scribing
 use Rattle.fluid_scribe.specs.declared.ready.ScribeReady.{ScribeReady}
 use Rattle.fluid_scribe.proofs.Sequenced.{legal-sequenced, sequenced-numbered}
@@ -24,7 +23,7 @@ use Rattle.fluid_ticket.specs.Ledger as ledger
 use Rattle.fluid_ticket.proofs.Ledgers as tickets
 use Rattle.fluid_ticket.proofs.Heard.{heard_on_order}
 use Rattle.fluid_ticket.proofs.Commits.{stands_after}
-use Rattle.fluid_core.specs.Entering.{State, start, asked, answer_for, verdict_in, after, state_of, StandsFor, Prepared, note_for, prepared, Entering, HasRoom, IsPreparedIn, CanTake, Takes}
+use Rattle.fluid_core.specs.Entering.{State, start, answer_for, verdict_in, after, state_of, StandsFor, Prepared, note_for, prepared, Entering, HasRoom, IsPreparedIn, CanTake, Takes}
 use Rattle.fluid_core.specs.Laws.{VerdictByRules, StateGrows}
 
 -- ---- the state of a ledger

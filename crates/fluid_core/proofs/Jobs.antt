@@ -1,17 +1,15 @@
 -- The job of a core is on one of its messages.
-use Rattle.std.proofs.Common.{◌≡◌, ℕ, suc, ◌+◌, ◌≤◌, nat_le, Bool, true, false, ◌&&◌, if◌then◌else◌, List, [], ◌∷◌, ◌++◌, length, Option, Some, None, option_map, slice_get, refl, sym, ap, ◌∙◌, arith, All}
+use Rattle.std.proofs.Common.{◌≡◌, ℕ, suc, ◌≤◌, Bool, true, false, if◌then◌else◌, List, [], ◌∷◌, ◌++◌, length, Option, Some, None, option_map, slice_get, refl, ap, ◌∙◌, arith, All}
 use Rattle.std.specs.Prelude.{IfSome}
 use Rattle.std.proofs.lemmas.Bool.{le-leb}
 use Rattle.fluid_types.specs.declared.messages.Message.{Message}
 use Rattle.fluid_types.specs.Ledger.{Ledger, order, seq}
 use Rattle.fluid_types.proofs.Numbers.{numbered_least, numbered_most}
-use Rattle.fluid_rules.specs.Rules.{IsLegal}
 use Rattle.fluid_rules.specs.Scribe.{unanswered, pending}
 use Rattle.fluid_scribe.specs.Jobs.{job_of as job_for, job_in, job}
-use Rattle.fluid_scribe.specs.declared.job.Job.{Job}
 use Rattle.fluid_scribe.proofs.Sequenced.{legal-sequenced, sequenced-numbered}
 use Rattle.fluid_scribe.proofs.ByRules.{job-by_rules}
-use Rattle.fluid_core.specs.Entering.{State, on_order, job_of, StandsFor, IsUpTo}
+use Rattle.fluid_core.specs.Entering.{State, on_order, job_of, StandsFor}
 use Rattle.fluid_core.proofs.Entered.{stands-scribe, stands-sequencer}
 use Rattle.fluid_ticket.proofs.Ledgers.{number_of}
 

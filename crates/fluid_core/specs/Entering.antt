@@ -1,13 +1,13 @@
 -- Sequencer and scribe together: what they keep of the entries so far, the verdict of the next one, and what it makes of it.
-use Rattle.std.specs.Prelude.{◌≡◌, ℕ, ◌-◌, ◌^◌, ◌<◌, ◌≤◌, nat_le, ◌&&◌, if◌then◌else◌, List, [], ◌∷◌, ◌++◌, fold, Option, Some, None, refl}
+use Rattle.std.specs.Prelude.{◌≡◌, ℕ, ◌-◌, ◌^◌, ◌<◌, ◌≤◌, nat_le, ◌&&◌, if◌then◌else◌, Bool, [], filter, fold, Option, Some, None, refl}
 use Rattle.std.specs.Coded.{Coded, code_by, coded×, coded_option}
 use Rattle.fluid_types.specs.declared.entries.Raw.{Raw}
 use Rattle.fluid_types.specs.declared.entries.Raw.TheVariants.{Join, Leave, Submit, Report}
-use Rattle.fluid_types.specs.declared.messages.Message.{Message}
 use Rattle.fluid_types.specs.declared.verdicts.Verdict.{Verdict}
 use Rattle.fluid_types.specs.declared.verdicts.Verdict.TheVariants.{Sequenced, Nacked, Dropped, Absorbed}
 use Rattle.fluid_types.specs.contracts.verdicts.Verdict as verdicts
 use Rattle.fluid_types.specs.Ledger.{Ledger, order, messages_of}
+use Rattle.fluid_types.specs.Quorum.{quorum_of}
 use Rattle.fluid_clients.specs.Table.{Parts}
 use Rattle.fluid_quorum.specs.declared.state.ScribeState.{ScribeState}
 use Rattle.fluid_rules.specs.Rules.{IsLegal}
@@ -74,14 +74,35 @@ pub record StandsFor (s : State) (l : Ledger) : Type 0 where
 abbrev pub IsUpTo : (last number : ℕ) → Type 0
 IsUpTo last number = (1 ≤ number) × (number ≤ last)
 
+abbrev pub is_up_to : (last number : ℕ) → Bool
+is_up_to last number = nat_le 1 number && nat_le number last
+
 -- a job on a number that no message has counts for nothing
 abbrev pub on_order : (last : ℕ) → Option Job → Option Job
 on_order last None = None
-on_order last (Some job) = if nat_le 1 job.summary && nat_le job.summary last then Some job else None
+on_order last (Some job) = if is_up_to last job.summary then Some job else None
 
 -- what is to be done about the pending summarize
 unfoldable pub job_of : State → Option Job
 job_of s = on_order s.sequencer.sequence (job_in s.scribe)
+
+-- ---- parts that may come from anywhere
+
+-- what of a scribe's part lies within an order of so many messages
+unfoldable pub scribe_within : ℕ → ScribeState → ScribeState
+scribe_within last s = record {
+  base = if nat_le s.base.number last then s.base else quorum_of [];
+  behind = filter (λ m. is_up_to last m.number) s.behind;
+  minima = filter (λ change. is_up_to last change.0) s.minima;
+  pending = filter (λ m. is_up_to last m.number) s.pending;
+  acks = filter (λ ack. nat_le ack.number last) s.acks;
+}
+
+-- what of a state lies within its order
+abbrev pub within : State → State
+within s =
+    let sequencer = ticket.within_order s.sequencer in
+    record { sequencer = sequencer; scribe = scribe_within sequencer.sequence s.scribe }
 
 -- ---- an entry that is prepared
 

@@ -1,5 +1,5 @@
-use Rattle.std.proofs.Common.{◌≡◌, ◌∙◌, ap, rules}
-use Rattle.fluid_core.specs.Entering.{on_order, job_of}
+use Rattle.std.proofs.Common.{◌∙◌, rules}
+use Rattle.fluid_core.specs.Entering.{job_of}
 use Rattle.fluid_core.proofs.Jobs.{stands-job}
 use Rattle.fluid_core.proofs.entering.Core.job.Goals as goal
 

@@ -1,7 +1,7 @@
-use Rattle.std.proofs.Common.{◌≡◌, ap, ◌∙◌}
+use Rattle.std.proofs.Common.{ap, ◌∙◌}
 use Rattle.fluid_quorum.specs.declared.state.ScribeState.{ScribeState}
 use Rattle.fluid_ticket.specs.State as ticket
-use Rattle.fluid_core.specs.Entering.{State, note_for, prepared}
+use Rattle.fluid_core.specs.Entering.{State, note_for}
 use Rattle.fluid_core.proofs.Entered.{same_state, prepared-is, ready_in, has_room, ready-verdict}
 use Rattle.fluid_core.proofs.entering.Core.prepare.Goals as goal
 

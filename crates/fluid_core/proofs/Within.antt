@@ -1,0 +1,174 @@
+-- What is kept of a legal ledger lies within its order.
+use Rattle.std.proofs.Common.{◌≡◌, ℕ, suc, ◌+◌, ◌-◌, ◌^◌, ◌≤◌, ◌==◌, arith, nat_le, Bool, true, false, not, ◌&&◌, cond, List, [], ◌∷◌, ◌++◌, length, map, take, drop, filter, Option, Some, None, refl, ap, ◌∙◌, All}
+use Rattle.std.specs.Prelude.{find, option_to_list, unwrap_or, IfSome}
+use Rattle.std.specs.List.{last_or, list_any}
+use Rattle.std.proofs.lemmas.Bool.{le-leb}
+use Rattle.std.proofs.lemmas.List.Elements.{All-take, All-drop}
+use Rattle.fluid_tree.specs.declared.id.SummaryRef.{SummaryRef}
+use Rattle.fluid_types.specs.declared.messages.Message.{Message}
+use Rattle.fluid_types.specs.Ledger.{Ledger, order, seq}
+use Rattle.fluid_types.specs.Quorum.{quorum_of, quorum}
+use Rattle.fluid_types.proofs.Numbers.{numbered_least, numbered_most}
+use Rattle.fluid_quorum.specs.declared.state.ScribeState.{ScribeState}
+use Rattle.fluid_rules.specs.Rules.{IsLegal}
+use Rattle.fluid_rules.specs.Scribe.{is_summarize, is_ack, handling, answered_by, answers, unanswered, reference_of, acknowledged, ack_of, acks_behind, acks}
+use Rattle.fluid_scribe.specs.State as scribe
+use Rattle.fluid_scribe.specs.State.{Minima, is_heard, heard, changes, base_of, state_at}
+use Rattle.fluid_scribe.proofs.Sequenced.{AreSequenced, legal-sequenced, sequenced-numbered}
+use Rattle.fluid_ticket.specs.State as ticket
+use Rattle.fluid_ticket.specs.Ledger as ledger
+use Rattle.fluid_ticket.proofs.Ledgers.{number_of}
+use Rattle.fluid_core.specs.Entering.{is_up_to, scribe_within, state_of, StandsFor}
+use Rattle.fluid_core.proofs.Entered.{same_state, stands-sequencer, stands-scribe}
+
+-- ---- what holds of each element
+
+abbrev Each : {X : Type 0} → (X → Type 0) → List X → Type 0
+Each P [] = Unit {0}
+Each P (x ∷ xs) = P x × Each P xs
+
+each_of : {X : Type 0} (P : X → Type 0) (xs : List X) → All P xs → Each P xs
+each_of P [] all = tt
+each_of P (x ∷ xs) all = (all 0 x (omega arith), each_of P xs (λ k d lt. all (suc k) d (omega (arith, lt))))
+
+each_append : {X : Type 0} (P : X → Type 0) (xs ys : List X) → Each P xs → Each P ys → Each P (xs ++ ys)
+each_append P [] ys h g = g
+each_append P (x ∷ xs) ys h g = (h.0, each_append P xs ys h.1 g)
+
+each_filter : {X : Type 0} (P : X → Type 0) (p : X → Bool) (xs : List X) → Each P xs → Each P (filter p xs)
+each_filter P p [] h = tt
+each_filter P p (x ∷ xs) h = kept (p x) (each_filter P p xs h.1)
+  where
+    kept : (b : Bool) → Each P (filter p xs) → Each P (cond b (x ∷ filter p xs) (filter p xs))
+    kept true rest = (h.0, rest)
+    kept false rest = rest
+
+-- where all pass a test, none is taken away
+passes : {X : Type 0} (P : X → Type 0) (p : X → Bool) (xs : List X) → ((x : X) → P x → p x ≡ true) → Each P xs → filter p xs ≡ xs
+passes P p [] pass h = refl
+passes P p (x ∷ xs) pass h = rw (pass x h.0) (ap (λ rest. x ∷ rest) (passes P p xs pass h.1))
+
+-- ---- numbers
+
+abbrev IsWithin : ℕ → ℕ → Type 0
+IsWithin last n = (1 ≤ n) × (n ≤ last)
+
+within_true : (last n : ℕ) → IsWithin last n → is_up_to last n ≡ true
+within_true last n h = rw (le-leb 1 n h.0, le-leb n last h.1) refl
+
+last_up_to : (last : ℕ) (o : Option ℕ) (ms : List Message) → unwrap_or o 0 ≤ last → Each (λ m. m.number ≤ last) ms → unwrap_or (last_or o (map (λ m. m.number) ms)) 0 ≤ last
+last_up_to last o [] le h = le
+last_up_to last o (m ∷ ms) le h = last_up_to last (Some m.number) ms h.0 h.1
+
+-- the base is one of the messages
+base_up_to : (last base : ℕ) (ms : List Message) → All (λ m. m.number ≤ last) ms → (quorum ms base).number ≤ last
+unfolding quorum_of
+base_up_to last base ms all = last_up_to last None (take base ms) (omega arith) (each_of (λ m. m.number ≤ last) (take base ms) (All-take (λ m. m.number ≤ last) base ms all))
+
+-- the changes of the minimum are those of messages
+each_change : (P : ℕ → Type 0) (minimum : ℕ) (ms : List Message) → Each (λ m. P m.number) ms → Each (λ (change : ℕ × ℕ). P change.0) (changes minimum ms)
+each_change P minimum [] h = tt
+each_change P minimum (m ∷ ms) h = changed (m.minimum == minimum) (each_change P m.minimum ms h.1)
+  where
+    changed : (same : Bool) → Each (λ (change : ℕ × ℕ). P change.0) (changes m.minimum ms) → Each (λ (change : ℕ × ℕ). P change.0) (cond same [] ((m.number, m.minimum) ∷ []) ++ changes m.minimum ms)
+    changed true rest = rest
+    changed false rest = (h.0, rest)
+
+-- those that wait are summarize messages
+each_waits : (P : Message → Type 0) (ms : List Message) → Each (λ m. is_summarize m.kind ≡ true → P m) ms → Each P (unanswered ms)
+unfolding unanswered
+each_waits P [] h = tt
+each_waits P (m ∷ ms) h = one (is_summarize m.kind) (not (list_any (answers m.number) ms)) refl (each_waits P ms h.1)
+  where
+    one : (summarize waits : Bool) → is_summarize m.kind ≡ summarize → Each P (unanswered ms) → Each P (cond (summarize && waits) (m ∷ []) [] ++ unanswered ms)
+    one true true is rest = (h.0 is, rest)
+    one true false is rest = rest
+    one false waits is rest = rest
+
+-- ---- acknowledgements
+
+abbrev RefersUpTo : ℕ → Message → Type 0
+RefersUpTo last m = is_summarize m.kind ≡ true → reference_of m ≤ last
+
+abbrev AcksUpTo : ℕ → List SummaryRef → Type 0
+AcksUpTo last acks = Each (λ (ack : SummaryRef). ack.number ≤ last) acks
+
+found_each : {X : Type 0} (P : X → Type 0) (p : X → Bool) (xs : List X) → Each P xs → IfSome (find p xs) P
+found_each P p [] h = tt
+found_each P p (x ∷ xs) h = one (p x) (found_each P p xs h.1)
+  where
+    one : (b : Bool) → IfSome (find p xs) P → IfSome (cond b (Some x) (find p xs)) P
+    one true rest = h.0
+    one false rest = rest
+
+of_found : (last : ℕ) (before : List Message) (m : Message) (handle : List ℕ) (number : ℕ) (o : Option Message) → handling m.contents ≡ Some handle → answered_by m ≡ Some number →
+    find (λ s. s.number == number) (unanswered before) ≡ o → IfSome o (λ s. reference_of s ≤ last) → AcksUpTo last (option_to_list (acknowledged before m))
+of_found last before m handle number None h_is n_is is h = rw (h_is, n_is, is) tt
+of_found last before m handle number (Some s) h_is n_is is h = rw (h_is, n_is, is) (h, tt)
+
+of_named : (last : ℕ) (before : List Message) (m : Message) (h : Option (List ℕ)) (n : Option ℕ) → handling m.contents ≡ h → answered_by m ≡ n →
+    Each (λ s. reference_of s ≤ last) (unanswered before) → AcksUpTo last (option_to_list (acknowledged before m))
+of_named last before m None n h_is n_is all = rw h_is tt
+of_named last before m (Some handle) None h_is n_is all = rw (h_is, n_is) tt
+of_named last before m (Some handle) (Some number) h_is n_is all =
+    of_found last before m handle number (find (λ s. s.number == number) (unanswered before)) h_is n_is refl (found_each _ (λ s. s.number == number) (unanswered before) all)
+
+of_ack : (last : ℕ) (before : List Message) (m : Message) → Each (RefersUpTo last) before → AcksUpTo last (option_to_list (ack_of before m))
+unfolding ack_of
+of_ack last before m refer = by_kind (is_ack m.kind)
+  where
+    by_kind : (b : Bool) → AcksUpTo last (option_to_list (cond b (acknowledged before m) None))
+    by_kind true = of_named last before m (handling m.contents) (answered_by m) refl refl (each_waits (λ s. reference_of s ≤ last) before refer)
+    by_kind false = tt
+
+each_ack : (last : ℕ) (before ms : List Message) → Each (RefersUpTo last) before → Each (RefersUpTo last) ms → AcksUpTo last (acks_behind before ms)
+unfolding acks_behind
+each_ack last before [] earlier later = tt
+each_ack last before (m ∷ ms) earlier later =
+    each_append _ (option_to_list (ack_of before m)) (acks_behind (before ++ m ∷ []) ms) (of_ack last before m earlier)
+    (each_ack last (before ++ m ∷ []) ms (each_append _ before (m ∷ []) earlier (later.0, tt)) later.1)
+
+refer_up_to : (last n low : ℕ) (ms : List Message) → AreSequenced n low ms → n + length ms ≤ last → Each (RefersUpTo last) ms
+refer_up_to last n low [] are le = tt
+refer_up_to last n low (m ∷ ms) are le =
+    ((λ summarize. omega (arith, are.0.within summarize, le)), refer_up_to last (suc n) m.minimum ms are.1 (omega (arith, le)))
+
+-- ---- the state of a legal ledger's order
+
+pub same_parts : (s t : ScribeState) → s.base ≡ t.base → s.behind ≡ t.behind → s.minima ≡ t.minima → s.pending ≡ t.pending → s.acks ≡ t.acks → s ≡ t
+same_parts s t base behind minima pending acks = λ i. record { base = base i; behind = behind i; minima = minima i; pending = pending i; acks = acks i }
+
+at_base : (last base : ℕ) (ms : List Message) → AreSequenced 0 0 ms → length ms ≡ last → scribe_within last (state_at base ms) ≡ state_at base ms
+unfolding scribe_within state_at acks
+at_base last base ms are is =
+    let numbered = sequenced-numbered ms 0 0 are in
+    let low = numbered_least ms 1 numbered in
+    let high = numbered_most ms 1 last numbered (omega (arith, is)) in
+    let all : All (λ (m : Message). IsWithin last m.number) ms = λ i d lt. (low i d lt, high i d lt) in
+    let on : Message → Type 0 = λ m. IsWithin last m.number in
+    let left = each_of on (drop base ms) (All-drop on base ms all) in
+    let waits = each_waits on ms (each_of (λ m. is_summarize m.kind ≡ true → on m) ms (λ i d lt summarize. all i d lt)) in
+    same_parts _ _
+    (rw (le-leb (quorum ms base).number last (base_up_to last base ms high)) refl)
+    (passes on (λ m. is_up_to last m.number) (heard (drop base ms)) (λ m. within_true last m.number) (each_filter on (λ m. is_heard m.kind) (drop base ms) left))
+    (passes (λ (change : ℕ × ℕ). IsWithin last change.0) (λ change. is_up_to last change.0) (changes (quorum ms base).minimum (drop base ms)) (λ change. within_true last change.0) (each_change (IsWithin last) (quorum ms base).minimum (drop base ms) left))
+    (passes on (λ m. is_up_to last m.number) (unanswered ms) (λ m. within_true last m.number) waits)
+    (passes (λ (ack : SummaryRef). ack.number ≤ last) (λ ack. nat_le ack.number last) (acks_behind [] ms) (λ ack. le-leb ack.number last) (each_ack last [] ms tt (refer_up_to last 0 0 ms are (omega (arith, is)))))
+
+pub kept_within : (l : Ledger) → IsLegal l → scribe_within (seq l) (scribe.state_of (order l)) ≡ scribe.state_of (order l)
+unfolding scribe.state_of seq
+kept_within l legal = at_base (length (order l)) (base_of (order l)) (order l) (legal-sequenced l legal) refl
+
+-- a core of what lies within the order stands for the ledger for which the parts stand
+pub stands_within : (sequencer : ticket.State) (s : ScribeState) (t : ticket.State) (u : ScribeState) (l : Ledger) → seq l ≤ 2 ^ 53 - 1 → StandsFor (record { sequencer = sequencer; scribe = s }) l →
+    (IsLegal l → sequencer.sequence ≤ 2 ^ 53 - 1 → ledger.StandsFor sequencer l → ledger.StandsFor t l) → u ≡ scribe_within t.sequence s → StandsFor (record { sequencer = t; scribe = u }) l
+unfolding state_of
+stands_within sequencer s t u l few stands kept is =
+    let first = stands-sequencer (record { sequencer = sequencer; scribe = s }) l stands in
+    let here = kept stands.legal (omega (arith, few, number_of sequencer l first)) first in
+    let number : t.sequence ≡ seq l = number_of t l here in
+    let scribe_is : s ≡ scribe.state_of (order l) = stands-scribe (record { sequencer = sequencer; scribe = s }) l stands in
+    record {
+      legal = stands.legal;
+      is = same_state _ _ here.is (is ∙ ap (λ n. scribe_within n s) number ∙ ap (scribe_within (seq l)) scribe_is ∙ kept_within l stands.legal);
+    }
