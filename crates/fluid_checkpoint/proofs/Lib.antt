@@ -4,3 +4,4 @@ mod Entered
 mod Joined
 mod Utf8
 mod Whole
+pub mod Ranges

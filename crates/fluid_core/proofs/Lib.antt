@@ -1,3 +1,3 @@
 pub mod Entered
-mod Jobs
-mod Within
+pub mod Jobs
+pub mod Within

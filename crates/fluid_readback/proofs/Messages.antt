@@ -41,7 +41,7 @@ use Rattle.fluid_rules.proofs.Settled.{message-minimum}
 use Rattle.fluid_rules.proofs.Verdicts.{verdict-is_message}
 use Rattle.fluid_codec.specs.Laws.{IsNested, IsReference, IsSubmission, IsReport, IsMessage}
 use Rattle.fluid_codec.proofs.ReadBack.{messages_are_read_back}
-use Rattle.fluid_readback.specs.Laws.{IsReadBack, IsMessageOf, MessagesAreReadBack, SequencedAreReadBack}
+use Rattle.fluid_readback.specs.Laws.{IsReadBack, HasHandle, IsMessageOf, MessagesAreReadBack, SequencedAreReadBack}
 use Rattle.fluid_readback.proofs.Entries.{object_bytes, rows_bytes, rows_short, quoted_short, name_short, count_short, reference_short}
 use Rattle.fluid_readback.proofs.Fitting.{fits_in_grammar}
 
@@ -211,12 +211,6 @@ submission_read_back id s moment number least fits n m =
 
 -- ---- answers to reports
 
--- a handle of 20 bytes, where there is one
-abbrev HasHandle : Answer → Type 0
-HasHandle Dropped = Unit {0}
-HasHandle (Ack handle) = length handle ≡ 20
-HasHandle (Refused rule) = Unit {0}
-
 chain_handle : (stale old missing : Bool) (app : List ℕ) (texts : List (List ℕ × List ℕ))
     → HasHandle (first_case ((stale, Refused StaleHead) ∷ (old, Refused OldReference) ∷ (missing, Refused Missing) ∷ []) (Ack (version app texts)))
 chain_handle true old missing app texts = tt
@@ -318,29 +312,30 @@ report_read_back summary moment number least (Refused rule) bare is size n m sai
 
 -- ---- the message of an entry
 
-bare_read_back : (raw : Raw) (number least : ℕ) (messages : List Message) (bare : Message) → Fits raw → number ≤ largest → least ≤ largest
-    → unsettled number (answer messages) raw ≡ Some bare → IsReadBack (with_minimum least bare)
+bare_read_back : (raw : Raw) (number least : ℕ) (answers : ℕ → Bool → Answer) (bare : Message) → ((summary : ℕ) (found : Bool) → HasHandle (answers summary found)) → Fits raw → number ≤ largest → least ≤ largest
+    → unsettled number answers raw ≡ Some bare → IsReadBack (with_minimum least bare)
 unfolding unsettled
-bare_read_back (Join id scopes detail moment) number least messages bare fits n m said =
+bare_read_back (Join id scopes detail moment) number least answers bare handles fits n m said =
     carried least (system_message kind.Join number (Some (printed (join_data id detail))) moment) bare (join_read_back id scopes detail moment number least fits n m) said
-bare_read_back (Leave id moment) number least messages bare fits n m said =
+bare_read_back (Leave id moment) number least answers bare handles fits n m said =
     carried least (system_message kind.Leave number (Some (printed (text id))) moment) bare (leave_read_back id moment number least fits n m) said
-bare_read_back (Submit id s moment) number least messages bare fits n m said =
+bare_read_back (Submit id s moment) number least answers bare handles fits n m said =
     carried least (submission_message number id s moment) bare (submission_read_back id s moment number least fits n m) said
-bare_read_back (Report summary found moment) number least messages bare fits n m said =
-    report_read_back summary moment number least (answer messages summary found) bare (fits_in_grammar (Report summary found moment) fits) (answer_handle messages summary found) n m said
+bare_read_back (Report summary found moment) number least answers bare handles fits n m said =
+    report_read_back summary moment number least (answers summary found) bare (fits_in_grammar (Report summary found moment) fits) (handles summary found) n m said
 
 pub messages_of_are_read_back : MessagesAreReadBack
-messages_of_are_read_back raw number least m fits n k of = subst IsReadBack (sym of.is) (bare_read_back raw number least of.order of.bare fits n k of.said)
+messages_of_are_read_back raw number least m fits n k of = subst IsReadBack (sym of.is) (bare_read_back raw number least of.answers of.bare of.handles fits n k of.said)
 
 -- ---- where a minimum is settled
 
 -- whatever settles its minimum, it is the message with this number and the minimum that it has
-pub is_message_of : (raw : Raw) (number : ℕ) (messages : List Message) (least : Message → ℕ) (o : Option Message) (m : Message) → unsettled number (answer messages) raw ≡ o
+pub is_message_of : (raw : Raw) (number : ℕ) (answers : ℕ → Bool → Answer) (least : Message → ℕ) (o : Option Message) (m : Message) → ((summary : ℕ) (found : Bool) → HasHandle (answers summary found)) → unsettled number answers raw ≡ o
     → option_map (λ x. with_minimum (least x) x) o ≡ Some m → IsMessageOf raw number m.minimum m
-is_message_of raw number messages least None m is said = absurd (cc)
-is_message_of raw number messages least (Some x) m is said = record {
-  order = messages;
+is_message_of raw number answers least None m handles is said = absurd (cc)
+is_message_of raw number answers least (Some x) m handles is said = record {
+  answers = answers;
+  handles = handles;
   bare = x;
   said = is;
   is = subst (λ y. y ≡ with_minimum y.minimum x) (some_message (with_minimum (least x) x) m said) refl;
@@ -355,5 +350,5 @@ sequenced_are_read_back l raw m legal few fits is =
     let entry : Raw × Verdict = (raw, Sequenced m) in
     let grown = legal-push l entry legal (sym is) in
     let low = minimum-bounded (l ++ entry ∷ []) grown in
-    let of = is_message_of raw (seq l + 1) (order l) (λ x. minimum (l ++ (raw, Sequenced x) ∷ [])) (unsettled (seq l + 1) (answer (order l)) raw) m refl said in
+    let of = is_message_of raw (seq l + 1) (answer (order l)) (λ x. minimum (l ++ (raw, Sequenced x) ∷ [])) (unsettled (seq l + 1) (answer (order l)) raw) m (answer_handle (order l)) refl said in
     messages_of_are_read_back raw (seq l + 1) m.minimum m fits (omega (arith, few)) (omega (arith, few, low, message-minimum l raw m said, seq-push l entry)) of

@@ -12,15 +12,15 @@ use Rattle.fluid_types.specs.declared.quorum.Accepted.{Accepted}
 use Rattle.fluid_types.specs.Names.{IsName}
 use Rattle.fluid_types.specs.Quorum.{leaves, unless_left, standing, member_of, proposal_of, approval, proposals, is_pending, is_accepted}
 use Rattle.fluid_quorum.specs.Order.{AreNumberedFrom}
-use Rattle.fluid_quorum.specs.Stored.{IsNumber, IsKept}
+use Rattle.fluid_quorum.specs.Stored.{IsNumber}
 use Rattle.fluid_readback.specs.Quorums.{IsReadAsItself}
 use Rattle.fluid_readback.proofs.Each.{Each, each-append}
-use Rattle.fluid_readback.proofs.Said.{in_range, member_kept, proposal_kept}
+use Rattle.fluid_readback.proofs.Said.{IsDeep, in_range, member_kept, proposal_kept}
 
 -- a message among the first ones up to this number
 pub record IsAmong (last : ℕ) (m : Message) : Type 0 where
   pub number : IsNumber last m.number
-  pub contents : IsKept m.contents
+  pub contents : IsDeep m.contents
 
 pub among : (last n : ℕ) (ms : List Message) → 1 ≤ n → n + length ms ≤ suc last → AreNumberedFrom n ms → Each IsReadAsItself ms → Each (IsAmong last) ms
 among last n [] low high order h = tt
@@ -41,7 +41,7 @@ pub record IsMemberAt (last : ℕ) (e : List ℕ × Member) : Type 0 where
   pub key : e.0 ≡ e.1.id
   pub name : IsName e.1.id
   pub number : IsNumber last e.1.number
-  pub detail : IsKept e.1.detail
+  pub detail : IsDeep e.1.detail
 
 standing_kept : (last : ℕ) (m : Message) (behind : List Message) (o : Option Member) → IsAmong last m → member_of m ≡ o → Each (IsMemberAt last) (unless_left behind o)
 standing_kept last m behind None h is = tt
@@ -63,7 +63,7 @@ members_kept last (m ∷ ms) h = each-append (IsMemberAt last) (unless_left ms (
 pub record IsOutcome (last : ℕ) (o : Proposal × Option ℕ) : Type 0 where
   pub number : IsNumber last o.0.number
   pub approval : IfSome o.1 (IsNumber last)
-  pub value : IsKept o.0.value
+  pub value : IsDeep o.0.value
 
 approved : (last number : ℕ) (ms : List Message) → Each (IsAmong last) ms → IfSome (approval number ms) (IsNumber last)
 approved last number [] h = tt
@@ -89,7 +89,7 @@ proposals_kept last (m ∷ ms) h = each-append (IsOutcome last) (map (λ p. (p, 
 -- a proposal that is kept
 pub record IsProposalKept (last : ℕ) (p : Proposal) : Type 0 where
   pub number : IsNumber last p.number
-  pub value : IsKept p.value
+  pub value : IsDeep p.value
 
 pub pending_kept : (last : ℕ) (qs : List (Proposal × Option ℕ)) → Each (IsOutcome last) qs → Each (IsProposalKept last) (filter_map is_pending qs)
 pending_kept last [] h = tt
@@ -100,7 +100,7 @@ pending_kept last ((p, None) ∷ qs) h = (record { number = h.0.number; value = 
 pub record IsValueAt (last : ℕ) (e : List ℕ × Accepted) : Type 0 where
   pub approval : IsNumber last e.1.approval
   pub number : IsNumber last e.1.number
-  pub value : IsKept e.1.value
+  pub value : IsDeep e.1.value
 
 pub accepted_kept : (last : ℕ) (qs : List (Proposal × Option ℕ)) → Each (IsOutcome last) qs → Each (IsValueAt last) (filter_map is_accepted qs)
 accepted_kept last [] h = tt

@@ -3,6 +3,7 @@ use Rattle.std.proofs.Common.{◌≡◌, ℕ, zero, suc, ◌≤◌, ◌==◌, ne
 use Rattle.std.specs.FinMap.{entries, entries_sorted, from_sorted, is_sorted}
 use Rattle.fluid_table.specs.Table.{byte_order}
 use Rattle.fluid_table.specs.Keyed.{pairs_of}
+use Rattle.fluid_json.specs.Tree.{Tree, trees, IsCanonical, AreCanonical, depth, trees_depth}
 use Rattle.fluid_types.specs.Forms.{largest}
 use Rattle.fluid_types.specs.declared.messages.Message.{Message}
 use Rattle.fluid_types.specs.declared.quorum.Member.{Member}
@@ -15,12 +16,21 @@ use Rattle.fluid_quorum.specs.Order.{AreFirst}
 use Rattle.fluid_quorum.specs.Lists.{members_of, values_of}
 use Rattle.fluid_quorum.specs.Node.{node_of, AreTexts}
 use Rattle.fluid_quorum.specs.Reading.{greatest_minimum, answer}
-use Rattle.fluid_quorum.specs.Stored.{MembersKept, ProposalsKept, ValuesKept, of_parts, IsStored}
+use Rattle.fluid_quorum.specs.Stored.{IsKept, MembersKept, ProposalsKept, ValuesKept, of_parts, IsStored}
+use Rattle.std.specs.List.{All}
+use Rattle.fluid_types.specs.Texts.{name_of}
+use Rattle.fluid_types.specs.Blobs.{attributes_tree, member_tree, proposal_tree, value_tree, blob_tree}
+use Rattle.fluid_types.specs.declared.quorum.QuorumBlob.{QuorumBlob}
+use Rattle.fluid_types.specs.declared.quorum.QuorumBlob.TheVariants.{Attributes, Members, Proposals, Values}
 use Rattle.fluid_quorum.specs.Laws as quorum
 use Rattle.fluid_readback.specs.Quorums.{IsReadAsItself, QuorumsAreReadBack}
 use Rattle.fluid_readback.proofs.Each.{Each, each-all, each-latest, of_entries, is_true}
-use Rattle.fluid_readback.proofs.Said.{in_range}
+use Rattle.fluid_readback.proofs.Said.{IsDeep, in_range}
 use Rattle.fluid_readback.proofs.Parts.{IsAmong, among, last_below, IsMemberAt, members_kept, proposals_kept, IsProposalKept, pending_kept, IsValueAt, accepted_kept, AreFrom, pending_rising}
+
+-- what is read may stand in a blob
+deep_kept : (value : Tree) → IsDeep value → IsKept value
+deep_kept value is = record { canonical = is.canonical; shallow = omega (arith, is.shallow) }
 
 -- ---- the parts as lists
 
@@ -32,15 +42,15 @@ value_list es = map (λ e. record { key = e.0; accepted = e.1 }) es
 
 members_listed : (last : ℕ) (es : List (List ℕ × Member)) → Each (IsMemberAt last) es → MembersKept last (member_list es)
 members_listed last [] h = tt
-members_listed last (e ∷ es) h = ((h.0.name, (h.0.number, h.0.detail)), members_listed last es h.1)
+members_listed last (e ∷ es) h = ((h.0.name, (h.0.number, deep_kept e.1.detail h.0.detail)), members_listed last es h.1)
 
 proposals_listed : (last : ℕ) (ps : List Proposal) → Each (IsProposalKept last) ps → ProposalsKept last ps
 proposals_listed last [] h = tt
-proposals_listed last (p ∷ ps) h = ((h.0.number, h.0.value), proposals_listed last ps h.1)
+proposals_listed last (p ∷ ps) h = ((h.0.number, deep_kept p.value h.0.value), proposals_listed last ps h.1)
 
 values_listed : (last : ℕ) (es : List (List ℕ × Accepted)) → Each (IsValueAt last) es → ValuesKept last (value_list es)
 values_listed last [] h = tt
-values_listed last (e ∷ es) h = ((h.0.approval, (h.0.number, h.0.value)), values_listed last es h.1)
+values_listed last (e ∷ es) h = ((h.0.approval, (h.0.number, deep_kept e.1.value h.0.value)), values_listed last es h.1)
 
 -- the entries of these lists are those of the tables
 member_pairs : (last : ℕ) (es : List (List ℕ × Member)) → Each (IsMemberAt last) es → pairs_of (λ m. m.id) (λ m. m) (member_list es) ≡ es
@@ -134,3 +144,58 @@ module _ (ms : List Message) (order : AreFirst ms) (back : Each IsReadAsItself m
 
 pub read_back : quorum.AreReadBack → QuorumsAreReadBack
 read_back law ms order back utf8 = kept ms order (each-all IsReadAsItself ms back) law utf8
+
+-- ---- the values of its blobs
+
+members_fit : (last : ℕ) (es : List (List ℕ × Member)) → last ≤ largest → Each (IsMemberAt last) es → AreCanonical (trees (map member_tree (member_list es))) × (trees_depth (trees (map member_tree (member_list es))) ≤ 101)
+unfolding name_of
+members_fit last [] fits h = (tt, omega arith)
+members_fit last (e ∷ es) fits h =
+    let rest = members_fit last es fits h.1 in
+    ((((refl, (refl, tt)), (tt, ((refl, tt), (h.0.detail.canonical, (tt, (omega (arith, fits, h.0.number.most), tt)))))), rest.0), omega (arith, h.0.detail.shallow, rest.1))
+
+proposals_fit : (last : ℕ) (ps : List Proposal) → last ≤ largest → Each (IsProposalKept last) ps → AreCanonical (trees (map proposal_tree ps)) × (trees_depth (trees (map proposal_tree ps)) ≤ 101)
+unfolding name_of
+proposals_fit last [] fits h = (tt, omega arith)
+proposals_fit last (p ∷ ps) fits h =
+    let rest = proposals_fit last ps fits h.1 in
+    ((((refl, (refl, tt)), (tt, ((refl, tt), (omega (arith, fits, h.0.number.most), (tt, (h.0.value.canonical, tt)))))), rest.0), omega (arith, h.0.value.shallow, rest.1))
+
+values_fit : (last : ℕ) (es : List (List ℕ × Accepted)) → last ≤ largest → Each (IsValueAt last) es → AreCanonical (trees (map value_tree es)) × (trees_depth (trees (map value_tree es)) ≤ 101)
+unfolding name_of
+values_fit last [] fits h = (tt, omega arith)
+values_fit last (e ∷ es) fits h =
+    let rest = values_fit last es fits h.1 in (
+      (((refl, (refl, (refl, tt))), (omega (arith, fits, h.0.approval.most), ((refl, (refl, tt)), (tt, ((refl, tt), (omega (arith, fits, h.0.number.most), (tt, (h.0.value.canonical, tt)))))))), rest.0),
+      omega (arith, h.0.value.shallow, rest.1),
+    )
+
+attributes_fit : (minimum number : ℕ) → minimum ≤ largest → number ≤ largest → IsCanonical (attributes_tree minimum number)
+unfolding name_of
+attributes_fit minimum number a b = ((refl, tt), (omega (arith, a), (tt, (omega (arith, b), tt))))
+
+-- it is in order and at most so deep
+pub record IsBlobValue (t : Tree) : Type 0 where
+  pub canonical : IsCanonical t
+  pub shallow : depth t ≤ 102
+
+pub blob_values : (ms : List Message) → AreFirst ms → All IsReadAsItself ms → (b : QuorumBlob) → IsBlobValue (blob_tree (quorum_of ms) b)
+unfolding quorum_of
+blob_values ms order back Attributes =
+    let ranges = each_in_range ms (each-all IsReadAsItself ms back) in
+    record {
+      canonical = attributes_fit (at_last (λ m. m.minimum) ms) (at_last (λ m. m.number) ms) (last_below (λ m. m.minimum) largest None ms (omega arith) ranges.1) (last_below (λ m. m.number) largest None ms (omega arith) ranges.0);
+      shallow = omega arith;
+    }
+blob_values ms order back Members =
+    let each = each-all IsReadAsItself ms back in
+    let fit = members_fit (at_last (λ m. m.number) ms) (entries (members ms)) (last_below (λ m. m.number) largest None ms (omega arith) (each_in_range ms each).0) (each_member ms order each) in
+    record { canonical = fit.0; shallow = omega (arith, fit.1) }
+blob_values ms order back Proposals =
+    let each = each-all IsReadAsItself ms back in
+    let fit = proposals_fit (at_last (λ m. m.number) ms) (pending ms) (last_below (λ m. m.number) largest None ms (omega arith) (each_in_range ms each).0) (each_proposal ms order each) in
+    record { canonical = fit.0; shallow = omega (arith, fit.1) }
+blob_values ms order back Values =
+    let each = each-all IsReadAsItself ms back in
+    let fit = values_fit (at_last (λ m. m.number) ms) (entries (values ms)) (last_below (λ m. m.number) largest None ms (omega arith) (each_in_range ms each).0) (each_value ms order each) in
+    record { canonical = fit.0; shallow = omega (arith, fit.1) }

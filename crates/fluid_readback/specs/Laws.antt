@@ -18,7 +18,8 @@ use Rattle.fluid_types.specs.declared.entries.Raw.{Raw}
 use Rattle.fluid_types.specs.declared.entries.Raw.TheVariants.{Join, Leave, Submit, Report}
 use Rattle.fluid_types.specs.declared.messages.Message.{Message}
 use Rattle.fluid_types.specs.declared.verdicts.Verdict.TheVariants.{Sequenced}
-use Rattle.fluid_rules.specs.Scribe.{answer as answered}
+use Rattle.fluid_rules.specs.declared.answers.Answer.{Answer}
+use Rattle.fluid_rules.specs.declared.answers.Answer.TheVariants.{Dropped, Ack, Refused}
 use Rattle.fluid_rules.specs.Rules.{unsettled, verdict, IsLegal}
 use Rattle.fluid_codec.specs.Events.{event_spelled}
 use Rattle.fluid_codec.specs.Laws.{IsInGrammar, IsMessage}
@@ -95,13 +96,20 @@ pub record IsReadBack (m : Message) : Type 0 where
   pub short : length (message_printed m) ≤ longest_message
   pub read_back : message_spelled (message_printed m) ≡ Ok m
 
+-- a handle of 20 bytes, where there is one
+abbrev pub HasHandle : Answer → Type 0
+HasHandle Dropped = Unit {0}
+HasHandle (Ack handle) = length handle ≡ 20
+HasHandle (Refused rule) = Unit {0}
+
 -- the message of a raw entry that gets this number and this minimum
 pub record IsMessageOf (raw : Raw) (number minimum : ℕ) (m : Message) : Type 0 where
-  -- the messages over which a report is answered
-  pub order : List Message
+  -- how reports are answered
+  pub answers : ℕ → Bool → Answer
+  pub handles : (summary : ℕ) (found : Bool) → HasHandle (answers summary found)
   -- the message but for its minimum
   pub bare : Message
-  pub said : unsettled number (answered order) raw ≡ Some bare
+  pub said : unsettled number answers raw ≡ Some bare
   pub is : m ≡ record bare { minimum = minimum }
 
 -- whatever its number and its minimum are

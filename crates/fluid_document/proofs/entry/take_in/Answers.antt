@@ -1,0 +1,20 @@
+use Rattle.std.proofs.Common.{rules, ◌≡◌, ◌∙◌}
+use Rattle.std.proofs.lemmas.Result.{err_from_is_err_and}
+use Rattle.fluid_document.proofs.Entering.{IsPrepared, enters_by, enters_nowhere}
+use Rattle.fluid_document.proofs.entry.take_in.Goals as goal
+
+pub returns-in_err-record : goal.returns-in_err-record
+returns-in_err-record g c =
+    let none = c.in_err-record.ensures in
+    let e = err_from_is_err_and c.from_residual.result c.from_residual.ensures.1 in
+    rw (e.1, e.2)
+    (enters_nowhere c.args.raw.now _ _ c.args.document.now c.prepared.new.document c.in_err-record.field-0.0 none.later none.reads none.cause none.entries none.room none.reached none.stands)
+
+pub returns : goal.returns
+returns g c =
+    let done = c.in_ok-record.ensures in
+    let finish = c.finish.ensures in
+    let text = c.as_str.ensures ∙ done.record in
+    enters_by c.args.raw.now c.as_str.result.now _ (g.K.Keeper.seen c.prepared.new.keeper) _ c.args.document.now c.prepared.new.document c.finish.new.document c.finish.result text
+    (record { later = done.later; reads = done.reads; entries = done.entries; room = done.room; reached = done.reached; stands = done.stands })
+    finish.later finish.reads finish.cause finish.log (finish.does c.args.raw.now done.ready)

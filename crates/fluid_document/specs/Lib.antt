@@ -1,0 +1,7 @@
+pub mod Entries
+pub mod Rooms
+pub mod Loading
+pub mod Entry
+pub mod Kept
+pub mod Laws
+pub mod Taking

@@ -1,0 +1,407 @@
+-- What calls do that first make the cut that is owed.
+use Rattle.std.proofs.Common.{◌≡◌, ◌⊎◌, ℕ, zero, suc, ◌+◌, ◌≤◌, true, false, Bool, List, [], ◌∷◌, ◌++◌, length, take, Option, Some, None, Result, Ok, Err, inl, inr, refl, sym, ap, ap₂, subst, ◌∙◌, append-nil, arith}
+use Rattle.std.specs.Prelude.{IfOk, IfErr, MatchResult, if◌then◌else◌}
+use Rattle.std.specs.Option.{option_map, option_or}
+use Rattle.std.specs.FinMap.{keys}
+use Rattle.fluid_io.specs.Causes.{Tells}
+use Rattle.fluid_types.specs.declared.entries.Raw.{Raw}
+use Rattle.fluid_types.specs.declared.messages.Message.{Message}
+use Rattle.fluid_types.specs.Ledger.{order}
+use Rattle.fluid_types.specs.Printed.{raw_printed, message_printed}
+use Rattle.fluid_log.specs.Keeping.{Content, Keeping}
+use Rattle.fluid_log.specs.Calls.{KeepsSame, add_record, with_record, cut_to, with_checkpoint, add_checkpoint}
+use Rattle.fluid_log.proofs.Sameness.{same_itself, same_twice}
+use Rattle.fluid_deltas.specs.Pushed.{Pushed}
+use Rattle.fluid_deltas.proofs.Telling.{tells_each, tells_along, tells_both}
+use Rattle.fluid_deltas.specs.Flushes.{put_behind, with_deltas, lacking, AreAll}
+use Rattle.fluid_document.specs.Entries.{Entries, taken_up}
+use Rattle.fluid_document.specs.Kept.{checkpoint_text}
+use Rattle.fluid_document.specs.Rooms.{for_room, roomed}
+use Rattle.fluid_document.specs.Entry.{PutsSome}
+use Rattle.fluid_document.specs.Loading.{loaded, ReadsBehind, PutsDeltas}
+use Rattle.fluid_lane.specs.declared.fault.LaneFault.{LaneFault}
+use Rattle.fluid_lane.specs.declared.fault.LaneFault.TheVariants.{LogFailed, Full, BadRecord, NoCheckpoint, CheckpointsFull, TooManyClients, DeltaFailed, NoMemory, BadCheckpoint, TooLarge, Worn}
+use Rattle.fluid_lane.specs.declared.steps.Step.{Step}
+use Rattle.fluid_lane.specs.Steps.{ledger, last_side}
+use Rattle.fluid_lane.specs.Faults.{IsCausedBy, IsLogFailed, IsOutside, IsReadFault}
+use Rattle.fluid_lane.specs.Standing.{Standing, LaneStands, Goes}
+use Rattle.fluid_lane.specs.Refusals.{IsCutFailed}
+use Rattle.fluid_lane.specs.Calls.{settled, TakesUp, OwesBy, AddKept, EnterKept, Enters, IsFlushFault, IsOutsideLog, FlushKept, IsBeside, missing, flushed, HasCheckpoint, IsStoreFault, SettledBy, StoreKept, IsStored, Stores}
+use Rattle.fluid_lane.specs.Restarts.{RefusesRestart, IsRestarted, RestartKept, Restarts}
+use Rattle.fluid_lane.proofs.Caused.{caused_earlier}
+
+-- ---- a keeper behind another that keeps the same
+
+pub puts_nothing : (ms : List Message) (old new : Keeping) → KeepsSame old new → PutsSome ms old new
+puts_nothing ms old new same = record {
+  count = 0;
+  kept = record {
+    content = same.content ∙ nothing old.content;
+    records = same.records;
+    deltas = omega (arith, same.deltas);
+    checkpoints = same.checkpoints;
+  };
+}
+  where
+    nothing : (content : Option Content) → content ≡ option_map (put_behind []) content
+    nothing None = refl
+    nothing (Some c) = ap (λ texts. Some (record c { deltas = texts })) (sym (append-nil c.deltas))
+
+pub puts_on : (d : Pushed) (one other new : Keeping) → KeepsSame one other → PutsSome (for_room d other.deltas) other new → PutsSome (for_room d one.deltas) one new
+puts_on d one other new same puts = record {
+  count = puts.count;
+  kept = record {
+    content = puts.kept.content ∙ ap₂ (λ n o. option_map (put_behind (take puts.count (for_room d n))) o) same.deltas same.content;
+    records = puts.kept.records ∙ same.records;
+    deltas = puts.kept.deltas ∙ ap (λ n. n + length (take puts.count (for_room d n))) same.deltas;
+    checkpoints = puts.kept.checkpoints ∙ same.checkpoints;
+  };
+}
+
+rooms_on : (d : Pushed) (one other new : Keeping) → KeepsSame one other → KeepsSame (roomed d other) new → KeepsSame (roomed d one) new
+rooms_on d one other new same kept = record {
+  content = kept.content ∙ ap₂ (λ n o. option_map (put_behind (for_room d n)) o) same.deltas same.content;
+  records = kept.records ∙ same.records;
+  deltas = kept.deltas ∙ ap (λ n. n + length (for_room d n)) same.deltas;
+  checkpoints = kept.checkpoints ∙ same.checkpoints;
+}
+
+record_on : (d : Pushed) (bytes : List ℕ) (one other new : Keeping) → KeepsSame one other → KeepsSame (with_record bytes (roomed d other)) new → KeepsSame (with_record bytes (roomed d one)) new
+record_on d bytes one other new same kept = record {
+  content = kept.content ∙ ap₂ (λ n o. option_map (add_record bytes) (option_map (put_behind (for_room d n)) o)) same.deltas same.content;
+  records = kept.records ∙ ap (λ n. n + 1) same.records;
+  deltas = kept.deltas ∙ ap (λ n. n + length (for_room d n)) same.deltas;
+  checkpoints = kept.checkpoints ∙ same.checkpoints;
+}
+
+-- ---- calls that enter
+
+pub enters_worn : {A : Type 0} (raw : Raw) (old new : Standing) → new ≡ old → Enters {A = A} raw old new (Err Worn)
+enters_worn raw old new same = record {
+  entries = ap (λ s. s.entries) same;
+  owes = tt;
+  cause = tt;
+  reads = ap (λ s. s.keeping.reads) same;
+  kept = subst (λ s. KeepsSame old.keeping s.keeping) (sym same) (same_itself old.keeping);
+}
+
+pub enters_cut : {A : Type 0} (raw : Raw) (old new : Standing) (fault : LaneFault) → IsLogFailed fault → IsCutFailed old new → new.entries ≡ old.entries → new.keeping.reads ≡ old.keeping.reads → IsCausedBy old.keeping.faults new.keeping.faults fault
+    → Enters {A = A} raw old new (Err fault)
+enters_cut raw old new (LogFailed note) log cut entries reads cause = record { entries = entries; owes = cut.is_owed; cause = cause; reads = reads; kept = inl cut }
+enters_cut raw old new (Full n) log cut entries reads cause = absurd log
+enters_cut raw old new (BadRecord place) log cut entries reads cause = absurd log
+enters_cut raw old new (NoCheckpoint asked stored) log cut entries reads cause = absurd log
+enters_cut raw old new CheckpointsFull log cut entries reads cause = absurd log
+enters_cut raw old new TooManyClients log cut entries reads cause = absurd log
+enters_cut raw old new (DeltaFailed note) log cut entries reads cause = absurd log
+enters_cut raw old new NoMemory log cut entries reads cause = absurd log
+enters_cut raw old new (BadCheckpoint number bad) log cut entries reads cause = absurd log
+enters_cut raw old new (TooLarge bytes) log cut entries reads cause = absurd log
+enters_cut raw old new Worn log cut entries reads cause = absurd log
+
+-- behind the cut, by a rule or for want of memory
+abbrev pub IsEarly : LaneFault → Type 0
+IsEarly (Full entries) = Unit {0}
+IsEarly TooManyClients = Unit {0}
+IsEarly NoMemory = Unit {0}
+IsEarly other = ⊥
+
+pub enters_early : {A : Type 0} (raw : Raw) (old new : Standing) (fault : LaneFault) → IsEarly fault → KeepsSame (settled old) new.keeping → new.entries ≡ old.entries → new.owed ≡ false → new.keeping.reads ≡ old.keeping.reads → Enters {A = A} raw old new (Err fault)
+enters_early raw old new (LogFailed note) early same entries level reads = absurd early
+enters_early raw old new (Full n) early same entries level reads = record { entries = entries; owes = level; cause = tt; reads = reads; kept = same }
+enters_early raw old new (BadRecord place) early same entries level reads = absurd early
+enters_early raw old new (NoCheckpoint asked stored) early same entries level reads = absurd early
+enters_early raw old new CheckpointsFull early same entries level reads = absurd early
+enters_early raw old new TooManyClients early same entries level reads = record { entries = entries; owes = level; cause = tt; reads = reads; kept = same }
+enters_early raw old new (DeltaFailed note) early same entries level reads = absurd early
+enters_early raw old new NoMemory early same entries level reads =
+    record { entries = entries; owes = level; cause = tt; reads = reads; kept = puts_nothing (for_room old.messages (settled old).deltas) (settled old) new.keeping same }
+enters_early raw old new (BadCheckpoint number bad) early same entries level reads = absurd early
+enters_early raw old new (TooLarge bytes) early same entries level reads = absurd early
+enters_early raw old new Worn early same entries level reads = absurd early
+
+-- the cut was made, and the entry was given to the log
+pub enters_on : {A : Type 0} (raw : Raw) (old mid new : Standing) (result : Result A LaneFault) → KeepsSame (settled old) mid.keeping → mid.entries ≡ old.entries → mid.messages ≡ old.messages → mid.keeping.reads ≡ old.keeping.reads
+    → old.keeping.faults ≤ mid.keeping.faults → TakesUp mid.entries new.entries raw result → OwesBy new result → IfErr result IsOutside → IfErr result (IsCausedBy mid.keeping.faults new.keeping.faults) → new.keeping.reads ≡ mid.keeping.reads
+    → AddKept raw mid mid.keeping new.keeping result → Enters raw old new result
+enters_on raw old mid new (Ok a) same entries messages reads later takes owes outside cause more kept = record {
+  entries = takes ∙ ap (λ e. taken_up e raw) entries;
+  owes = owes;
+  cause = tt;
+  reads = more ∙ reads;
+  kept = record_on old.messages (raw_printed raw) (settled old) mid.keeping new.keeping same (subst (λ d. KeepsSame (with_record (raw_printed raw) (roomed d mid.keeping)) new.keeping) messages kept);
+}
+enters_on {A = A} raw old mid new (Err fault) same entries messages reads later takes owes outside cause more kept = record {
+  entries = takes ∙ entries;
+  owes = owes;
+  cause = caused_earlier old.keeping.faults mid.keeping.faults new.keeping.faults fault later cause;
+  reads = more ∙ reads;
+  kept = by fault outside kept;
+}
+  where
+    some : PutsSome (for_room mid.messages mid.keeping.deltas) mid.keeping new.keeping → PutsSome (for_room old.messages (settled old).deltas) (settled old) new.keeping
+    some puts = puts_on old.messages (settled old) mid.keeping new.keeping same (subst (λ d. PutsSome (for_room d mid.keeping.deltas) mid.keeping new.keeping) messages puts)
+    torn : KeepsSame (roomed mid.messages mid.keeping) new.keeping ⊎ KeepsSame (with_record (raw_printed raw) (roomed mid.messages mid.keeping)) new.keeping
+        → KeepsSame (roomed old.messages (settled old)) new.keeping ⊎ KeepsSame (with_record (raw_printed raw) (roomed old.messages (settled old))) new.keeping
+    torn (inl left) = inl (rooms_on old.messages (settled old) mid.keeping new.keeping same (subst (λ d. KeepsSame (roomed d mid.keeping) new.keeping) messages left))
+    torn (inr left) = inr (record_on old.messages (raw_printed raw) (settled old) mid.keeping new.keeping same (subst (λ d. KeepsSame (with_record (raw_printed raw) (roomed d mid.keeping)) new.keeping) messages left))
+    by : (f : LaneFault) → IsOutside f → AddKept {A = A} raw mid mid.keeping new.keeping (Err f) → EnterKept {A = A} raw old new (Err f)
+    by (LogFailed note) out is = inr (torn is)
+    by (Full n) out is = absurd out
+    by (BadRecord place) out is = absurd out
+    by (NoCheckpoint asked stored) out is = absurd out
+    by CheckpointsFull out is = absurd out
+    by TooManyClients out is = absurd out
+    by (DeltaFailed note) out is = some is
+    by NoMemory out is = some is
+    by (BadCheckpoint number bad) out is = absurd out
+    by (TooLarge bytes) out is = absurd out
+    by Worn out is = absurd out
+
+-- ---- calls that store
+
+pub stores_worn : (old new : Standing) → new ≡ old → Stores old new (Err Worn)
+stores_worn old new same = record {
+  same = (ap (λ s. s.entries) same, ap (λ s. s.messages) same);
+  settled_by = tt;
+  cause = tt;
+  reads = ap (λ s. s.keeping.reads) same;
+  kept = subst (λ s. KeepsSame old.keeping s.keeping) (sym same) (same_itself old.keeping);
+  stored = tt;
+}
+
+pub stores_cut : (old new : Standing) (fault : LaneFault) → IsLogFailed fault → IsCutFailed old new → (new.entries ≡ old.entries) × (new.messages ≡ old.messages) → new.keeping.reads ≡ old.keeping.reads → IsCausedBy old.keeping.faults new.keeping.faults fault → Stores old new (Err fault)
+stores_cut old new (LogFailed note) log cut same reads cause = record { same = same; settled_by = tt; cause = cause; reads = reads; kept = inl cut; stored = tt }
+stores_cut old new (Full n) log cut same reads cause = absurd log
+stores_cut old new (BadRecord place) log cut same reads cause = absurd log
+stores_cut old new (NoCheckpoint asked stored) log cut same reads cause = absurd log
+stores_cut old new CheckpointsFull log cut same reads cause = absurd log
+stores_cut old new TooManyClients log cut same reads cause = absurd log
+stores_cut old new (DeltaFailed note) log cut same reads cause = absurd log
+stores_cut old new NoMemory log cut same reads cause = absurd log
+stores_cut old new (BadCheckpoint number bad) log cut same reads cause = absurd log
+stores_cut old new (TooLarge bytes) log cut same reads cause = absurd log
+stores_cut old new Worn log cut same reads cause = absurd log
+
+pub stores_full : (old new : Standing) → KeepsSame (settled old) new.keeping → (new.entries ≡ old.entries) × (new.messages ≡ old.messages) → new.owed ≡ false → new.keeping.reads ≡ old.keeping.reads → Stores old new (Err CheckpointsFull)
+stores_full old new kept same level reads = record { same = same; settled_by = level; cause = tt; reads = reads; kept = kept; stored = tt }
+
+-- what a flush put behind the cut
+lacks_on : (d : Pushed) (one other new : Keeping) → KeepsSame one other → PutsSome (lacking d other.deltas) other new → PutsSome (lacking d one.deltas) one new
+lacks_on d one other new same puts = record {
+  count = puts.count;
+  kept = record {
+    content = puts.kept.content ∙ ap₂ (λ n o. option_map (put_behind (take puts.count (lacking d n))) o) same.deltas same.content;
+    records = puts.kept.records ∙ same.records;
+    deltas = puts.kept.deltas ∙ ap (λ n. n + length (take puts.count (lacking d n))) same.deltas;
+    checkpoints = puts.kept.checkpoints ∙ same.checkpoints;
+  };
+}
+
+deltas_stay : (s : Standing) → (settled s).deltas ≡ s.keeping.deltas
+deltas_stay s = by s.owed
+  where
+    by : (b : Bool) → (if b then cut_to s.entries.entered s.keeping else s.keeping).deltas ≡ s.keeping.deltas
+    by true = refl
+    by false = refl
+
+missing_on : (old mid new : Standing) → KeepsSame (settled old) mid.keeping → mid.messages ≡ old.messages → PutsSome (missing mid) mid.keeping new.keeping → PutsSome (missing old) (settled old) new.keeping
+missing_on old mid new same messages puts =
+    subst (λ n. PutsSome (lacking old.messages n) (settled old) new.keeping) (deltas_stay old)
+    (lacks_on old.messages (settled old) mid.keeping new.keeping same (subst (λ d. PutsSome (lacking d mid.keeping.deltas) mid.keeping new.keeping) messages puts))
+
+pub flushed_on : (old mid new : Standing) → KeepsSame (settled old) mid.keeping → mid.messages ≡ old.messages → KeepsSame (with_deltas (missing mid) mid.keeping) new.keeping → KeepsSame (flushed old) new.keeping
+flushed_on old mid new same messages kept =
+    let all : KeepsSame (with_deltas (lacking old.messages mid.keeping.deltas) mid.keeping) new.keeping = subst (λ d. KeepsSame (with_deltas (lacking d mid.keeping.deltas) mid.keeping) new.keeping) messages kept in
+    let count : mid.keeping.deltas ≡ old.keeping.deltas = same.deltas ∙ deltas_stay old in
+    record {
+      content = all.content ∙ ap₂ (λ n o. option_map (put_behind (lacking old.messages n)) o) count same.content;
+      records = all.records ∙ same.records;
+      deltas = all.deltas ∙ ap₂ (λ n m. n + length (lacking old.messages m)) same.deltas count;
+      checkpoints = all.checkpoints ∙ same.checkpoints;
+    }
+
+pub stores_flush : (old mid new : Standing) (fault : LaneFault) → IsFlushFault fault → KeepsSame (settled old) mid.keeping → mid.messages ≡ old.messages → PutsSome (missing mid) mid.keeping new.keeping
+    → (new.entries ≡ old.entries) × (new.messages ≡ old.messages) → new.owed ≡ false → new.keeping.reads ≡ old.keeping.reads → IsCausedBy old.keeping.faults new.keeping.faults fault → Stores old new (Err fault)
+stores_flush old mid new (LogFailed note) flush settles messages puts same level reads cause = absurd flush
+stores_flush old mid new (Full n) flush settles messages puts same level reads cause = absurd flush
+stores_flush old mid new (BadRecord place) flush settles messages puts same level reads cause = absurd flush
+stores_flush old mid new (NoCheckpoint asked stored) flush settles messages puts same level reads cause = absurd flush
+stores_flush old mid new CheckpointsFull flush settles messages puts same level reads cause = absurd flush
+stores_flush old mid new TooManyClients flush settles messages puts same level reads cause = absurd flush
+stores_flush old mid new (DeltaFailed note) flush settles messages puts same level reads cause =
+    record { same = same; settled_by = level; cause = cause; reads = reads; kept = missing_on old mid new settles messages puts; stored = tt }
+stores_flush old mid new NoMemory flush settles messages puts same level reads cause =
+    record { same = same; settled_by = level; cause = tt; reads = reads; kept = missing_on old mid new settles messages puts; stored = tt }
+stores_flush old mid new (BadCheckpoint number bad) flush settles messages puts same level reads cause = absurd flush
+stores_flush old mid new (TooLarge bytes) flush settles messages puts same level reads cause = absurd flush
+stores_flush old mid new Worn flush settles messages puts same level reads cause = absurd flush
+
+-- all of them were put
+all_put : (ms : List Message) (old new : Keeping) → KeepsSame (with_deltas ms old) new → PutsSome ms old new
+all_put ms old new same = record {
+  count = length ms;
+  kept = subst (λ xs. KeepsSame (with_deltas xs old) new) (sym (take_whole ms)) same;
+}
+  where
+    take_whole : (xs : List Message) → take (length xs) xs ≡ xs
+    take_whole [] = refl
+    take_whole (x ∷ xs) = ap (λ ys. x ∷ ys) (take_whole xs)
+
+-- memory was wanting behind a flush
+pub stores_memory : (old new : Standing) → KeepsSame (flushed old) new.keeping → (new.entries ≡ old.entries) × (new.messages ≡ old.messages) → new.owed ≡ false → new.keeping.reads ≡ old.keeping.reads → Stores old new (Err NoMemory)
+stores_memory old new kept same level reads = record { same = same; settled_by = level; cause = tt; reads = reads; kept = all_put (missing old) (settled old) new.keeping kept; stored = tt }
+
+pub stores_large : (old new : Standing) (bytes : ℕ) → KeepsSame (flushed old) new.keeping → (new.entries ≡ old.entries) × (new.messages ≡ old.messages) → new.owed ≡ false → new.keeping.reads ≡ old.keeping.reads → Stores old new (Err (TooLarge bytes))
+stores_large old new bytes kept same level reads = record { same = same; settled_by = level; cause = tt; reads = reads; kept = kept; stored = tt }
+
+checkpoints_stay : (s : Standing) → (flushed s).checkpoints ≡ s.keeping.checkpoints
+checkpoints_stay s = by s.owed
+  where
+    by : (b : Bool) → (if b then cut_to s.entries.entered s.keeping else s.keeping).checkpoints ≡ s.keeping.checkpoints
+    by true = refl
+    by false = refl
+
+-- the text was given to the keeper behind a flush
+pub stores_on : (old mid new : Standing) (text : List ℕ) (result : Result ℕ LaneFault) → text ≡ checkpoint_text old.entries → length text ≤ old.limits.bytes → KeepsSame (flushed old) mid.keeping
+    → MatchResult result (λ _. KeepsSame (with_checkpoint text mid.keeping) new.keeping) (λ _. KeepsSame mid.keeping new.keeping) → IfOk result (λ number. number ≡ mid.keeping.checkpoints) → IfOk result (λ number. Tells new.keeping.content (HasCheckpoint number text))
+    → IfErr result IsOutsideLog → IfErr result (IsCausedBy mid.keeping.faults new.keeping.faults) → old.keeping.faults ≤ mid.keeping.faults → (new.entries ≡ old.entries) × (new.messages ≡ old.messages) → new.owed ≡ false → new.keeping.reads ≡ old.keeping.reads
+    → Stores old new result
+stores_on old mid new text (Ok number) is short flush kept next there fails cause later same level reads = record {
+  same = same;
+  settled_by = level;
+  cause = tt;
+  reads = reads;
+  kept = subst (λ t. KeepsSame (with_checkpoint t (flushed old)) new.keeping) is (record {
+    content = kept.content ∙ ap (option_map (add_checkpoint text)) flush.content;
+    records = kept.records ∙ flush.records;
+    deltas = kept.deltas ∙ flush.deltas;
+    checkpoints = kept.checkpoints ∙ ap (λ n. n + 1) flush.checkpoints;
+  });
+  stored = record {
+    next = next ∙ flush.checkpoints ∙ checkpoints_stay old;
+    short = subst (λ t. length t ≤ old.limits.bytes) is short;
+    there = subst (λ t. Tells new.keeping.content (HasCheckpoint number t)) is there;
+  };
+}
+stores_on old mid new text (Err fault) is short flush kept next there fails cause later same level reads = by fault fails cause
+  where
+    whole : KeepsSame (flushed old) new.keeping
+    whole = same_twice (flushed old) mid.keeping new.keeping flush kept
+    by : (f : LaneFault) → IsOutsideLog f → IsCausedBy mid.keeping.faults new.keeping.faults f → Stores old new (Err f)
+    by (LogFailed note) out caused =
+        record { same = same; settled_by = tt; cause = caused_earlier old.keeping.faults mid.keeping.faults new.keeping.faults (LogFailed note) later caused; reads = reads; kept = inr (level, whole); stored = tt }
+    by (Full n) out caused = absurd out
+    by (BadRecord place) out caused = absurd out
+    by (NoCheckpoint asked stored) out caused = absurd out
+    by CheckpointsFull out caused = absurd out
+    by TooManyClients out caused = absurd out
+    by (DeltaFailed note) out caused = absurd out
+    by NoMemory out caused = stores_memory old new whole same level reads
+    by (BadCheckpoint number bad) out caused = absurd out
+    by (TooLarge bytes) out caused = absurd out
+    by Worn out caused = absurd out
+
+-- the steps of a call that flushed and then stored
+pub goes_stored : (s t u : Standing) (more : List Step) → Goes s t [] → ((l : List Step) → LaneStands s l → Tells t.keeping.content (AreAll (order (ledger l)))) → IsBeside t u more
+    → ((l : List Step) → Tells t.keeping.content (AreAll (order (ledger l))) → LaneStands t l → LaneStands u (l ++ more)) → Goes s u more
+goes_stored s t u more first whole beside list = record {
+  limits = beside.limits ∙ first.limits;
+  opened = beside.opened ∙ first.opened;
+  told = beside.told ∙ first.told;
+  later = omega (arith, first.later, beside.later);
+  entered = omega (arith, first.entered, beside.entered);
+  sides = omega (arith, first.sides, beside.sides);
+  last = beside.last ∙ ap (option_or (last_side more)) first.last;
+  list = λ l stands. list l (whole l stands) (subst (LaneStands t) (append-nil l) (first.list l stands));
+}
+
+-- ---- calls that restart
+
+pub restarts_worn : {A : Type 0} (number : ℕ) (old new : Standing) → new ≡ old → Restarts {A = A} number old new (Err Worn)
+restarts_worn number old new same = record {
+  stays = (ap (λ s. s.entries) same, ap (λ s. s.messages) same);
+  settled_by = tt;
+  cause = tt;
+  kept = subst (λ s. KeepsSame old.keeping s.keeping) (sym same) (same_itself old.keeping);
+  loads = tells_each (settled old).content _ (λ c. tt);
+}
+
+pub restarts_cut : {A : Type 0} (number : ℕ) (old new : Standing) (fault : LaneFault) → IsLogFailed fault → IsCutFailed old new → (new.entries ≡ old.entries) × (new.messages ≡ old.messages) → IsCausedBy old.keeping.faults new.keeping.faults fault
+    → Restarts {A = A} number old new (Err fault)
+restarts_cut number old new (LogFailed note) log cut same cause = record { stays = same; settled_by = tt; cause = cause; kept = inl cut; loads = tells_each (settled old).content _ (λ c. tt) }
+restarts_cut number old new (Full n) log cut same cause = absurd log
+restarts_cut number old new (BadRecord place) log cut same cause = absurd log
+restarts_cut number old new (NoCheckpoint asked stored) log cut same cause = absurd log
+restarts_cut number old new CheckpointsFull log cut same cause = absurd log
+restarts_cut number old new TooManyClients log cut same cause = absurd log
+restarts_cut number old new (DeltaFailed note) log cut same cause = absurd log
+restarts_cut number old new NoMemory log cut same cause = absurd log
+restarts_cut number old new (BadCheckpoint bad why) log cut same cause = absurd log
+restarts_cut number old new (TooLarge bytes) log cut same cause = absurd log
+restarts_cut number old new Worn log cut same cause = absurd log
+
+pub restarts_none : {A : Type 0} (number : ℕ) (old new : Standing) (asked stored : ℕ) → KeepsSame (settled old) new.keeping → (new.entries ≡ old.entries) × (new.messages ≡ old.messages) → new.owed ≡ false → Restarts {A = A} number old new (Err (NoCheckpoint asked stored))
+restarts_none number old new asked stored kept same level = record { stays = same; settled_by = level; cause = tt; kept = kept; loads = tells_each (settled old).content _ (λ c. tt) }
+
+deltas_on : (one other new : Keeping) → KeepsSame one other → PutsDeltas other new → PutsDeltas one new
+deltas_on one other new same puts = record {
+  messages = puts.messages;
+  kept = record {
+    content = puts.kept.content ∙ ap (option_map (put_behind puts.messages)) same.content;
+    records = puts.kept.records ∙ same.records;
+    deltas = puts.kept.deltas ∙ ap (λ n. n + length puts.messages) same.deltas;
+    checkpoints = puts.kept.checkpoints ∙ same.checkpoints;
+  };
+}
+
+pub restarts_bad : {A : Type 0} (number : ℕ) (old mid new : Standing) (fault : LaneFault) → IsReadFault fault → KeepsSame (settled old) mid.keeping → PutsDeltas mid.keeping new.keeping → mid.entries ≡ old.entries → (new.entries ≡ old.entries) × (new.messages ≡ old.messages)
+    → new.owed ≡ false → old.keeping.faults ≤ mid.keeping.faults → IsCausedBy mid.keeping.faults new.keeping.faults fault → Tells mid.keeping.content (λ content. RefusesRestart number mid.entries content fault) → Restarts {A = A} number old new (Err fault)
+restarts_bad {A = A} number old mid new fault read kept puts entries same level later cause loads = record {
+  stays = same;
+  settled_by = settles fault;
+  cause = caused_earlier old.keeping.faults mid.keeping.faults new.keeping.faults fault later cause;
+  kept = by fault read;
+  loads = tells_along _ _ (λ content. RefusesRestart number old.entries content fault) kept.content (subst (λ e. Tells mid.keeping.content (λ content. RefusesRestart number e content fault)) entries loads);
+}
+  where
+    put : PutsDeltas (settled old) new.keeping
+    put = deltas_on (settled old) mid.keeping new.keeping kept puts
+    settles : (f : LaneFault) → SettledBy {A = A} new (Err f)
+    settles (LogFailed note) = tt
+    settles (Full n) = level
+    settles (BadRecord place) = level
+    settles (NoCheckpoint asked stored) = level
+    settles CheckpointsFull = level
+    settles TooManyClients = level
+    settles (DeltaFailed note) = level
+    settles NoMemory = level
+    settles (BadCheckpoint bad why) = level
+    settles (TooLarge bytes) = level
+    settles Worn = tt
+    by : (f : LaneFault) → IsReadFault f → RestartKept {A = A} old new (Err f)
+    by (LogFailed note) is = inr (level, put)
+    by (Full n) is = absurd is
+    by (BadRecord place) is = put
+    by (NoCheckpoint asked stored) is = absurd is
+    by CheckpointsFull is = absurd is
+    by TooManyClients is = absurd is
+    by (DeltaFailed note) is = put
+    by NoMemory is = put
+    by (BadCheckpoint bad why) is = put
+    by (TooLarge bytes) is = absurd is
+    by Worn is = absurd is
+
+pub restarts_on : (number : ℕ) (old mid new : Standing) → KeepsSame (settled old) mid.keeping → PutsDeltas mid.keeping new.keeping → mid.entries ≡ old.entries → mid.keeping.reads ≡ old.keeping.reads → mid.keeping.records ≡ old.entries.entered
+    → (new.entries.entered ≡ old.entries.entered) × (keys new.entries.state.sequencer.rows ≡ keys old.entries.state.sequencer.rows) → new.owed ≡ false → Tells mid.keeping.content (λ content. loaded content (Some number) ≡ Ok new.entries)
+    → Tells mid.keeping.content (ReadsBehind (Some number) mid.keeping.records mid.keeping.reads new.keeping.reads) → Restarts {A = Unit {0}} number old new (Ok tt)
+restarts_on number old mid new kept puts entries reads records stays level loads counts = record {
+  stays = stays;
+  settled_by = level;
+  cause = tt;
+  kept = deltas_on (settled old) mid.keeping new.keeping kept puts;
+  loads = tells_along _ _ (λ content. IsRestarted number old new content) kept.content
+      (tells_both mid.keeping.content (λ content. loaded content (Some number) ≡ Ok new.entries) (ReadsBehind (Some number) mid.keeping.records mid.keeping.reads new.keeping.reads) (IsRestarted number old new)
+      (λ c is read. record { loads = is; reads = subst (λ n. ReadsBehind (Some number) n old.keeping.reads new.keeping.reads c) records (subst (λ n. ReadsBehind (Some number) mid.keeping.records n new.keeping.reads c) reads read) })
+      loads counts);
+}

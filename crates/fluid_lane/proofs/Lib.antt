@@ -1,0 +1,19 @@
+pub mod Listed
+pub mod Named
+pub mod Ids
+pub mod Safe
+pub mod Storing
+pub mod Stands
+pub mod Flushing
+pub mod Caused
+pub mod Gated
+pub mod Composed
+pub mod Quiet
+mod Swept
+pub mod Others
+pub mod Restarting
+pub mod Removing
+pub mod Recorded
+pub mod Leaving
+pub mod Beginning
+pub mod Says

@@ -1,0 +1,1 @@
+use Rattle.fluid_lane.proofs.lane.Lane.conclude.Goals as goal

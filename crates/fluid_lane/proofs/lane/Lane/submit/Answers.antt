@@ -1,0 +1,1 @@
+use Rattle.fluid_lane.proofs.lane.Lane.submit.Goals as goal
