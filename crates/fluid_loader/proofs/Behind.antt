@@ -1,16 +1,16 @@
 -- What messages make of a container, and what calls on a link leave, one after the other.
-use Rattle.std.proofs.Common.{◌≡◌, ◌⊎◌, inl, inr, ℕ, suc, ◌+◌, ◌-◌, ◌<◌, ◌≤◌, ◌^◌, min, List, [], ◌∷◌, ◌++◌, length, fold, Option, Some, None, Result, Ok, Err, refl, sym, ap, subst, ◌∙◌, arith, append_assoc, append-nil}
+use Rattle.std.proofs.Common.{◌≡◌, ◌⊎◌, inl, inr, ℕ, suc, ◌+◌, ◌<◌, ◌≤◌, ◌^◌, List, [], ◌∷◌, ◌++◌, Option, Some, None, Result, Ok, Err, refl, sym, ap, subst, ◌∙◌, arith, append_assoc, append-nil}
 use Rattle.std.specs.Result.{OnOk, OnErr, IsErrAnd}
 use Rattle.std.proofs.lemmas.List.Sums.{fold-append}
-use Rattle.fluid_io.specs.Causes.{Rose, one_more}
+use Rattle.fluid_io.specs.Causes.{Rose}
 use Rattle.fluid_types.specs.Quorum.{Quorum, quorum_of}
 use Rattle.fluid_types.specs.declared.messages.Message.{Message}
 use Rattle.fluid_types.specs.declared.entries.Submission.{Submission}
 use Rattle.fluid_quorum.specs.After.{after}
 use Rattle.fluid_store.specs.Held.{Held, Keeps}
-use Rattle.fluid_loader.specs.Calls.{IsBehindFront, IsNoted, ProposeSays, SummarizeDoes, SummarizeLeaves, SummarizeStops, Submits, counted, since, summarize_of}
-use Rattle.fluid_loader.specs.Container.{AContainer, IsOwed, IsKept, settled, taken_by, behind}
-use Rattle.fluid_loader.specs.Link.{AreFrom, Linked, Document, Grows, GrowsIfTold, Changes}
+use Rattle.fluid_loader.specs.Calls.{IsBehindFront, ProposeSays, SummarizeDoes, SummarizeLeaves, SummarizeStops, counted, since}
+use Rattle.fluid_loader.specs.Container.{AContainer, IsKept, taken_by, behind}
+use Rattle.fluid_loader.specs.Link.{AreFrom, Linked, Document, GrowsIfTold, Changes}
 use Rattle.fluid_loader.specs.declared.following.Following.{Following}
 use Rattle.fluid_loader.specs.declared.fault.LoadFault.{LoadFault}
 use Rattle.fluid_loader.specs.declared.fault.LoadFault.TheVariants.{LinkFailed, NoSummary, BadSummary, Edit, Refused, NoMemory, Clash}

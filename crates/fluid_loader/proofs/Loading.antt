@@ -1,12 +1,12 @@
 -- Where a container begins, and what loading one does, call after call.
-use Rattle.std.proofs.Common.{◌≡◌, ℕ, ◌+◌, ◌≤◌, List, ◌++◌, map, drop, Option, Some, None, Result, Ok, Err, refl, sym, ap, subst, ◌∙◌, arith}
+use Rattle.std.proofs.Common.{◌≡◌, ℕ, ◌≤◌, ◌++◌, map, drop, Some, None, Result, Ok, Err, sym, ap, subst, ◌∙◌, arith}
 use Rattle.std.specs.Result.{IsErrAnd}
-use Rattle.fluid_io.specs.Causes.{Rose, Tells}
-use Rattle.fluid_store.specs.Held.{Held}
+use Rattle.fluid_io.specs.Causes.{Tells}
 use Rattle.fluid_tree.specs.declared.id.SummaryRef.{SummaryRef}
 use Rattle.fluid_types.specs.declared.messages.Message.{Message}
-use Rattle.fluid_loader.specs.Calls.{Answers, ReadStops, LoadReads, LoadsOnly, PumpReads, PumpDoes, PickedSays, Sees, Loaded, LoadDoes, begun_of, or_bad, begun_picked, begun_in, Fetched}
+use Rattle.fluid_loader.specs.Calls.{Answers, ReadStops, LoadReads, LoadsOnly, PumpReads, PumpDoes, PickedSays, Sees, Loaded, LoadDoes, begun_of, or_bad, begun_picked, begun_in}
 use Rattle.fluid_loader.specs.Container.{AContainer, behind}
+use Rattle.fluid_loader.specs.Laws.{IsOrder, IsHonestPick, HasReplayed, IsWholeReplay}
 use Rattle.fluid_loader.specs.Link.{Document, Linked, Reads, picked}
 use Rattle.fluid_loader.specs.Version.{version_at}
 use Rattle.fluid_loader.specs.declared.link.Pick.{Pick}
@@ -101,3 +101,11 @@ loaded_by pick old mid new first c number reads begins done =
           ap (λ (l : Linked). l.messages) fetched.fetched
           ∙ ap (λ ms. ms ++ map (λ (m : Message). m.number) messages) (ap (λ (l : Linked). l.messages) same);
     }
+
+-- a container that was loaded from an honest summary is the replay of the whole order
+pub loaded_replays : IsWholeReplay → (pick : Pick) (old new : Linked) (c : AContainer) → Loaded pick old new c → (document : Document) → old.told ≡ Some document → IsOrder document.order
+    → IsHonestPick pick document → HasReplayed document.order c
+loaded_replays law pick old new c loaded document is order honest =
+    let begins : begun_in pick document ≡ Ok loaded.first = subst (λ told. Tells told (λ d. begun_in pick d ≡ Ok loaded.first)) is loaded.begins in
+    let all : drop loaded.first.number document.order ≡ loaded.messages = subst (λ told. Tells told (λ d. drop loaded.first.number d.order ≡ loaded.messages)) is loaded.all in
+    subst (HasReplayed document.order) (sym (loaded.taken ∙ ap (behind old.client loaded.first) (sym all))) (law old.client document pick loaded.first order honest begins)

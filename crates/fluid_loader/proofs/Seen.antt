@@ -1,9 +1,9 @@
 -- The nodes of a version.
-use Rattle.std.proofs.Common.{◌≡◌, ℕ, zero, suc, Bool, true, false, List, map, Option, Some, None, Result, Ok, Err, if◌then◌else◌, refl, sym, ap, subst, ◌∙◌, arith}
+use Rattle.std.proofs.Common.{◌≡◌, ℕ, zero, suc, true, false, List, Option, Some, None, Result, Ok, Err, if◌then◌else◌, sym, ap, subst, ◌∙◌, arith}
 use Rattle.fluid_io.specs.Causes.{Tells}
-use Rattle.fluid_tree.specs.Summary.{Summary, blob, tree, children}
+use Rattle.fluid_tree.specs.Summary.{Summary, tree, children}
 use Rattle.fluid_tree.specs.declared.object.Object.{Object}
-use Rattle.fluid_tree.specs.declared.object.Object.TheVariants.{Blob, Tree}
+use Rattle.fluid_tree.specs.declared.object.Object.TheVariants.{Tree}
 use Rattle.fluid_tree.specs.declared.object.ObjectEntry.{ObjectEntry}
 use Rattle.fluid_store.specs.Held.{Held}
 use Rattle.fluid_store.specs.Standing.{object_at}

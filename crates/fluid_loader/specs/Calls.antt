@@ -12,7 +12,6 @@ use Rattle.fluid_edits.specs.Replay.{Channels, replay_edits}
 use Rattle.fluid_runtime.specs.App.{all_are}
 use Rattle.fluid_runtime.specs.AppTree.{tree_since}
 use Rattle.fluid_runtime.specs.Refused as refused
-use Rattle.fluid_runtime.specs.declared.fault.EditFault.{EditFault}
 use Rattle.fluid_store.specs.Held.{Held}
 use Rattle.fluid_loader.specs.Version.{AVersion, version_at}
 use Rattle.fluid_loader.specs.Container.{AContainer, empty, begun, behind}

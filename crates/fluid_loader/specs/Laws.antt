@@ -1,5 +1,5 @@
 -- What holds of containers: one that begins with an honest summary and takes in the messages behind it is one that has taken in all.
-use Rattle.std.specs.Prelude.{◌≡◌, ℕ, List, [], ◌∷◌, take, drop, All, Some, Ok, codes}
+use Rattle.std.specs.Prelude.{◌≡◌, ℕ, List, [], take, drop, All, Some, Ok, codes}
 use Rattle.fluid_types.specs.Blobs.{blobs}
 use Rattle.fluid_types.specs.Order.{AreFirst}
 use Rattle.fluid_types.specs.Quorum.{quorum_of}

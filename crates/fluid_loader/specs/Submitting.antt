@@ -1,7 +1,7 @@
 -- The submissions of a container.
 use Rattle.std.specs.Prelude.{ℕ, pos, List, [], ◌∷◌, ◌++◌, Option, Some, None, codes, decimal}
 use Rattle.hex.specs.Hex.{encode_lower}
-use Rattle.fluid_json.specs.Tree.{Tree, null, text, list, trees, object, members}
+use Rattle.fluid_json.specs.Tree.{Tree, text, list, trees, object, members}
 use Rattle.fluid_types.specs.declared.entries.Offered.{Offered}
 use Rattle.fluid_types.specs.declared.entries.Submission.{Submission}
 

@@ -1,13 +1,15 @@
 //! A document as one client has it.
-ghost use Rattle.std.specs.Prelude.{◌≡◌, ◌⊎◌, ◌<◌, ◌≤◌, ◌^◌, ◌+◌, ◌-◌, ℕ, List, IfOk, IfErr, OnOk, OnErr, length, option_map};
+ghost use Rattle.std.specs.Prelude.{◌≡◌, ◌⊎◌, ◌<◌, ◌≤◌, ◌^◌, ◌+◌, ◌-◌, ℕ, List, Some, IfOk, IfErr, OnOk, OnErr, length, option_map};
 ghost use Rattle.fluid_rules.specs.Scribe.{handling, is_ack};
 ghost use Rattle.fluid_runtime.specs.AppTree.{app_tree};
 ghost use Rattle.fluid_runtime.specs.Shown.{shown};
 ghost use Rattle.fluid_loader.specs.Container.{empty, acknowledged, is_from, taken_by, behind};
 ghost use Rattle.fluid_loader.specs.Calls.{Answers, LoadsOnly, LoadDoes, LoadReads, begun_in, begun_picked, Fetched, ReadStops, PumpDoes, PumpReads, Submits, IsBehindFront, ProposeSays, counted, op_of, noop_of, summarize_of, shown_channels, EditLeaves, EditSays, Uploaded, UploadsTree, SummarizeDoes, Picked, Begins, since, failure};
-ghost use Rattle.fluid_loader.specs.Link.{AreFrom, Fits, picked};
+ghost use Rattle.fluid_loader.specs.Laws.{HasReplayed, IsHonestPick, IsOrder};
+ghost use Rattle.fluid_loader.specs.Link.{AreFrom, Document, Fits, picked};
 
 use crate::following::Following;
+use crate::laws::honest_summaries_are_replayed;
 use crate::submitting::{numbered, summarize};
 use crate::version::{Version, read_version};
 use crate::{Given, Link, LinkFault, LoadFault, Pick};
@@ -48,12 +50,16 @@ impl Model for Container {
 }
 
 impl Container {
-    /// The document from the picked summary and all messages behind it.
+    /// The document from the picked summary and all messages behind it. Where the link tells an order whose messages are read back
+    /// from their texts, and the summary is honest, this is the replay of the whole order.
     pub fn load<L: Link>(alloc: Global, link: &mut L, pick: &Pick) -> Result<Container, LoadFault>
         ensures lent { L.lent link.new ≡ L.lent link.old }
         ensures reads { LoadsOnly (L.seen link.old) (L.seen link.new) }
         ensures does { LoadDoes pick.now (L.seen link.old) (L.seen link.new) result }
+        ensures replays { IfOk result (λ container. (document : Document) → (L.seen link.old).told ≡ Some document → IsOrder document.order →
+            IsHonestPick pick.now document → HasReplayed document.order container) }
     {
+        honest_summaries_are_replayed();
         let mut container = begin(alloc, link, pick)?;
         container.pump(alloc, link)?;
         Ok(container)

@@ -12,6 +12,7 @@
 mod container;
 mod fault;
 mod following;
+pub mod laws;
 mod link;
 mod submitting;
 mod version;

@@ -1,4 +1,4 @@
-use Rattle.std.proofs.Common.{◌≡◌, ap, ◌∙◌, sym, arith}
+use Rattle.std.proofs.Common.{ap, arith}
 use Rattle.fluid_loader.proofs.container.from_summary.Goals as goal
 
 pub invariant_of-result : goal.invariant_of-result

@@ -1,6 +1,4 @@
-use Rattle.std.proofs.Common.{◌≡◌, ℕ, ◌+◌, ◌^◌, ◌≤◌, refl, sym, ap, ◌∙◌, arith}
-use Rattle.fluid_types.specs.Quorum.{Quorum}
-use Rattle.fluid_loader.specs.Container.{settled}
+use Rattle.std.proofs.Common.{◌≡◌, ◌+◌, refl, sym, ap, ◌∙◌, arith}
 use Rattle.fluid_loader.proofs.Behind.{kept_behind}
 use Rattle.fluid_loader.proofs.container.Container.take.Goals as goal
 

@@ -1,5 +1,4 @@
-use Rattle.std.proofs.Common.{rules, ◌≡◌, ℕ, suc, ◌+◌, ◌∷◌, List, length, ap, sym, ◌∙◌, arith}
-use Rattle.fluid_types.specs.declared.messages.Message.{Message}
+use Rattle.std.proofs.Common.{rules, ◌≡◌, suc, ◌∷◌, length, ap, arith}
 use Rattle.fluid_loader.proofs.Behind.{front_more, next_ones, next_number, stops_in_front}
 use Rattle.fluid_loader.proofs.container.Container.take_all.Goals as goal
 
