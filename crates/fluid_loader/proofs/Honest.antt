@@ -117,19 +117,19 @@ module _ (back : IsReadBack) (held : Held) where
 
   -- ---- a channel
 
-  abbrev content_name : List ℕ
+  abbrev pub content_name : List ℕ
   content_name = codes "content"
 
-  abbrev kind_name : List ℕ
+  abbrev pub kind_name : List ℕ
   kind_name = codes "kind"
 
-  abbrev pair : Summary → Summary → Children
+  abbrev pub pair : Summary → Summary → Children
   pair content kind = child content_name content (child kind_name kind no_children)
 
   channel_is : (channel : Channel) → channel_node channel ≡ tree (pair (blob (content_of channel)) (blob (kind_word (kind_of channel))))
   channel_is channel = refl
 
-  two_names : AllUtf8 (content_name ∷ kind_name ∷ [])
+  pub two_names : AllUtf8 (content_name ∷ kind_name ∷ [])
   two_names = (plain_utf8 content_name refl, (plain_utf8 kind_name refl, tt))
 
   two_nodes : (n : ℕ) (es : List ObjectEntry) (content kind : List ℕ) → AllStand held es (pair (blob content) (blob kind))
@@ -215,19 +215,19 @@ module _ (back : IsReadBack) (held : Held) where
 
   module _ (channels : Channels) where
     -- an entry under whose name and id a channel stands
-    abbrev IsEntryOf : ObjectEntry → Type 0
+    abbrev pub IsEntryOf : ObjectEntry → Type 0
     IsEntryOf x = (channel : Channel) × ((get channels x.name ≡ Some channel) × ((x.tree ≡ true) × Stands held x.id (channel_node channel)))
 
-    abbrev nodes_of : Pairs → Children
+    abbrev pub nodes_of : Pairs → Children
     nodes_of cs = children (map (λ c. (c.0, channel_node c.1)) cs)
 
-    entries_of : (cs : Pairs) (es : List ObjectEntry) → AllByRecursion (λ c. get channels c.0 ≡ Some c.1) cs → AllStand held es (nodes_of cs) → Each IsEntryOf es
+    pub entries_of : (cs : Pairs) (es : List ObjectEntry) → AllByRecursion (λ c. get channels c.0 ≡ Some c.1) cs → AllStand held es (nodes_of cs) → Each IsEntryOf es
     entries_of [] [] known stand = tt
     entries_of [] (e ∷ es) known stand = absurd stand
     entries_of (c ∷ cs) [] known stand = absurd stand
     entries_of (c ∷ cs) (e ∷ es) known stand = ((c.1, (ap (get channels) stand.0 ∙ known.0, (stand.1.0, stand.1.1.1.0))), entries_of cs es known.1 stand.1.1.1.1)
 
-    has_name : (at : List ℕ) (channel : Channel) (cs : Pairs) (es : List ObjectEntry) → find byte_order at cs ≡ Some channel → AllStand held es (nodes_of cs) → Has (λ x. x.name ≡ at) es
+    pub has_name : (at : List ℕ) (channel : Channel) (cs : Pairs) (es : List ObjectEntry) → find byte_order at cs ≡ Some channel → AllStand held es (nodes_of cs) → Has (λ x. x.name ≡ at) es
     has_name at channel [] es is stand = cc
     has_name at channel (c ∷ cs) [] is stand = absurd stand
     has_name at channel (c ∷ cs) (e ∷ es) is stand = by_name (λ k. has_name at channel cs es k stand.1.1.1.1) (bytes_eq at c.0) refl (sym (ap (λ b. cond b (Some c.1) (find byte_order at cs)) (is_eq-slice_cmp at c.0)) ∙ is)
@@ -237,7 +237,7 @@ module _ (back : IsReadBack) (held : Held) where
         by_name later true own k = inl (stand.0 ∙ sym ((bytes_eq-Decides at c.0).0 own))
         by_name later false own k = inr (later k)
 
-    names_utf8 : (cs : Pairs) → AllByRecursion (λ c. IsName c.0) cs → AllUtf8 (names (nodes_of cs))
+    pub names_utf8 : (cs : Pairs) → AllByRecursion (λ c. IsName c.0) cs → AllUtf8 (names (nodes_of cs))
     names_utf8 [] h = tt
     names_utf8 (c ∷ cs) h = (name_utf8 c.0 h.0, names_utf8 cs h.1)
 

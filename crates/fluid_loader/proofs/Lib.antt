@@ -4,4 +4,6 @@ pub mod Loading
 pub mod Storable
 pub mod Honest
 pub mod Blobs
+pub mod Fetched
+pub mod Based
 pub mod Replayed

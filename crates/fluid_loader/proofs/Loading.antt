@@ -104,8 +104,8 @@ loaded_by pick old mid new first c number reads begins done =
 
 -- a container that was loaded from an honest summary is the replay of the whole order
 pub loaded_replays : IsWholeReplay → (pick : Pick) (old new : Linked) (c : AContainer) → Loaded pick old new c → (document : Document) → old.told ≡ Some document → IsOrder document.order
-    → IsHonestPick pick document → HasReplayed document.order c
+    → IsHonestPick pick document → HasReplayed document c
 loaded_replays law pick old new c loaded document is order honest =
     let begins : begun_in pick document ≡ Ok loaded.first = subst (λ told. Tells told (λ d. begun_in pick d ≡ Ok loaded.first)) is loaded.begins in
     let all : drop loaded.first.number document.order ≡ loaded.messages = subst (λ told. Tells told (λ d. drop loaded.first.number d.order ≡ loaded.messages)) is loaded.all in
-    subst (HasReplayed document.order) (sym (loaded.taken ∙ ap (behind old.client loaded.first) (sym all))) (law old.client document pick loaded.first order honest begins)
+    subst (HasReplayed document) (sym (loaded.taken ∙ ap (behind old.client loaded.first) (sym all))) (law old.client document pick loaded.first order honest begins)

@@ -1,5 +1,5 @@
 -- A container behind messages, and one that began with an honest summary.
-use Rattle.std.proofs.Common.{◌≡◌, ℕ, suc, ◌+◌, ◌^◌, ◌≤◌, ◌==◌, Bool, true, false, cond, ◌&&◌, List, [], ◌∷◌, ◌++◌, length, take, drop, Option, Some, None, Result, Ok, Err, codes, refl, sym, ap, subst, ◌∙◌, arith, append_assoc, append-nil}
+use Rattle.std.proofs.Common.{◌≡◌, ℕ, suc, bytes_eq, ◌+◌, ◌^◌, ◌≤◌, ◌==◌, Bool, true, false, cond, ◌&&◌, List, [], ◌∷◌, ◌++◌, length, take, drop, Option, Some, None, Result, Ok, Err, codes, refl, sym, ap, subst, ◌∙◌, arith, append_assoc, append-nil}
 use Rattle.std.specs.Prelude.{All}
 use Rattle.std.specs.List.{filter_map, cons_option}
 use Rattle.std.proofs.lemmas.List.{take-append-drop}
@@ -13,6 +13,7 @@ use Rattle.fluid_tree.specs.declared.object.Object.TheVariants.{Blob, Tree}
 use Rattle.fluid_tree.specs.declared.object.ObjectEntry.{ObjectEntry}
 use Rattle.fluid_types.specs.Blobs.{blobs_of}
 use Rattle.fluid_types.specs.Forms.{largest}
+use Rattle.fluid_types.specs.Ledger.{Ledger}
 use Rattle.fluid_types.specs.Order.{AreNumberedFrom, AreFirst}
 use Rattle.fluid_types.specs.Quorum.{Quorum, quorum_of}
 use Rattle.fluid_types.specs.declared.fault.BlobFault.{BlobFault}
@@ -34,15 +35,17 @@ use Rattle.fluid_edits.proofs.Replays.{replayed_on_law}
 use Rattle.fluid_runtime.specs.App.{after_any, left, is_op}
 use Rattle.fluid_runtime.specs.AppTree as app
 use Rattle.fluid_runtime.specs.AppTree.{app_tree}
+use Rattle.fluid_runtime.specs.Laws.{StaysSince, StaysUnmarked, IsMarked}
 use Rattle.fluid_store.specs.Held.{Held}
-use Rattle.fluid_store.specs.Standing.{AllStand, object_at}
+use Rattle.fluid_store.specs.Standing.{Stands, AllStand, object_at}
 use Rattle.fluid_store.proofs.Reread.{AllUtf8, standing_fit, reread_tree}
 use Rattle.fluid_loader.specs.Calls.{begun_of, or_bad, begun_picked}
 use Rattle.fluid_loader.specs.Container.{AContainer, empty, begun, is_from, taken_by, behind}
-use Rattle.fluid_loader.specs.Laws.{IsOrder, replayed, IsHonest, HasReplayed, IsWholeReplay}
+use Rattle.fluid_loader.specs.Laws.{IsOrder, AreNamed, IsBased, replayed, IsHonest, HasReplayed, IsWholeReplay}
 use Rattle.fluid_loader.specs.Link.{Document, picked}
 use Rattle.fluid_loader.specs.Version.{AVersion, ◌>>=◌, node_within, nodes_within, blob_under, under, of_number, channels_answer, quorum_answer, version_answer, entries_of, entries_at, id_named, version_at}
 use Rattle.fluid_loader.specs.declared.link.Pick.TheVariants.{Empty, Latest, Handle}
+use Rattle.fluid_loader.proofs.Based.{behind_based}
 use Rattle.fluid_loader.proofs.Blobs.{protocol_read}
 use Rattle.fluid_loader.proofs.Honest.{plain_utf8, two_in_order, keys_are, app_read}
 use Rattle.fluid_loader.proofs.Storable.{AreKept, none_kept, replay_kept}
@@ -140,7 +143,7 @@ parts_answer number a p v h =
       blob_ok protocol_name (quorum.answer p) three.0 three.1.0 ∙ ap Ok own ∙ ap (λ w. Ok w.1) same,
     )
 
-module _ (back : IsReadBack) (maps : map_laws.IsReadBack) (counters : counter_laws.IsReadBack) (only : IsOnlyBlobs) (law : GoesOn) (quorums : QuorumsAreReadBack) where
+module _ (back : IsReadBack) (maps : map_laws.IsReadBack) (counters : counter_laws.IsReadBack) (only : IsOnlyBlobs) (law : GoesOn) (quorums : QuorumsAreReadBack) (stays : StaysSince) (unmarked : StaysUnmarked) (marked : IsMarked) where
   module _ (order : List Message) (is_order : IsOrder order) (held : Held) (s : SummaryRef) where
     abbrev first_ones : List Message
     first_ones = take s.number order
@@ -178,7 +181,27 @@ module _ (back : IsReadBack) (maps : map_laws.IsReadBack) (counters : counter_la
           protocol_read back held (quorum_of first_ones) only (quorums first_ones numbered read_back) f v.1 rest.1.0 rest.1.1.1.0 parts.1,
         )
 
-    honest_version : (v : AVersion) → IsHonest held order s → version_at held s ≡ Ok v → (v.channels ≡ replayed order s.number) × (v.quorum ≡ quorum_of first_ones)
+    -- the id of the first entry is that of the channels' tree
+    base_by : (es got : List ObjectEntry) → AllStand held es (pair (app_tree (replayed order s.number)) (protocol (blobs_of (quorum_of first_ones)))) → got ≡ in_order es
+        → Stands held (id_named s.handle app_name got) (app_tree (replayed order s.number)) × (length (id_named s.handle app_name got) ≡ 20)
+    base_by [] got stand sorted = absurd stand
+    base_by (e ∷ []) got stand sorted = absurd stand.1.1.1.1
+    base_by (e ∷ f ∷ g ∷ gs) got stand sorted = absurd stand.1.1.1.1.1.1.1.1
+    base_by (e ∷ f ∷ []) got stand sorted =
+        let rest = stand.1.1.1.1 in
+        let as_they_are : in_order (e ∷ f ∷ []) ≡ e ∷ f ∷ [] = two_in_order e f (keys_are e f app_name protocol_name true true stand.0 stand.1.0 rest.0 rest.1.0) in
+        let own : id_named s.handle app_name got ≡ e.id =
+        ap (id_named s.handle app_name) (sorted ∙ as_they_are) ∙ ap (λ n. cond (bytes_eq n app_name) e.id (id_named s.handle app_name (f ∷ []))) stand.0 in
+        (subst (λ i. Stands held i (app_tree (replayed order s.number))) (sym own) stand.1.1.1.0, ap length own ∙ stand.1.1.0)
+
+    -- what is read of it, and where its channels' tree stands
+    record IsRight (v : AVersion) : Type 0 where
+      channels : v.channels ≡ replayed order s.number
+      quorum : v.quorum ≡ quorum_of first_ones
+      stands : Stands held v.base (app_tree (replayed order s.number))
+      size : length v.base ≡ 20
+
+    honest_version : (v : AVersion) → IsHonest held order s → version_at held s ≡ Ok v → IsRight v
     honest_version v stands h =
         let one = bind_ok (entries_at held s.handle) _ v h in
         let two = bind_ok (version_answer s.number (children (nodes_within held 2 one.0))) _ v one.1.1 in
@@ -189,44 +212,61 @@ module _ (back : IsReadBack) (maps : map_laws.IsReadBack) (counters : counter_la
         let sorted : one.0 ≡ in_order es = cc in
         let read = by_entries es one.0 two.0 stands.1.1.1 sorted two.1.0 in
         let made : record { channels = two.0.0; quorum = two.0.1; base = id_named s.handle app_name one.0 } ≡ v = let k = two.1.1 in cc in
-        (ap (λ (w : AVersion). w.channels) (sym made) ∙ read.0, ap (λ (w : AVersion). w.quorum) (sym made) ∙ read.1)
+        let base = base_by es one.0 stands.1.1.1 sorted in
+        record {
+          channels = ap (λ (w : AVersion). w.channels) (sym made) ∙ read.0;
+          quorum = ap (λ (w : AVersion). w.quorum) (sym made) ∙ read.1;
+          stands = subst (λ (w : AVersion). Stands held w.base (app_tree (replayed order s.number))) made base.0;
+          size = ap (λ (w : AVersion). length w.base) (sym made) ∙ base.1;
+        }
 
-    behind_honest : (client : List ℕ) (v : AVersion) → IsHonest held order s → version_at held s ≡ Ok v
-        → HasReplayed order (behind client (begun v.channels v.quorum s.number v.base) (drop s.number order))
-    behind_honest client v stands h =
-        let read = honest_version v stands h in
+    begun_based : (v : AVersion) → IsRight v → IsBased held (begun v.channels v.quorum s.number v.base)
+    begun_based v right = record {
+      earlier = v.channels;
+      named = subst AreNamed (sym right.channels) (λ at channel is. (kept at channel is).0);
+      size = right.size;
+      stands = subst (λ c. Stands held v.base (app_tree c)) (sym right.channels) right.stands;
+      since = marked v.channels;
+    }
+
+    behind_honest : (client : List ℕ) (ledger : Option Ledger) (v : AVersion) → IsHonest held order s → version_at held s ≡ Ok v
+        → HasReplayed (record { order = order; held = held; ledger = ledger }) (behind client (begun v.channels v.quorum s.number v.base) (drop s.number order))
+    behind_honest client ledger v stands h =
+        let right = honest_version v stands h in
         let first = begun v.channels v.quorum s.number v.base in
         let later = drop s.number order in
         let all = take-append-drop s.number order in
         record {
           channels =
-              behind_channels client first later ∙ ap (λ c. replay c later) read.0 ∙ sym (replayed_on_law no_channels first_ones later) ∙ ap (replay no_channels) all;
-          quorum = behind_quorum law client first first_ones later (subst AreFirst (sym all) is_order.numbered) read.1 ∙ ap quorum_of all;
+              behind_channels client first later ∙ ap (λ c. replay c later) right.channels ∙ sym (replayed_on_law no_channels first_ones later) ∙ ap (replay no_channels) all;
+          quorum = behind_quorum law client first first_ones later (subst AreFirst (sym all) is_order.numbered) right.quorum ∙ ap quorum_of all;
           pending = behind_pending client first later refl;
+          based = behind_based stays unmarked held client first later (begun_based v right);
         }
 
-  behind_nothing : (client : List ℕ) (order : List Message) → IsOrder order → HasReplayed order (behind client empty (drop 0 order))
-  behind_nothing client order is_order = record {
-    channels = behind_channels client empty order;
-    quorum = behind_quorum law client empty [] order is_order.numbered refl;
-    pending = behind_pending client empty order refl;
+  behind_nothing : (client : List ℕ) (document : Document) → IsOrder document.order → HasReplayed document (behind client empty (drop 0 document.order))
+  behind_nothing client document is_order = record {
+    channels = behind_channels client empty document.order;
+    quorum = behind_quorum law client empty [] document.order is_order.numbered refl;
+    pending = behind_pending client empty document.order refl;
+    based = behind_based stays unmarked document.held client empty document.order refl;
   }
 
   by_picked : (client : List ℕ) (document : Document) (o : Option SummaryRef) (first : AContainer) → IsOrder document.order
       → ((s : SummaryRef) → o ≡ Some s → IsHonest document.held document.order s) → begun_picked document.held o ≡ Ok first
-      → HasReplayed document.order (behind client first (drop first.number document.order))
+      → HasReplayed document (behind client first (drop first.number document.order))
   by_picked client document None first is_order honest h = cc
   by_picked client document (Some s) first is_order honest h = by_version (version_at document.held s) refl h
     where
-      by_version : (r : Result AVersion (List ℕ)) → version_at document.held s ≡ r → or_bad (begun_of s.number r) ≡ Ok first → HasReplayed document.order (behind client first (drop first.number document.order))
+      by_version : (r : Result AVersion (List ℕ)) → version_at document.held s ≡ r → or_bad (begun_of s.number r) ≡ Ok first → HasReplayed document (behind client first (drop first.number document.order))
       by_version (Err path) is k = cc
       by_version (Ok v) is k =
           let made : begun v.channels v.quorum s.number v.base ≡ first = cc in
-          subst (λ c. HasReplayed document.order (behind client c (drop c.number document.order))) made (behind_honest document.order is_order document.held s client v (honest s refl) is)
+          subst (λ c. HasReplayed document (behind client c (drop c.number document.order))) made (behind_honest document.order is_order document.held s client document.ledger v (honest s refl) is)
 
   pub whole_replay : IsWholeReplay
   whole_replay client document Empty first is_order honest h =
       let made : empty ≡ first = cc in
-      subst (λ c. HasReplayed document.order (behind client c (drop c.number document.order))) made (behind_nothing client document.order is_order)
+      subst (λ c. HasReplayed document (behind client c (drop c.number document.order))) made (behind_nothing client document is_order)
   whole_replay client document Latest first is_order honest h = by_picked client document (picked Latest document.order) first is_order honest h
   whole_replay client document (Handle id) first is_order honest h = by_picked client document (picked (Handle id) document.order) first is_order honest h

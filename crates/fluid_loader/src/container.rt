@@ -1,15 +1,17 @@
 //! A document as one client has it.
 ghost use Rattle.std.specs.Prelude.{◌≡◌, ◌⊎◌, ◌<◌, ◌≤◌, ◌^◌, ◌+◌, ◌-◌, ℕ, List, Some, IfOk, IfErr, OnOk, OnErr, length, option_map};
+ghost use Rattle.fluid_io.specs.Causes.{Tells};
 ghost use Rattle.fluid_rules.specs.Scribe.{handling, is_ack};
 ghost use Rattle.fluid_runtime.specs.AppTree.{app_tree};
 ghost use Rattle.fluid_runtime.specs.Shown.{shown};
+ghost use Rattle.fluid_store.specs.Standing.{Stands};
 ghost use Rattle.fluid_loader.specs.Container.{empty, acknowledged, is_from, taken_by, behind};
 ghost use Rattle.fluid_loader.specs.Calls.{Answers, LoadsOnly, LoadDoes, LoadReads, begun_in, begun_picked, Fetched, ReadStops, PumpDoes, PumpReads, Submits, IsBehindFront, ProposeSays, counted, op_of, noop_of, summarize_of, shown_channels, EditLeaves, EditSays, Uploaded, UploadsTree, SummarizeDoes, Picked, Begins, since, failure};
-ghost use Rattle.fluid_loader.specs.Laws.{HasReplayed, IsHonestPick, IsOrder};
+ghost use Rattle.fluid_loader.specs.Laws.{HasReplayed, IsBased, IsHonestPick, IsOrder, IsShort};
 ghost use Rattle.fluid_loader.specs.Link.{AreFrom, Document, Fits, picked};
 
 use crate::following::Following;
-use crate::laws::honest_summaries_are_replayed;
+use crate::laws::{honest_summaries_are_replayed, uploads_are_whole};
 use crate::submitting::{numbered, summarize};
 use crate::version::{Version, read_version};
 use crate::{Given, Link, LinkFault, LoadFault, Pick};
@@ -17,6 +19,7 @@ use fluid_io::FaultNote;
 use fluid_json::{Json, NoMemory};
 use fluid_quorum::Quorum;
 use fluid_runtime::{App, Edit, EditFault};
+use fluid_store::laws::what_stands_goes_on_standing;
 use fluid_tree::{Id, Node, SummaryRef};
 use fluid_types::{ClientId, Field, Kind, Message, Messages, Offered, Submission};
 use std::alloc::Global;
@@ -57,7 +60,7 @@ impl Container {
         ensures reads { LoadsOnly (L.seen link.old) (L.seen link.new) }
         ensures does { LoadDoes pick.now (L.seen link.old) (L.seen link.new) result }
         ensures replays { IfOk result (λ container. (document : Document) → (L.seen link.old).told ≡ Some document → IsOrder document.order →
-            IsHonestPick pick.now document → HasReplayed document.order container) }
+            IsHonestPick pick.now document → HasReplayed document container) }
     {
         honest_summaries_are_replayed();
         let mut container = begin(alloc, link, pick)?;
@@ -159,12 +162,17 @@ impl Container {
     }
 
     /// Uploads the tree of the channels and asks for it to be acknowledged, at the container's number. A channel that hasn't
-    /// changed since the last upload, or since the summary that was loaded, is a handle.
+    /// changed since the last upload, or since the summary that was loaded, is a handle. Where the link tells what is held, and the
+    /// tree since which it is told what has changed stands there, the whole tree of the channels stands under the id that is answered.
     pub fn summarize<L: Link>(&mut self, alloc: Global, link: &mut L) -> Result<Id, LoadFault>
         requires { (id : List ℕ) → length id ≡ 20 → Fits (L.seen link.old).client (summarize_of self.old id) }
         ensures lent { L.lent link.new ≡ L.lent link.old }
         ensures does { SummarizeDoes self.old self.new (L.seen link.old) (L.seen link.new) result }
+        ensures stands { IfOk result (λ id. (document : Document) → (L.seen link.old).told ≡ Some document → IsShort document.held → IsBased document.held self.old →
+            Tells (L.seen link.new).told (λ now. Stands now.held id (app_tree self.old.channels))) }
     {
+        uploads_are_whole();
+        what_stands_goes_on_standing();
         let id = self.upload(alloc, link)?;
         id.as_bytes();
         self.propose(alloc, link, &id)?;
