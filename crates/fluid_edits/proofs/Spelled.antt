@@ -1,11 +1,16 @@
 -- What the contents of an edit's op spell, and the worked examples.
-use Rattle.std.proofs.Common.{◌≡◌, ℕ, ◌≤◌, List, Ok, codes, refl, ap, ◌∙◌, arith}
+use Rattle.std.proofs.Common.{◌≡◌, ℕ, ◌≤◌, List, Ok, codes, pos, negsuc, refl, sym, ap, ◌∙◌, arith, rules}
+use Rattle.fluid_edits.specs.declared.edit.Edit.{Edit}
+use Rattle.fluid_edits.specs.Forms.{address_of}
+use Rattle.fluid_types.specs.Names.{IsName}
+use Rattle.std.specs.Fmt.{digits}
 use Rattle.std.specs.List.{filter_map}
 use Rattle.std.specs.FinMap.{get-empty}
 use Rattle.json.specs.Print.{escape_byte}
 use Rattle.fluid_json.specs.Printed as json
+use Rattle.fluid_json.specs.Printed.{printed}
 use Rattle.fluid_json.specs.Spelled.{answer}
-use Rattle.fluid_json.specs.Tree.{Tree, IsCanonical, depth}
+use Rattle.fluid_json.specs.Tree.{Tree, text, whole, IsCanonical, depth}
 use Rattle.fluid_json.proofs.ReadBack.{answers_itself}
 use Rattle.fluid_table.specs.Table.{byte_order}
 use Rattle.fluid_types.specs.Contents.{body}
@@ -15,7 +20,7 @@ use Rattle.fluid_edits.specs.declared.edit.Edit.TheVariants.{Attach, Set, Delete
 use Rattle.fluid_edits.specs.Forms.{edit_in, edit_of, contents_of}
 use Rattle.fluid_edits.specs.Replay.{channel_behind, no_channels}
 use Rattle.fluid_edits.specs.Laws.{IsSpelled}
-use Rattle.fluid_edits.specs.Examples.{m, n, order, attach, OnlyBehindItsAttach, OtherFormsCountForNothing, TextIsSpelled}
+use Rattle.fluid_edits.specs.Examples.{m, n, order, attach, OnlyBehindItsAttach, OtherFormsCountForNothing, TextIsSpelled, IsTextOf, EachOpHasItsText}
 use Rattle.fluid_edits.proofs.Replays.{first_attach_law}
 
 pub spelled_law : IsSpelled
@@ -48,3 +53,26 @@ attach_text = spells _ (attach m (codes "map")) refl ((refl, (refl, tt)), (tt, (
 pub text_is_spelled : TextIsSpelled
 unfolding edit_in body is_name
 text_is_spelled = rw attach_text refl
+
+-- ---- the text of each op
+
+read_by : (written : List ℕ) (t : Tree) → answer written ≡ Ok t → body (text written) ≡ t
+unfolding body
+read_by written t is = rw is refl
+
+text_of : (edit : Edit) (written : List ℕ) → IsName (address_of edit) → printed (contents_of edit) ≡ written → IsCanonical (contents_of edit) → depth (contents_of edit) ≤ 100 → IsTextOf edit written
+text_of edit written named is canonical shallow = record {
+  printed_so = is;
+  read_so = ap edit_in (read_by written (contents_of edit) (spells written (contents_of edit) (sym is) canonical shallow)) ∙ spelled_law edit named;
+}
+
+pub each_op_has_its_text : EachOpHasItsText
+unfolding contents_of escape_byte is_name digits
+each_op_has_its_text = record {
+  of_map = text_of (Attach m Map) _ refl refl (search rules) (omega arith);
+  of_counter = text_of (Attach n Counter) _ refl refl (search rules) (omega arith);
+  set_plain = text_of (Set m (codes "k") (whole (pos 1))) _ refl refl (search rules) (omega arith);
+  deletes = text_of (Delete m (codes "k")) _ refl refl (search rules) (omega arith);
+  clears = text_of (Clear m) _ refl refl (search rules) (omega arith);
+  adds = text_of (Increment n (negsuc 2)) _ refl refl (search rules) (omega arith);
+}

@@ -1,13 +1,15 @@
 -- Worked examples: small orders, and which channels they leave.
-use Rattle.std.specs.Prelude.{◌≡◌, ℕ, pos, List, [], ◌∷◌, Some, None, codes}
+use Rattle.std.specs.Prelude.{◌≡◌, ℕ, pos, negsuc, List, [], ◌∷◌, Some, None, codes}
 use Rattle.std.specs.FinMap.{empty, get, insert}
 use Rattle.fluid_json.specs.Tree.{Tree, null, whole, text, object, members}
 use Rattle.fluid_types.specs.declared.messages.Kind.{Kind}
 use Rattle.fluid_types.specs.declared.messages.Kind.TheVariants.{Op, Noop}
 use Rattle.fluid_types.specs.declared.messages.Message.{Message}
-use Rattle.fluid_edits.specs.declared.edit.ChannelKind.TheVariants.{Map}
-use Rattle.fluid_edits.specs.declared.edit.Edit.TheVariants.{Attach}
-use Rattle.fluid_edits.specs.Forms.{edit_of}
+use Rattle.fluid_json.specs.Printed.{printed}
+use Rattle.fluid_edits.specs.declared.edit.ChannelKind.TheVariants.{Map, Counter}
+use Rattle.fluid_edits.specs.declared.edit.Edit.{Edit}
+use Rattle.fluid_edits.specs.declared.edit.Edit.TheVariants.{Attach, Set, Delete, Clear, Increment}
+use Rattle.fluid_edits.specs.Forms.{edit_of, contents_of}
 use Rattle.fluid_edits.specs.Replay.{a_map, a_counter, no_channels, replay}
 
 -- a message of client A
@@ -96,3 +98,17 @@ pub record OtherFormsCountForNothing : Type 0 where
 -- the text {"address":"m","kind":"map","type":"attach"} as contents
 abbrev pub TextIsSpelled : Type 0
 TextIsSpelled = edit_of (message Op 1 (text (codes "{\"address\":\"m\",\"kind\":\"map\",\"type\":\"attach\"}"))) ≡ Some (Attach m Map)
+
+-- the op of the edit has this text, and contents that are this text spell the edit
+pub record IsTextOf (edit : Edit) (written : List ℕ) : Type 0 where
+  pub printed_so : printed (contents_of edit) ≡ written
+  pub read_so : edit_of (message Op 1 (text written)) ≡ Some edit
+
+-- the text of each op
+pub record EachOpHasItsText : Type 0 where
+  pub of_map : IsTextOf (Attach m Map) (codes "{\"address\":\"m\",\"kind\":\"map\",\"type\":\"attach\"}")
+  pub of_counter : IsTextOf (Attach n Counter) (codes "{\"address\":\"n\",\"kind\":\"counter\",\"type\":\"attach\"}")
+  pub set_plain : IsTextOf (Set m (codes "k") (whole (pos 1))) (codes "{\"address\":\"m\",\"contents\":{\"key\":\"k\",\"type\":\"set\",\"value\":{\"type\":\"Plain\",\"value\":1}}}")
+  pub deletes : IsTextOf (Delete m (codes "k")) (codes "{\"address\":\"m\",\"contents\":{\"key\":\"k\",\"type\":\"delete\"}}")
+  pub clears : IsTextOf (Clear m) (codes "{\"address\":\"m\",\"contents\":{\"type\":\"clear\"}}")
+  pub adds : IsTextOf (Increment n (negsuc 2)) (codes "{\"address\":\"n\",\"contents\":{\"incrementAmount\":-3,\"type\":\"increment\"}}")

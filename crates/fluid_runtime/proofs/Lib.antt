@@ -6,4 +6,5 @@ pub mod Laid
 pub mod Marked
 pub mod Reading
 pub mod ReadBack
+pub mod AnyOrder
 pub mod Since

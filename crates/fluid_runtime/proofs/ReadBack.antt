@@ -51,7 +51,7 @@ unfolding total_in
 counter_said true read total fault is = ap (λ r. Some (a_counter (total_in read r))) is
 counter_said false read total fault is = cc
 
-read_in : map_laws.IsReadBack → counter_laws.IsReadBack → (channel : Channel) → IsStorable channel → channel_in (kind_of channel) (content_of channel) ≡ Some channel
+pub read_in : map_laws.IsReadBack → counter_laws.IsReadBack → (channel : Channel) → IsStorable channel → channel_in (kind_of channel) (content_of channel) ≡ Some channel
 read_in maps counters (a_map values) is =
     map_said (map_content.is_content (map_content.content values)) (map_content.values_in (map_content.content values)) values map_content.bad_content
     (maps values is.0 is.1.0 is.1.1)
@@ -70,7 +70,7 @@ by_tests true false one other is none = refl
 by_tests true true one other is none = absurd (false≢true (sym none))
 by_tests false stands one other is none = absurd (false≢true is)
 
-read_entry : (so_far : Channels) (at : List ℕ) (channel : Channel) → IsName at → get so_far at ≡ None → channel_in (kind_of channel) (content_of channel) ≡ Some channel
+pub read_entry : (so_far : Channels) (at : List ℕ) (channel : Channel) → IsName at → get so_far at ≡ None → channel_in (kind_of channel) (content_of channel) ≡ Some channel
     → entry_answer so_far at (channel_node channel) ≡ Ok channel
 read_entry so_far at channel name none is =
     by_tests (is_name at) (is_some (get so_far at)) (subtree at (as_children (channel_node channel))) (BadBlob at) name (ap is_some none) ∙ read_channel at channel is

@@ -13,10 +13,11 @@ use Rattle.fluid_handles.specs.Resolved.{resolved, all_resolved, named, at_path,
 use Rattle.fluid_edits.specs.declared.edit.Edit.{Edit}
 use Rattle.fluid_edits.specs.Forms.{address_of}
 use Rattle.fluid_edits.specs.Replay.{Channel, Channels, told, put_if_any}
-use Rattle.fluid_runtime.specs.App.{after_any, changed_by, marked_if}
+use Rattle.fluid_runtime.specs.App.{after_any, changed_by, marked_if, all_are}
 use Rattle.fluid_runtime.specs.AppTree.{channel_node, app_tree, node_since, tree_since}
-use Rattle.fluid_runtime.specs.Laws.{IsSince}
-use Rattle.fluid_runtime.proofs.Nodes.{found_there}
+use Rattle.fluid_runtime.specs.Laws.{IsSince, IsUnmarked}
+use Rattle.fluid_runtime.proofs.Each.{each_inserted, get_found}
+use Rattle.fluid_runtime.proofs.Nodes.{found_there, map_alike}
 
 -- ---- it stays so
 
@@ -81,3 +82,28 @@ whole_tree earlier channels changed since =
     ap (λ r. r >>= λ nodes. Ok (tree nodes))
     (all_nodes (Some (app_tree earlier)) (node_since changed) (λ at channel. channel_node channel) (entries channels)
     (λ n d within. one_node earlier channels changed since (get_or (entries channels) n d).0 (get_or (entries channels) n d).1 (found_there channels n d within)))
+
+-- ---- without a mark
+
+one_marked : (channels : Channels) (at : List ℕ) (said : Option Channel) → marked_if (all_are true channels) at (is_some said) ≡ all_are true (put_if_any channels at said)
+one_marked channels at None = refl
+one_marked channels at (Some put) = sym (each_inserted (λ channel. true) channels at put)
+
+pub still_unmarked : (channels : Channels) (changed : Values Bool) (edit : Option Edit) → IsUnmarked channels changed → IsUnmarked (after_any channels edit) (changed_by channels changed edit)
+still_unmarked channels changed None unmarked = unmarked
+still_unmarked channels changed (Some edit) unmarked =
+    let said = told edit (get channels (address_of edit)) in
+    ap (λ marks. marked_if marks (address_of edit) (is_some said)) unmarked ∙ one_marked channels (address_of edit) said
+
+whole_node : (channels : Channels) (at : List ℕ) (channel : Channel) → get channels at ≡ Some channel → node_since (all_are true channels) at channel ≡ channel_node channel
+whole_node channels at channel found =
+    ap (λ said. if unwrap_or said true then channel_node channel else handle (at ∷ [])) (get_found (λ one. true) channels at channel found)
+
+pub whole_unmarked : (channels : Channels) (changed : Values Bool) → IsUnmarked channels changed → tree_since changed channels ≡ app_tree channels
+whole_unmarked channels changed unmarked =
+    ap (λ marks. tree_since marks channels) unmarked
+    ∙ ap (λ nodes. tree (children nodes))
+    (map_alike (λ e. (e.0, node_since (all_are true channels) e.0 e.1)) (λ e. (e.0, channel_node e.1)) (entries channels)
+    (λ n d within.
+    let e = get_or (entries channels) n d in
+    ap (λ node. (e.0, node)) (whole_node channels e.0 e.1 (found_there channels n d within))))

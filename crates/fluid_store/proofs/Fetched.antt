@@ -24,6 +24,7 @@ use Rattle.fluid_store.specs.Keeping.{IsNoted, LookSays}
 use Rattle.fluid_store.specs.Laws.{IsFetchedStanding}
 use Rattle.fluid_store.specs.Fetching.{◌>>=◌, read_as, found_as, found, is_of_kind, child_by, nodes_by, tree_by, node_within, fetched, Answers}
 use Rattle.fluid_store.specs.declared.fault.StoreFault.{StoreFault}
+use Rattle.fluid_store.proofs.Sized.{Each, IsSized, ids_read}
 use Rattle.fluid_store.specs.declared.fault.StoreFault.TheVariants.{StoreFailed, Clash, Missing, BadObject, Tree as OfTree, NoPath, NoMemory}
 
 -- ---- what is told
@@ -258,7 +259,7 @@ names_stand : (held : Held) (entries : List ObjectEntry) (cs : Children) → All
 names_stand held [] no_children h = refl
 names_stand held [] (child n s cs) h = absurd h
 names_stand held (e ∷ entries) no_children h = absurd h
-names_stand held (e ∷ entries) (child n s cs) h = ap₂ (λ x l. x ∷ l) h.0 (names_stand held entries cs h.1.1.1)
+names_stand held (e ∷ entries) (child n s cs) h = ap₂ (λ x l. x ∷ l) h.0 (names_stand held entries cs h.1.1.1.1)
 
 -- the names of a tree that is held are names
 named : AreNamed → (held : Held) (id : List ℕ) (entries : List ObjectEntry) → object_at held id ≡ Some (Tree entries) → first_refused [] (map (λ e. e.name) entries) ≡ None
@@ -269,6 +270,18 @@ named law held id entries h = by_found (get held id) h
     by_read bytes (Err fault) e same = cc
 
     by_found : (bytes : Option (List ℕ)) → option_and_then (λ b. result_ok (object_read b)) bytes ≡ Some (Tree entries) → first_refused [] (map (λ e. e.name) entries) ≡ None
+    by_found None h = cc
+    by_found (Some bytes) h = by_read bytes (object_read bytes) refl h
+
+-- the entries of a tree that is held have ids of 20 bytes
+pub sized : (held : Held) (id : List ℕ) (entries : List ObjectEntry) → object_at held id ≡ Some (Tree entries) → Each IsSized entries
+sized held id entries h = by_found (get held id) h
+  where
+    by_read : (bytes : List ℕ) (r : Result Object _) → object_read bytes ≡ r → result_ok r ≡ Some (Tree entries) → Each IsSized entries
+    by_read bytes (Ok p) e same = let is : p ≡ Tree entries = cc in ids_read bytes entries (e ∙ ap Ok is)
+    by_read bytes (Err fault) e same = cc
+
+    by_found : (bytes : Option (List ℕ)) → option_and_then (λ b. result_ok (object_read b)) bytes ≡ Some (Tree entries) → Each IsSized entries
     by_found None h = cc
     by_found (Some bytes) h = by_read bytes (object_read bytes) refl h
 
@@ -293,9 +306,9 @@ module _ (law : IsOfBytes) (named_law : AreNamed) (held : Held) where
   abbrev pub IsGood : ℕ → Type 0
   IsGood levels = (id : List ℕ) (o : Object) (s : Summary) → object_at held id ≡ Some o → Ok s ≡ node_within held levels o → Good levels id o s
 
-  all_good : (n : ℕ) → IsGood n → (entries : List ObjectEntry) (cs : Children) → Ok cs ≡ nodes_by (child_by held (node_within held n)) entries → AllStand held entries cs × (children_depth cs ≤ n)
-  all_good n good [] cs h = let is : no_children ≡ cs = cc in subst (λ ds. AllStand held [] ds × (children_depth ds ≤ n)) is (tt, omega arith)
-  all_good n good (e ∷ entries) cs h =
+  all_good : (n : ℕ) → IsGood n → (entries : List ObjectEntry) (cs : Children) → Each IsSized entries → Ok cs ≡ nodes_by (child_by held (node_within held n)) entries → AllStand held entries cs × (children_depth cs ≤ n)
+  all_good n good [] cs known h = let is : no_children ≡ cs = cc in subst (λ ds. AllStand held [] ds × (children_depth ds ≤ n)) is (tt, omega arith)
+  all_good n good (e ∷ entries) cs known h =
       let first = bind_ok (child_by held (node_within held n) e) _ cs h in
       let more = bind_ok (nodes_by (child_by held (node_within held n)) entries) _ cs first.1.1 in
       let s = first.0 in
@@ -303,8 +316,8 @@ module _ (law : IsOfBytes) (named_law : AreNamed) (held : Held) where
       let at = bind_ok (found held e.id) _ s first.1.0 in
       let kind = kind_by (is_of_kind e.tree at.0) (node_within held n at.0) (BadObject e.id 0) s at.1.1 in
       let one = good e.id at.0 s (object_found held e.id at.0 at.1.0) kind.1 in
-      let rest = all_good n good entries more.0 more.1.0 in
-      subst (λ ds. AllStand held (e ∷ entries) ds × (children_depth ds ≤ n)) is ((refl, (kind_is e.tree at.0 s kind.0 one.1, (one.0.0, rest.0))), omega (arith, one.0.1, rest.1))
+      let rest = all_good n good entries more.0 known.1 more.1.0 in
+      subst (λ ds. AllStand held (e ∷ entries) ds × (children_depth ds ≤ n)) is ((refl, (kind_is e.tree at.0 s kind.0 one.1, (known.0, (one.0.0, rest.0)))), omega (arith, one.0.1, rest.1))
 
   good_blob : (levels : ℕ) (id content : List ℕ) (s : Summary) → object_at held id ≡ Some (Blob content) → Ok s ≡ node_within held levels (Blob content) → Good levels id (Blob content) s
   good_blob levels id content s here h =
@@ -315,7 +328,7 @@ module _ (law : IsOfBytes) (named_law : AreNamed) (held : Held) where
   good_tree n good id entries s here h =
       let by = bind_ok (nodes_by (child_by held (node_within held n)) entries) (λ cs. Ok (tree cs)) s (h ∙ sym (tree_within held (suc n) n entries refl)) in
       let is : tree by.0 ≡ s = let k = by.1.1 in cc in
-      let all = all_good n good entries by.0 by.1.0 in
+      let all = all_good n good entries by.0 (sized held id entries here) by.1.0 in
       let names_good = sym (ap (first_refused []) (names_stand held entries by.0 all.0)) ∙ named named_law held id entries here in
       subst (λ t. Good (suc n) id (Tree entries) t) is (((names_good, (entries, (tree_held law held id entries here, all.0))), omega (arith, all.1)), refl)
 

@@ -3,11 +3,13 @@ mod Added
 mod FoundOrPut
 mod Lists
 mod Distinct
+pub mod Sized
 mod Stood
 mod Stops
 mod Putting
 mod Fetched
 mod Looked
 mod Stays
-mod Whole
+pub mod Whole
+pub mod Reread
 mod Resolving

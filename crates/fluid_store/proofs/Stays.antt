@@ -28,7 +28,7 @@ module _ (old new : Held) (keeps : Keeps old new) where
     all_still no_children [] h = tt
     all_still no_children (e ∷ entries) h = absurd h
     all_still (child name node nodes) [] h = absurd h
-    all_still (child name node nodes) (e ∷ entries) h = (h.0, (h.1.0, (stands_still node e.id h.1.1.0, all_still nodes entries h.1.1.1)))
+    all_still (child name node nodes) (e ∷ entries) h = (h.0, (h.1.0, (h.1.1.0, (stands_still node e.id h.1.1.1.0, all_still nodes entries h.1.1.1.1))))
 
   object_still : (id : List ℕ) (o : Object) → object_at old id ≡ Some o → object_at new id ≡ Some o
   object_still id o h = by_found (get old id) refl h

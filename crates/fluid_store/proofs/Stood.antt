@@ -14,6 +14,7 @@ use Rattle.fluid_store.specs.Keeping.{Holds}
 use Rattle.fluid_store.specs.Listed.{own_bytes, own_entries, object_of, in_key_order, joined, objects, keyed}
 use Rattle.fluid_store.specs.Standing.{Stands, AllStand}
 use Rattle.fluid_store.proofs.Distinct.{EachHolds, all_below, both_hold}
+use Rattle.fluid_store.proofs.Sized.{id_size}
 
 goes : {A B : Type 0} (r : Result A TreeFault) (f : A → Result B TreeFault) (b : B) → (r >>= f) ≡ Ok b → (a : A) × ((r ≡ Ok a) × (f a ≡ Ok b))
 goes (Ok a) f b h = (a, (refl, h))
@@ -121,4 +122,4 @@ mutual
   all_stand held n (child m s cs) es h each =
       let w = entry_within n m s cs es h in
       let parts = subst (EachHolds held) (keyed_child m s cs) each in
-      subst (λ l. AllStand held l (child m s cs)) (sym (own_of_child m s cs)) (refl, (refl, (stands held n s w.0 w.1.0 parts.0, all_stand held n cs w.1.1.0 w.1.1.1.0 parts.1)))
+      subst (λ l. AllStand held l (child m s cs)) (sym (own_of_child m s cs)) (refl, (refl, (id_size (own_bytes s), (stands held n s w.0 w.1.0 parts.0, all_stand held n cs w.1.1.0 w.1.1.1.0 parts.1))))

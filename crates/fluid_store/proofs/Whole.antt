@@ -1,15 +1,14 @@
 -- A tree whose objects are held is complete: the bytes of each of them are read back.
-use Rattle.std.proofs.Common.{◌≡◌, ◌≢◌, ℕ, zero, suc, ◌-◌, ◌*◌, ◌^◌, ◌<◌, ◌≤◌, ◌&&◌, ◌||◌, not, List, [], ◌∷◌, ◌++◌, length, map, flat_map, fold, Bool, true, false, Some, None, option_and_then, Ok, Ordering, Less, Equal, Greater, decimal, w32, refl, sym, ap, ap₂, subst, ◌∙◌, arith, append_assoc, length-append}
-use Rattle.std.specs.Prelude.{codes, slice_get, slice_index}
-use Rattle.std.specs.Int.{to_be_bytes}
+use Rattle.std.proofs.Common.{◌≡◌, ◌≢◌, ℕ, zero, suc, ◌-◌, ◌^◌, ◌<◌, ◌&&◌, ◌||◌, not, List, [], ◌∷◌, ◌++◌, length, map, flat_map, fold, Bool, true, false, Some, None, option_and_then, Ok, Ordering, Less, Equal, Greater, refl, sym, ap, ap₂, subst, ◌∙◌, arith, append_assoc}
+use Rattle.std.specs.Prelude.{codes, slice_get}
 use Rattle.std.specs.Result.{result_ok}
-use Rattle.std.specs.List.{list_all, list_any, AllByRecursion}
+use Rattle.std.specs.List.{list_all, list_any}
 use Rattle.std.specs.Ordering.{match_ordering, ordering_reverse, is_lt}
 use Rattle.std.specs.Str.{IsUtf8, bytes_eq}
 use Rattle.std.specs.FinMap.{get}
 use Rattle.std.proofs.lemmas.Bool.{or_parts}
 use Rattle.std.proofs.lemmas.Slice.Eq.{bytes_eq-Decides}
-use Rattle.sha1.specs.Sha1.{sha1, digest_bytes}
+use Rattle.sha1.specs.Sha1.{sha1}
 use Rattle.fluid_tree.specs.Identity.{id_within, entries_within}
 use Rattle.fluid_tree.specs.Laws.{AreWhole, IsReadBack}
 use Rattle.fluid_tree.specs.Names.{is_bad, first_refused}
@@ -28,22 +27,16 @@ use Rattle.fluid_store.specs.Complete.{is_whole, is_complete}
 use Rattle.fluid_store.proofs.Maps.{byte_order_total, byte_order-IsAntisymmetric}
 use Rattle.fluid_store.proofs.Distinct.{EachHolds, all_below, both_hold, unrefused, names_apart}
 use Rattle.fluid_store.proofs.Looked.{complete_more, blob_complete}
+use Rattle.fluid_store.proofs.Sized.{Each, each_last, id_size, body_size}
 use Rattle.fluid_store.proofs.Stood.{tree_within, no_tree, entry_within, own_of_tree, own_of_child, none_own, own_of_blob, no_handle, objects_of_blob, objects_of_tree, keyed_child, id_is}
 
 -- ---- lists of which each element has a property
 
-abbrev Each : (ObjectEntry → Type 0) → List ObjectEntry → Type 0
-Each = AllByRecursion
-
-each_then : (P Q : ObjectEntry → Type 0) → ((e : ObjectEntry) → P e → Q e) → (es : List ObjectEntry) → Each P es → Each Q es
+pub each_then : (P Q : ObjectEntry → Type 0) → ((e : ObjectEntry) → P e → Q e) → (es : List ObjectEntry) → Each P es → Each Q es
 each_then P Q f [] h = tt
 each_then P Q f (e ∷ es) h = (f e h.0, each_then P Q f es h.1)
 
-each_last : (P : ObjectEntry → Type 0) (es : List ObjectEntry) (e : ObjectEntry) → Each P es → P e → Each P (es ++ e ∷ [])
-each_last P [] e h p = (p, tt)
-each_last P (f ∷ fs) e h p = (h.0, each_last P fs e h.1 p)
-
-each_placed : (P : ObjectEntry → Type 0) (e : ObjectEntry) (es : List ObjectEntry) → P e → Each P es → Each P (placed e es)
+pub each_placed : (P : ObjectEntry → Type 0) (e : ObjectEntry) (es : List ObjectEntry) → P e → Each P es → Each P (placed e es)
 each_placed P e [] p h = (p, tt)
 each_placed P e (f ∷ fs) p h = by_order (byte_order (sort_key e.tree e.name) (sort_key f.tree f.name)) (each_placed P e fs p h.1)
   where
@@ -52,26 +45,26 @@ each_placed P e (f ∷ fs) p h = by_order (byte_order (sort_key e.tree e.name) (
     by_order Equal more = (p, h.1)
     by_order Greater more = (h.0, more)
 
-each_in_order : (P : ObjectEntry → Type 0) (acc es : List ObjectEntry) → Each P acc → Each P es → Each P (fold (λ sorted e. placed e sorted) acc es)
+pub each_in_order : (P : ObjectEntry → Type 0) (acc es : List ObjectEntry) → Each P acc → Each P es → Each P (fold (λ sorted e. placed e sorted) acc es)
 each_in_order P acc [] a h = a
 each_in_order P acc (e ∷ es) a h = each_in_order P (placed e acc) es (each_placed P e acc h.0 a) h.1
 
 -- ---- entries in the order of their keys, no two of one name
 
-abbrev key : ObjectEntry → List ℕ
+abbrev pub key : ObjectEntry → List ℕ
 key e = sort_key e.tree e.name
 
-abbrev IsBefore : ObjectEntry → ObjectEntry → Type 0
+abbrev pub IsBefore : ObjectEntry → ObjectEntry → Type 0
 IsBefore e f = (byte_order (key e) (key f) ≡ Less) × (e.name ≢ f.name)
 
-abbrev IsApart : ObjectEntry → ObjectEntry → Type 0
+abbrev pub IsApart : ObjectEntry → ObjectEntry → Type 0
 IsApart e f = e.name ≢ f.name
 
-abbrev AreApart : List ObjectEntry → Type 0
+abbrev pub AreApart : List ObjectEntry → Type 0
 AreApart [] = Unit {0}
 AreApart (e ∷ es) = Each (IsApart e) es × AreApart es
 
-abbrev AreRising : List ObjectEntry → Type 0
+abbrev pub AreRising : List ObjectEntry → Type 0
 AreRising [] = Unit {0}
 AreRising (e ∷ es) = Each (IsBefore e) es × AreRising es
 
@@ -96,14 +89,14 @@ rising_placed e (f ∷ fs) apart h = by_order (byte_order (key e) (key f)) refl 
     by_order Greater is more = (each_placed (IsBefore f) e fs (flipped e f is, λ same. apart.0 (sym same)) h.0, more)
 
 -- each of these is apart from all of those
-abbrev AreAway : List ObjectEntry → List ObjectEntry → Type 0
+abbrev pub AreAway : List ObjectEntry → List ObjectEntry → Type 0
 AreAway acc = Each (λ e. Each (IsApart e) acc)
 
 away_placed : (e : ObjectEntry) (acc es : List ObjectEntry) → Each (IsApart e) es → AreAway acc es → AreAway (placed e acc) es
 away_placed e acc [] apart h = tt
 away_placed e acc (g ∷ gs) apart h = (each_placed (IsApart g) e acc (λ same. apart.0 (sym same)) h.0, away_placed e acc gs apart.1 h.1)
 
-rising_in_order : (acc es : List ObjectEntry) → AreRising acc → AreApart es → AreAway acc es → AreRising (fold (λ sorted e. placed e sorted) acc es)
+pub rising_in_order : (acc es : List ObjectEntry) → AreRising acc → AreApart es → AreAway acc es → AreRising (fold (λ sorted e. placed e sorted) acc es)
 rising_in_order acc [] a h away = a
 rising_in_order acc (e ∷ es) a h away = rising_in_order (placed e acc) es (rising_placed e acc away.0 a) h.1 (away_placed e acc es h.0 away.1)
 
@@ -134,13 +127,13 @@ after_none : (es : List ObjectEntry) → AreAfter [] es
 after_none [] = tt
 after_none (e ∷ es) = (tt, after_none es)
 
-away_none : (es : List ObjectEntry) → AreAway [] es
+pub away_none : (es : List ObjectEntry) → AreAway [] es
 away_none [] = tt
 away_none (e ∷ es) = (tt, away_none es)
 
 -- ---- such entries are those of an object
 
-abbrev IsFit : ObjectEntry → Type 0
+abbrev pub IsFit : ObjectEntry → Type 0
 IsFit e = (is_bad e.name ≡ false) × (IsUtf8 e.name × (length e.id ≡ 20))
 
 unequal : (n m : List ℕ) → n ≢ m → bytes_eq n m ≡ false
@@ -169,38 +162,26 @@ are_whole : (acc es : List ObjectEntry) → AreRising es → AreAfter acc es →
 are_whole acc [] h a fit = tt
 are_whole acc (e ∷ es) h a fit = (fits acc e fit.0.0 a.0, (fit.0.1, are_whole (acc ++ e ∷ []) es h.1 (after_more acc e es h.0 a.1) fit.1))
 
--- ---- sizes
-
-digits_size : (h : List ℕ) (n : ℕ) → length (digest_bytes h n) ≡ 4 * n
-unfolding digest_bytes
-digits_size h zero = refl
-digits_size h (suc n) =
-    let word : length (to_be_bytes w32 (slice_index h n)) ≡ 4 = refl in
-    omega (arith, length-append (digest_bytes h n) (to_be_bytes w32 (slice_index h n)), word, digits_size h n)
-
-id_size : (s : List ℕ) → length (sha1 s) ≡ 20
-unfolding sha1
-id_size s = digits_size _ 5
-
-body_size : (word body : List ℕ) → length body ≤ length (with_header word body)
-unfolding with_header
-body_size word body = omega (arith, length-append word (codes " " ++ (decimal (length body) ++ (0 ∷ body))), length-append (codes " ") (decimal (length body) ++ (0 ∷ body)), length-append (decimal (length body)) (0 ∷ body))
-
 -- ---- the objects of a tree
 
 blob_read : IsReadBack → (content : List ℕ) → length (object_bytes (Blob content)) < 2 ^ 53 → object_read (object_bytes (Blob content)) ≡ Ok (Blob content)
 unfolding object_bytes
 blob_read back content small = back (Blob content) (omega (arith, small, body_size (codes "blob") content))
 
-tree_read : IsReadBack → (es : List ObjectEntry) → AreApart es → Each IsFit es → length (tree_bytes es) < 2 ^ 53 → object_read (tree_bytes es) ≡ Ok (Tree (in_order es))
+-- the entries of a tree are read in their order, where its body is short enough
+pub body_read : IsReadBack → (es : List ObjectEntry) → AreApart es → Each IsFit es → length (flat_map entry_bytes (in_order es)) < 2 ^ 53 → object_read (tree_bytes es) ≡ Ok (Tree (in_order es))
 unfolding object_bytes tree_bytes
-tree_read back es apart fit small =
+body_read back es apart fit small =
     let sorted = in_order es in
     let rising : AreRising sorted = rising_in_order [] es tt apart (away_none es) in
     let again : in_order sorted ≡ sorted = in_order_same [] sorted rising (after_none sorted) in
     let whole = are_whole [] sorted rising (after_none sorted) (each_in_order IsFit [] es tt fit) in
     ap (λ l. object_read (with_header (codes "tree") (flat_map entry_bytes l))) (sym again)
-    ∙ back (Tree sorted) (whole, omega (arith, small, body_size (codes "tree") (flat_map entry_bytes sorted)))
+    ∙ back (Tree sorted) (whole, small)
+
+tree_read : IsReadBack → (es : List ObjectEntry) → AreApart es → Each IsFit es → length (tree_bytes es) < 2 ^ 53 → object_read (tree_bytes es) ≡ Ok (Tree (in_order es))
+unfolding tree_bytes
+tree_read back es apart fit small = body_read back es apart fit (omega (arith, small, body_size (codes "tree") (flat_map entry_bytes (in_order es))))
 
 -- ---- the entries of a tree's nodes
 

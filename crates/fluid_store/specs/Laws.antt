@@ -8,7 +8,7 @@ use Rattle.fluid_tree.specs.Summary.{Summary, blob, tree, handle, Children, no_c
 use Rattle.fluid_tree.specs.declared.object.Object.TheVariants.{Blob}
 use Rattle.fluid_store.specs.Held.{Held, Keeps}
 use Rattle.fluid_store.specs.Parts.{part_over}
-use Rattle.fluid_store.specs.Uploading.{IsEarlier, StandsResolved}
+use Rattle.fluid_store.specs.Uploading.{IsEarlier, IsSizedIf, StandsResolved}
 use Rattle.fluid_store.specs.declared.listing.Part.{Part}
 use Rattle.fluid_store.specs.Keeping.{Holds}
 use Rattle.fluid_store.specs.Listed.{own_bytes, objects}
@@ -56,5 +56,5 @@ IsCompleteWhereHeld = (held : Held) (node : Summary) (id : List ℕ) → id_answ
 -- where the objects of a tree's part are added to what is held, the tree stands with its handles resolved
 abbrev pub IsResolvedStanding : Type 0
 IsResolvedStanding =
-    (old new : Held) (base : Option (List ℕ)) (earlier : Option Summary) (node : Summary) (part : Part) → Ok part ≡ part_over old base node → IsEarlier old base earlier
+    (old new : Held) (base : Option (List ℕ)) (earlier : Option Summary) (node : Summary) (part : Part) → IsSizedIf base → Ok part ≡ part_over old base node → IsEarlier old base earlier
     → Keeps old new → Holds new part.objects → StandsResolved new earlier node part.place.id

@@ -1,5 +1,5 @@
 -- What it means that a summary tree stands under an id.
-use Rattle.std.specs.Prelude.{◌≡◌, ℕ, List, [], ◌∷◌, Option, Some, None, option_and_then}
+use Rattle.std.specs.Prelude.{◌≡◌, ℕ, length, List, [], ◌∷◌, Option, Some, None, option_and_then}
 use Rattle.std.specs.Result.{result_ok}
 use Rattle.std.specs.FinMap.{get}
 use Rattle.fluid_tree.specs.Names.{first_refused}
@@ -13,7 +13,7 @@ use Rattle.fluid_store.specs.Held.{Held}
 
 -- the node stands under the id: the bytes of its own object are held there. A tree has one where none of its names is
 -- refused, by itself or as one that stood before. The entries of a tree's object have the names and the modes of its
--- nodes, and ids under which these stand. A handle has no object
+-- nodes, and ids of 20 bytes under which these stand. A handle has no object
 abbrev mutual
   pub Stands : Held → List ℕ → Summary → Type 0
   Stands held id (blob content) = get held id ≡ Some (object_bytes (Blob content))
@@ -26,7 +26,7 @@ abbrev mutual
   AllStand held [] (child name node nodes) = ⊥
   AllStand held (entry ∷ entries) no_children = ⊥
   AllStand held (entry ∷ entries) (child name node nodes) =
-      (entry.name ≡ name) × ((entry.tree ≡ is_tree node) × (Stands held entry.id node × AllStand held entries nodes))
+      (entry.name ≡ name) × ((entry.tree ≡ is_tree node) × ((length entry.id ≡ 20) × (Stands held entry.id node × AllStand held entries nodes)))
 
 -- the object that is held under the id, where its bytes are one of the grammar
 abbrev pub object_at : Held → List ℕ → Option Object

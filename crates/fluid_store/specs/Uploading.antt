@@ -1,5 +1,5 @@
 -- A whole summary tree put into a store.
-use Rattle.std.specs.Prelude.{◌≡◌, ℕ, List, ◌++◌, Option, Some, None, Result, Ok, Err, IfOk, ⊤}
+use Rattle.std.specs.Prelude.{◌≡◌, ℕ, length, List, ◌++◌, Option, Some, None, Result, Ok, Err, IfOk, ⊤}
 use Rattle.fluid_io.specs.Causes.{Tells}
 use Rattle.fluid_tree.specs.Summary.{Summary}
 use Rattle.fluid_store.specs.Held.{Held}
@@ -36,6 +36,11 @@ IsEarlier held None None = Unit {0}
 IsEarlier held None (Some earlier) = ⊥
 IsEarlier held (Some id) None = ⊥
 IsEarlier held (Some id) (Some earlier) = fetched held 32 id ≡ Ok earlier
+
+-- the id of an earlier tree, if there is one, has 20 bytes
+abbrev pub IsSizedIf : Option (List ℕ) → Type 0
+IsSizedIf None = Unit {0}
+IsSizedIf (Some id) = length id ≡ 20
 
 -- under the id stands the tree with the nodes of the earlier one in the places of its handles
 abbrev pub StandsResolved : Held → Option Summary → Summary → List ℕ → Type 0

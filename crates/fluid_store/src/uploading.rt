@@ -6,7 +6,7 @@ ghost use Rattle.fluid_store.specs.Following.{known_if};
 ghost use Rattle.fluid_store.specs.Keeping.{Counts, Stores};
 ghost use Rattle.fluid_store.specs.Parts.{earlier_if, part_over};
 ghost use Rattle.fluid_store.specs.Putting.{putting, IsPutting};
-ghost use Rattle.fluid_store.specs.Uploading.{IsEarlier, Lists, StandsResolved, Uploads};
+ghost use Rattle.fluid_store.specs.Uploading.{IsEarlier, IsSizedIf, Lists, StandsResolved, Uploads};
 ghost use Rattle.fluid_tree.specs.Summary.{Summary};
 
 use crate::following::{Earlier, earlier_at};
@@ -33,9 +33,19 @@ pub fn upload<O: Objects>(
         IsEarlier held (option_map (λ id. id.now) base.entry) earlier → Tells (O.seen objects.new).content (λ now. StandsResolved now earlier node.now id))) }
 {
     what_is_resolved_stands();
+    known_size(base);
     let part = list_over(alloc, objects, base, node)?;
     store_objects(alloc, objects, part.objects.as_slice())?;
     Ok(part.place.id)
+}
+
+// The id of an earlier tree has 20 bytes.
+fn known_size(base: Option<&Id>)
+    ensures { IsSizedIf (option_map (λ id. id.now) base.entry) }
+{
+    if let Some(id) = base {
+        id.as_bytes();
+    }
 }
 
 // The part of a tree over an earlier one.

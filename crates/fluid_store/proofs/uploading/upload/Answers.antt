@@ -14,5 +14,5 @@ returns-in_err-part-clause-does g c =
 pub returns-clause-stands : goal.returns-clause-stands
 returns-clause-stands g c =
     stands_told c.what_is_resolved_stands.ensures (option_map (λ id. id.now) c.args.base) c.args.node.now c.in_ok-part.part c.as_slice.result.now (g.O.Objects.seen c.args.objects.now).content
-    (g.O.Objects.seen c.list_over.new.objects).content (g.O.Objects.seen c.store_objects.new.objects).content c.in_ok-part.ensures.reads.content c.in_ok-part.ensures.says c.as_slice.ensures
+    (g.O.Objects.seen c.list_over.new.objects).content (g.O.Objects.seen c.store_objects.new.objects).content c.known_size.ensures c.in_ok-part.ensures.reads.content c.in_ok-part.ensures.says c.as_slice.ensures
     c.in_ok-store_objects.ensures.does

@@ -1,0 +1,9 @@
+pub mod Behind
+pub mod Seen
+pub mod Loading
+pub mod Storable
+pub mod Honest
+pub mod Blobs
+pub mod Fetched
+pub mod Based
+pub mod Replayed
