@@ -194,3 +194,14 @@ is_front_nack (Stored id) = false
 -- a text that is answered so counts as one that was not read, however many of the replies are such nacks
 abbrev pub has_front_nack : List Reply → Bool
 has_front_nack replies = list_any is_front_nack replies
+
+-- an op event, which brings messages of the feed
+abbrev pub is_event : Reply → Bool
+is_event (Ops name messages) = true
+is_event (Nacked name nack) = false
+is_event (Connected checkpoint id write) = false
+is_event (ConnectError code text) = false
+is_event (Deltas from messages) = false
+is_event (Summary found) = false
+is_event (Object id bytes) = false
+is_event (Stored id) = false

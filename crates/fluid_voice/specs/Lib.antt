@@ -3,5 +3,7 @@ pub mod Refusals
 pub mod Heard
 pub mod Answered
 pub mod Asked
+pub mod Feed
 pub mod Fitting
 pub mod Laws
+pub mod Examples

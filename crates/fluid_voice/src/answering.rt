@@ -1,6 +1,7 @@
 // The replies to acts.
-ghost use Rattle.std.specs.Prelude.{◌≡◌, ◌∷◌, [], Some, IfOk};
-ghost use Rattle.fluid_codec.specs.declared.replies.Reply.TheVariants.{Nacked};
+ghost use Rattle.std.specs.Prelude.{◌≡◌, ◌∷◌, [], Some, option_map, IfOk};
+ghost use Rattle.fluid_types.specs.declared.nacks.NackRule.TheVariants.{Full};
+ghost use Rattle.fluid_codec.specs.declared.replies.Reply.TheVariants.{Ops, Nacked};
 ghost use Rattle.fluid_voice.specs.States.{document};
 ghost use Rattle.fluid_voice.specs.Refusals.{front};
 ghost use Rattle.fluid_voice.specs.Answered.{verdict_replies, entry_replies, addressed, given_replies, is_front_nack, has_front_nack};
@@ -9,7 +10,7 @@ use crate::ends::ActEnd;
 use crate::states::VoiceState;
 use fluid_codec::Reply;
 use fluid_json::NoMemory;
-use fluid_types::{DocName, Nack, NackRule, Verdict};
+use fluid_types::{DocName, Messages, Nack, NackRule, Verdict};
 use std::alloc::Global;
 use std::marker::Model;
 
@@ -121,6 +122,23 @@ pub(crate) fn front_nack(
     nacked(alloc, state, front(rule))
 }
 
+/// The most messages of one op event.
+pub const MOST_IN_EVENT: u64 = 64;
+
+/// An op event with these messages, of the document to which a connection is connected.
+pub(crate) fn event(
+    alloc: Global,
+    state: &VoiceState,
+    messages: Messages,
+) -> Result<Option<Reply>, NoMemory>
+    ensures { IfOk result (λ event. event ≡ option_map (λ name. Ops name messages) (document state.now)) }
+{
+    match document(alloc, state)? {
+        Some(name) => Ok(Some(Reply::Ops { name, messages })),
+        None => Ok(None),
+    }
+}
+
 /// The replies to an entry that ended so.
 pub(crate) fn entry_replies(
     alloc: Global,
@@ -131,16 +149,20 @@ pub(crate) fn entry_replies(
 {
     match end {
         ActEnd::Entered(verdict) => verdict_replies(alloc, state, verdict),
-        ActEnd::FullNow => {
-            let reply = front_nack(alloc, state, NackRule::Full)?;
-            Replies::one(alloc, reply)
-        }
+        ActEnd::FullNow => full(alloc, state),
         ActEnd::Said => Ok(Replies::none(alloc)),
         ActEnd::Joined(_, _) => Ok(Replies::none(alloc)),
         ActEnd::Told(_) => Ok(Replies::none(alloc)),
         ActEnd::TooMany => Ok(Replies::none(alloc)),
         ActEnd::Given(_) => Ok(Replies::none(alloc)),
     }
+}
+
+fn full(alloc: Global, state: &VoiceState) -> Result<Replies, NoMemory>
+    ensures { IfOk result (λ replies. replies ≡ Nacked (document state.now) (front Full) ∷ []) }
+{
+    let reply = front_nack(alloc, state, NackRule::Full)?;
+    Replies::one(alloc, reply)
 }
 
 fn verdict_replies(alloc: Global, state: &VoiceState, verdict: Verdict) -> Result<Replies, NoMemory>

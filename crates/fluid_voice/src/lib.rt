@@ -7,12 +7,13 @@
 //!
 //! - `states`: where a connection stands. `actions`: acts. `ends`: how acts end. `refusals`: why a connect is refused.
 //! - `voices`: `Voice`. `hearing`: the acts of a text. `answering`: the replies to an end.
-//! - `orders`: what is asked of an order's messages and summaries. `laws`: what holds of the definitions.
+//! - `orders`: what is asked of an order's messages and summaries. `laws`: what holds of the definitions. `examples`: some, computed.
 #![tactic(auto)]
 
 mod actions;
 mod answering;
 mod ends;
+pub mod examples;
 mod hearing;
 pub mod laws;
 mod orders;
@@ -21,7 +22,7 @@ mod states;
 mod voices;
 
 pub use actions::{Act, Acts};
-pub use answering::{Replies, has_front_nack, is_front_nack};
+pub use answering::{MOST_IN_EVENT, Replies, has_front_nack, is_front_nack};
 pub use ends::ActEnd;
 pub use fluid_codec::{Asked, Reply};
 pub use orders::{out_of_range, range_asked, summary_asked};

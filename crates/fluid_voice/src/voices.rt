@@ -3,7 +3,7 @@ ghost use Rattle.std.specs.Prelude.{◌≡◌, ◌≤◌, ◌<◌, ◌^◌, ◌+
 ghost use Rattle.fluid_types.specs.Forms.{largest};
 ghost use Rattle.fluid_readback.specs.Laws.{longest_text};
 ghost use Rattle.fluid_voice.specs.declared.states.VoiceState.TheVariants.{Fresh, Reading, Writing, Used};
-ghost use Rattle.fluid_codec.specs.declared.replies.Reply.TheVariants.{Connected};
+ghost use Rattle.fluid_codec.specs.declared.replies.Reply.TheVariants.{Connected, Ops};
 ghost use Rattle.fluid_types.specs.declared.entries.Raw.TheVariants.{Leave};
 ghost use Rattle.fluid_voice.specs.declared.actions.Act.TheVariants as act;
 ghost use Rattle.fluid_voice.specs.States.{document, leave_of, with_next};
@@ -13,14 +13,14 @@ ghost use Rattle.fluid_voice.specs.Fitting.{IsFitting};
 ghost use Rattle.fluid_voice.specs.Answered.{connect_replies, entry_replies, replies_to, connected_to, state_after, IsCounted};
 
 use crate::actions::{Act, Acts};
-use crate::answering::{Replies, entry_replies, given_replies};
+use crate::answering::{Replies, entry_replies, event, given_replies};
 use crate::ends::ActEnd;
 use crate::hearing::acts_of;
 use crate::refusals::Refusal;
 use crate::states::VoiceState;
 use fluid_codec::Reply;
 use fluid_json::NoMemory;
-use fluid_types::{ClientId, DocName, Raw};
+use fluid_types::{ClientId, DocName, Messages, Raw};
 use std::alloc::Global;
 use std::marker::Model;
 
@@ -141,6 +141,14 @@ impl Voice {
                 write: false,
             },
         )
+    }
+
+    /// An op event with these messages, under the name of the connection's document; none where it is connected to none. How many
+    /// there are is the caller's part: see `MOST_IN_EVENT`.
+    pub fn event(&self, alloc: Global, messages: Messages) -> Result<Option<Reply>, NoMemory>
+        ensures { IfOk result (λ event. event ≡ option_map (λ name. Ops name messages) (document self.now)) }
+    {
+        event(alloc, &self.state, messages)
     }
 
     /// The leave that a connection enters when it ends; none where it doesn't write.
