@@ -1,0 +1,9 @@
+pub mod States
+pub mod Refusals
+pub mod Heard
+pub mod Answered
+pub mod Asked
+pub mod Feed
+pub mod Fitting
+pub mod Laws
+pub mod Examples

@@ -1,0 +1,36 @@
+// What holds of the definitions, said by functions that do nothing.
+ghost use Rattle.fluid_voice.specs.Feed.{EventsBringAll, EventsAreWhole};
+ghost use Rattle.fluid_voice.specs.Fitting.{HeardFits};
+ghost use Rattle.fluid_voice.specs.Laws.{FullStaysFull, DocumentsSuit, StoresSuit, ConnectedStay, RepliesAreNoEvents};
+
+/// What a text asks for fits a document's log, where the text isn't longer than one that is heard.
+pub fn what_is_heard_fits()
+    ensures { HeardFits }
+{}
+
+/// Where a document refuses a submission as full, it refuses all that are behind it in their text.
+pub fn full_stays_full()
+    ensures { FullStaysFull }
+{}
+
+/// What a document or a store answers to an act is an end that the act may have.
+pub fn answers_suit()
+    ensures documents { DocumentsSuit }
+    ensures stores { StoresSuit }
+{}
+
+/// A text leaves a connected one where it stands, however its acts end.
+pub fn connected_ones_stay()
+    ensures { ConnectedStay }
+{}
+
+/// Op events come from the feed alone, and never as a reply to a text.
+pub fn replies_are_no_events()
+    ensures { RepliesAreNoEvents }
+{}
+
+/// The op events that bring messages bring all of them in their order, each at most 64.
+pub fn events_bring_all()
+    ensures all { EventsBringAll }
+    ensures whole { EventsAreWhole }
+{}
