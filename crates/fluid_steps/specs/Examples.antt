@@ -1,0 +1,47 @@
+-- Worked examples: what some lines spell.
+use Rattle.std.specs.Prelude.{◌≡◌, [], Ok, Err, codes}
+use Rattle.fluid_steps.specs.declared.steps.Step.TheVariants.{Send, Collect, Close, Scribe, Checkpoint, Restart, Reopen, Sweep, Count, Load, Pump, Beat, Summarize, Show}
+use Rattle.fluid_steps.specs.declared.steps.Pick.TheVariants as pick
+use Rattle.fluid_steps.specs.declared.refusal.LineWhy.TheVariants.{UnknownStep, BadStep}
+use Rattle.fluid_steps.specs.Grammar.{step_spelled}
+
+-- one of each
+pub record OneOfEach : Type 0 where
+  pub send : step_spelled (codes "send c [\"dance\"] ") ≡ Ok (Send (codes "c") (codes "[\"dance\"] "))
+  pub collect : step_spelled (codes "collect c") ≡ Ok (Collect (codes "c"))
+  pub close : step_spelled (codes "close c2") ≡ Ok (Close (codes "c2"))
+  pub scribe : step_spelled (codes "scribe d") ≡ Ok (Scribe (codes "d"))
+  pub checkpoint : step_spelled (codes "checkpoint D_1") ≡ Ok (Checkpoint (codes "D_1"))
+  pub restart : step_spelled (codes "restart d 10") ≡ Ok (Restart (codes "d") 10)
+  pub reopen : step_spelled (codes "reopen d") ≡ Ok (Reopen (codes "d"))
+  pub sweep : step_spelled (codes "sweep d 0") ≡ Ok (Sweep (codes "d") 0)
+  pub count : step_spelled (codes "count d") ≡ Ok (Count (codes "d"))
+  pub load : step_spelled (codes "load p d none") ≡ Ok (Load (codes "p") (codes "d") pick.Empty)
+  pub latest : step_spelled (codes "load p d latest") ≡ Ok (Load (codes "p") (codes "d") pick.Latest)
+  pub pump : step_spelled (codes "pump p") ≡ Ok (Pump (codes "p"))
+  pub beat : step_spelled (codes "beat p") ≡ Ok (Beat (codes "p"))
+  pub summarize : step_spelled (codes "summarize p") ≡ Ok (Summarize (codes "p"))
+  pub show : step_spelled (codes "show p") ≡ Ok (Show (codes "p"))
+
+-- a leading, a doubled and a trailing blank make an empty word; what runs to the line's end may be empty behind its blank
+pub record Blanks : Type 0 where
+  pub leading : step_spelled (codes " count d") ≡ Err UnknownStep
+  pub doubled : step_spelled (codes "count  d") ≡ Err BadStep
+  pub trailing : step_spelled (codes "count d ") ≡ Err BadStep
+  pub empty_text : step_spelled (codes "send c ") ≡ Ok (Send (codes "c") [])
+  pub no_text : step_spelled (codes "send c") ≡ Err BadStep
+
+-- words that are outside their form
+pub record Outside : Type 0 where
+  pub unknown : step_spelled (codes "dance c") ≡ Err UnknownStep
+  pub upper : step_spelled (codes "Count d") ≡ Err UnknownStep
+  pub alone : step_spelled (codes "count") ≡ Err BadStep
+  pub too_many : step_spelled (codes "restart d 1 2") ≡ Err BadStep
+  pub zero_before : step_spelled (codes "restart d 01") ≡ Err BadStep
+  pub signed : step_spelled (codes "restart d +1") ≡ Err BadStep
+  pub beyond : step_spelled (codes "restart d 9007199254740992") ≡ Err BadStep
+  pub last : step_spelled (codes "restart d 9007199254740991") ≡ Ok (Restart (codes "d") 9007199254740991)
+  pub no_name : step_spelled (codes "pump P") ≡ Err BadStep
+  pub long_name : step_spelled (codes "pump abcdefghijklmnopq") ≡ Err BadStep
+  pub no_document : step_spelled (codes "count d.1") ≡ Err BadStep
+  pub no_pick : step_spelled (codes "load p d last") ≡ Err BadStep
