@@ -15,7 +15,7 @@ use Rattle.fluid_types.specs.declared.fault.BlobFault.{BlobFault}
 use Rattle.fluid_types.specs.declared.quorum.QuorumBlob.{QuorumBlob}
 use Rattle.fluid_types.specs.declared.quorum.QuorumBlob.TheVariants as word
 use Rattle.fluid_rules.specs.Scribe.{protocol}
-use Rattle.fluid_quorum.specs.Kept.{members_of, values_of}
+use Rattle.fluid_quorum.specs.Lists.{members_of, values_of}
 use Rattle.fluid_quorum.specs.Laws.{IsOnlyBlobs}
 use Rattle.fluid_quorum.specs.Node.{node_of, AreTexts}
 use Rattle.fluid_quorum.specs.Reading.{find_child, as_utf8, text_in, said_by, attributes_form, members_form, proposals_form, values_form, attributes_in, members_in, proposals_in, values_in, or_bad, answer}
