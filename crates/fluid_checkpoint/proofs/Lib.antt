@@ -2,5 +2,6 @@ pub mod Back
 mod Canonical
 mod Entered
 mod Joined
+pub mod Rejoined
 mod Utf8
 mod Whole
