@@ -2,6 +2,7 @@ pub mod Back
 mod Canonical
 mod Entered
 mod Joined
+pub mod Rejoined
 mod Utf8
 mod Whole
 pub mod Ranges

@@ -12,6 +12,7 @@ use Rattle.fluid_types.specs.declared.messages.Kind.{Kind}
 use Rattle.fluid_types.specs.declared.messages.Message.{Message}
 use Rattle.fluid_tree.specs.declared.id.SummaryRef.{SummaryRef}
 use Rattle.fluid_clients.specs.declared.table.Row.{Row}
+use Rattle.fluid_clients.specs.Table.{Rows}
 use Rattle.fluid_codec.specs.Laws.{IsMessage}
 use Rattle.fluid_quorum.specs.Node.{node_of, AreTexts}
 use Rattle.fluid_quorum.specs.Reading as blobs
@@ -20,7 +21,7 @@ use Rattle.fluid_scribe.specs.State.{is_heard}
 use Rattle.fluid_checkpoint.specs.declared.state.State.{State}
 use Rattle.fluid_checkpoint.specs.declared.state.Form.TheVariants.{One, Two}
 use Rattle.fluid_checkpoint.specs.declared.version.Version.TheVariants as version
-use Rattle.fluid_checkpoint.specs.Heard.{with_moments, without_moments}
+use Rattle.fluid_checkpoint.specs.Heard.{moments_of, with_moments, without_moments}
 use Rattle.fluid_checkpoint.specs.Text.{base_tree, state_tree, first_printed, state_printed}
 use Rattle.fluid_checkpoint.specs.Reading.{are_numbered, answer}
 
@@ -87,3 +88,7 @@ IsReadBack = (s : State) → IsInForm s → IsWritten s → answer (state_printe
 -- and its text in version 1 is read as the number of its entries
 abbrev pub FirstIsRead : Type 0
 FirstIsRead = (s : State) → IsInForm s → IsUtf8 (first_printed s) → answer (first_printed s) ≡ Ok (One s.entered)
+
+-- moments that are taken out of rows and written down again are where they were
+abbrev pub MomentsAreJoined : Type 0
+MomentsAreJoined = (rows : Rows) → with_moments (without_moments rows) (moments_of rows) ≡ rows
