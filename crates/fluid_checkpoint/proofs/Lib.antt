@@ -2,6 +2,6 @@ pub mod Back
 mod Canonical
 mod Entered
 mod Joined
-mod Utf8
+pub mod Utf8
 mod Whole
 pub mod Ranges
