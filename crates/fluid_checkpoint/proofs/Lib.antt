@@ -3,6 +3,6 @@ mod Canonical
 mod Entered
 mod Joined
 pub mod Rejoined
-mod Utf8
+pub mod Utf8
 mod Whole
 pub mod Ranges

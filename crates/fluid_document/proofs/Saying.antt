@@ -1,6 +1,7 @@
 -- What the text of a checkpoint says of what the entries made.
 use Rattle.std.proofs.Common.{◌≡◌, ◌⊎◌, ◌-◌, ◌^◌, ◌≤◌, ◌<◌, ℕ, zero, suc, min, true, false, Bool, List, [], ◌∷◌, ◌++◌, length, arith, ◌∙◌, All, Option, Some, None, Result, Ok, Err, inl, inr, refl, sym, ap, subst, ⊎_elim, le-leb, length-append, slice_get, codes}
-use Rattle.std.specs.Prelude.{nat_le, if◌then◌else◌}
+use Rattle.std.specs.Prelude.{nat_le, if◌then◌else◌, IfOk}
+use Rattle.fluid_json.specs.declared.memory.NoMemory.{NoMemory}
 use Rattle.std.proofs.lemmas.Bool.{lt-leb}
 use Rattle.std.proofs.lemmas.Option.{none-some, same_Some}
 use Rattle.std.proofs.lemmas.List.Elements.{All-head, All-tail, All-nil, All-cons}
@@ -17,7 +18,8 @@ use Rattle.fluid_ticket.specs.State.{within_order}
 use Rattle.fluid_ticket.specs.Ledger as tickets
 use Rattle.fluid_ticket.proofs.Within.{sound-within, sound-legal}
 use Rattle.fluid_ticket.proofs.Ledgers.{sequence-state_of}
-use Rattle.fluid_core.specs.Entering.{State, sequencer_of, state_of}
+use Rattle.fluid_core.specs.Entering.{State, sequencer_of, scribe_within, within, state_of}
+use Rattle.fluid_core.proofs.Within.{kept_within}
 use Rattle.fluid_log.specs.Keeping.{Content}
 use Rattle.fluid_checkpoint.specs.declared.fault.CheckpointFault.{CheckpointFault}
 use Rattle.fluid_checkpoint.specs.declared.fault.CheckpointFault.TheVariants.{BadField}
@@ -51,16 +53,25 @@ printed_of e p scribe heard bytes sequencer_is scribe_is heard_is text written =
     λ i. record { entered = e.entered; counted = e.counted; sequencer = at i; scribe = scribe_is i; heard = (heard_is ∙ ap (λ (q : Parts). moments_of q.rows) at) i } in
     record { text = text ∙ ap state_printed same; written = subst IsWritten same written }
 
+pub printed_ok : (r : Result (List ℕ) NoMemory) (e : Entries) (p : Parts) (scribe : ScribeState) (heard : Moments) → sequencer_of p ≡ e.state.sequencer → scribe ≡ e.state.scribe → heard ≡ moments_of p.rows
+    → (let s : Checkpoint = record { entered = e.entered; counted = e.counted; sequencer = p; scribe = scribe; heard = heard } in IfOk r (λ bytes. bytes ≡ state_printed s) → IfOk r (λ _. IsWritten s) → IfOk r (IsPrinted e))
+printed_ok (Ok bytes) e p scribe heard sequencer_is scribe_is heard_is text written = printed_of e p scribe heard bytes sequencer_is scribe_is heard_is text written
+printed_ok (Err fault) e p scribe heard sequencer_is scribe_is heard_is text written = tt
+
 -- ---- reading
 
 -- the state of a ledger's checkpoint is what the ledger's entries made
 pub entries_back : (l : Ledger) → IsLegal l → seq l ≤ 2 ^ 53 - 1 → entries_in (checkpoint_state (entries_of l)) ≡ entries_of l
 unfolding entries_in entries_of state_of
-entries_back l legal few = λ i. record {
-  state = record { sequencer = sound-within (tickets.state_of l) (sound-legal l legal few) i; scribe = (state_of l).scribe };
-  entered = (entries_of l).entered;
-  counted = (entries_of l).counted;
-}
+entries_back l legal few =
+    let sequencer : within_order (tickets.state_of l) ≡ tickets.state_of l = sound-within (tickets.state_of l) (sound-legal l legal few) in
+    let scribe : scribe_within (within_order (tickets.state_of l)).sequence (state_of l).scribe ≡ (state_of l).scribe =
+    ap (λ (s : ticket.State). scribe_within s.sequence (state_of l).scribe) sequencer ∙ ap (λ n. scribe_within n (state_of l).scribe) (sequence-state_of l) ∙ kept_within l legal in
+    λ i. record {
+      state = record { sequencer = sequencer i; scribe = scribe i };
+      entered = (entries_of l).entered;
+      counted = (entries_of l).counted;
+    }
 
 pub sequence-entries_of : (l : Ledger) → (entries_of l).state.sequencer.sequence ≡ seq l
 unfolding entries_of state_of
@@ -130,7 +141,7 @@ says_before back l content number text at kept =
 
 -- ---- what goes on from a state
 
-pub resumed_entries : (s : Checkpoint) (state : State) → state ≡ record { sequencer = within_order (sequencer_of s.sequencer); scribe = s.scribe }
+pub resumed_entries : (s : Checkpoint) (state : State) → state ≡ within (record { sequencer = sequencer_of s.sequencer; scribe = s.scribe })
     → ◌≡◌ {A = Entries} (record { state = state; entered = s.entered; counted = s.counted }) (entries_in s)
 unfolding entries_in
 resumed_entries s state is = λ i. record { state = is i; entered = s.entered; counted = s.counted }

@@ -10,8 +10,7 @@ use Rattle.fluid_types.specs.declared.messages.Message.{Message}
 use Rattle.fluid_log.specs.Keeping.{Content, Keeping}
 use Rattle.fluid_log.specs.Calls.{KeepsSame}
 use Rattle.fluid_deltas.specs.Flushes.{with_deltas}
-use Rattle.fluid_core.specs.Entering.{sequencer_of}
-use Rattle.fluid_ticket.specs.State.{within_order}
+use Rattle.fluid_core.specs.Entering.{sequencer_of, within}
 use Rattle.fluid_checkpoint.specs.Reading as checkpoint
 use Rattle.fluid_checkpoint.specs.declared.state.State.{State as Checkpoint}
 use Rattle.fluid_checkpoint.specs.declared.state.Form.{Form}
@@ -50,7 +49,7 @@ log_folded f (bytes ∷ log) =
 -- what the entries made by the state of a checkpoint: a part outside the order counts for nothing
 unfoldable pub entries_in : Checkpoint → Entries
 entries_in s = record {
-  state = record { sequencer = within_order (sequencer_of s.sequencer); scribe = s.scribe };
+  state = within (record { sequencer = sequencer_of s.sequencer; scribe = s.scribe });
   entered = s.entered;
   counted = s.counted;
 }

@@ -1,6 +1,6 @@
 use Rattle.std.proofs.Common.{rules}
 use Rattle.std.proofs.lemmas.Str.{is_utf8-from_IsUtf8}
-use Rattle.fluid_checkpoint.proofs.Back.{no_utf8}
+use Rattle.fluid_checkpoint.proofs.Utf8.{no_utf8}
 use Rattle.fluid_document.specs.Loading.{record_in}
 use Rattle.fluid_document.proofs.loading.decoded.Goals as goal
 
