@@ -1,5 +1,6 @@
 pub mod Behind
 pub mod Seen
+pub mod Inside
 pub mod Loading
 pub mod Storable
 pub mod Honest

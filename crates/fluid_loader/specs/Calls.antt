@@ -1,5 +1,6 @@
 -- What each call of a container does.
 use Rattle.std.specs.Prelude.{◌≡◌, ◌⊎◌, ℕ, ◌+◌, ◌^◌, ◌<◌, ◌≤◌, IfSome, Option, List, [], ◌∷◌, ◌++◌, drop, map, false, Some, None, Result, Ok, Err, ⊤}
+use Rattle.std.specs.List.{AllByRecursion}
 use Rattle.fluid_io.specs.Causes.{Rose, Tells}
 use Rattle.fluid_io.specs.declared.faults.FaultNote.{FaultNote}
 use Rattle.fluid_json.specs.Tree.{null}
@@ -13,7 +14,7 @@ use Rattle.fluid_runtime.specs.App.{all_are}
 use Rattle.fluid_runtime.specs.AppTree.{tree_since}
 use Rattle.fluid_runtime.specs.Refused as refused
 use Rattle.fluid_store.specs.Held.{Held}
-use Rattle.fluid_loader.specs.Version.{AVersion, version_at}
+use Rattle.fluid_loader.specs.Version.{AVersion, IsOfVersion, version_at}
 use Rattle.fluid_loader.specs.Container.{AContainer, empty, begun, behind}
 use Rattle.fluid_loader.specs.Link.{Document, Linked, Reads, AreFrom, Changes, IsUploaded, count_handles, picked}
 use Rattle.fluid_loader.specs.Submitting.{numbered, summarize_tree}
@@ -206,6 +207,12 @@ pub record LoadReads (old new : Linked) : Type 0 where
   pub same : new ≡ record old { faults = new.faults; objects = new.objects }
   pub later : old.faults ≤ new.faults
 
+-- the objects that were fetched are such, where the link tells what is held
+pub record FetchesIn (inside : Document → List ℕ → Type 0) (old new : Linked) : Type 0 where
+  pub ids : List (List ℕ)
+  pub fetched : new.objects ≡ old.objects ++ ids
+  pub are : Tells old.told (λ document. AllByRecursion (inside document) ids)
+
 -- what a call that reads objects answers of what is held, where the link tells it
 abbrev pub Sees : {A : Type 0} → (Held → Result A (List ℕ)) → Linked → Linked → Result A LoadFault → Type 0
 Sees answer old new (Ok a) = Tells old.told (λ document. Ok a ≡ answer document.held)
@@ -267,7 +274,8 @@ pub record LoadsOnly (old new : Linked) : Type 0 where
   pub same : new ≡ record old { faults = new.faults; objects = new.objects; messages = new.messages }
   pub later : old.faults ≤ new.faults
 
--- a container was loaded: it began so, and took in all messages behind that, each of which was fetched once
+-- a container was loaded: it began so, and took in all messages behind that, each of which was fetched once; no object was fetched but
+-- those of the version
 pub record Loaded (pick : Pick) (old new : Linked) (c : AContainer) : Type 0 where
   pub first : AContainer
   pub messages : List Message
@@ -276,6 +284,7 @@ pub record Loaded (pick : Pick) (old new : Linked) (c : AContainer) : Type 0 whe
   pub all : Tells old.told (λ document. drop first.number document.order ≡ messages)
   pub taken : c ≡ behind old.client first messages
   pub fetched : new.messages ≡ old.messages ++ map (λ m. m.number) messages
+  pub objects : FetchesIn (λ document. IsOfVersion document.held (picked pick document.order)) old new
 
 abbrev pub LoadDoes : Pick → Linked → Linked → Result AContainer LoadFault → Type 0
 LoadDoes pick old new (Ok c) = Loaded pick old new c

@@ -1,5 +1,5 @@
 -- What the version of a summary says: the tree of `.app` and `.protocol`, read object by object.
-use Rattle.std.specs.Prelude.{ℕ, zero, suc, ◌==◌, List, [], ◌∷◌, ◌++◌, map, Option, Some, None, Result, Ok, Err, if◌then◌else◌, bytes_eq, codes}
+use Rattle.std.specs.Prelude.{◌≡◌, ◌⊎◌, ℕ, zero, suc, ◌==◌, List, [], ◌∷◌, ◌++◌, map, Option, Some, None, Result, Ok, Err, if◌then◌else◌, bytes_eq, codes}
 use Rattle.std.specs.Ordering.{is_lt}
 use Rattle.fluid_table.specs.Table.{byte_order}
 use Rattle.fluid_tree.specs.Summary.{Summary, blob, tree, handle, Children, no_children, child, children, is_tree}
@@ -39,6 +39,28 @@ node_within held (suc levels) entry = if entry.tree then as_inner (node_within h
 
 abbrev pub nodes_within : Held → ℕ → List ObjectEntry → List (List ℕ × Summary)
 nodes_within held levels entries = map (λ e. (e.name, node_within held levels e)) entries
+
+-- ---- which objects stand in it
+
+-- one of the entries has such an id
+abbrev pub HasId : (List ℕ → Type 0) → List ObjectEntry → Type 0
+HasId inside [] = ⊥
+HasId inside (e ∷ es) = inside e.id ⊎ HasId inside es
+
+abbrev pub IsBelow : (List ℕ → Type 0) → Option Object → Type 0
+IsBelow inside None = ⊥
+IsBelow inside (Some (Blob content)) = ⊥
+IsBelow inside (Some (Tree entries)) = HasId inside entries
+
+-- the id is that of an object in the tree under the root, at most so many entries deep
+abbrev pub IsIn : Held → (levels : ℕ) → List ℕ → List ℕ → Type 0
+IsIn held zero id root = id ≡ root
+IsIn held (suc levels) id root = (id ≡ root) ⊎ IsBelow (IsIn held levels id) (object_at held root)
+
+-- the object is one of the version of the summary, where there is one
+abbrev pub IsOfVersion : Held → Option SummaryRef → List ℕ → Type 0
+IsOfVersion held None id = ⊥
+IsOfVersion held (Some summary) id = IsIn held 3 id summary.handle
 
 -- ---- what it says, or the path of the first object, in the order of the tree, that isn't held or is outside its form
 
