@@ -7,4 +7,5 @@ pub mod Honest
 pub mod Blobs
 pub mod Fetched
 pub mod Based
+pub mod Exact
 pub mod Replayed
