@@ -168,10 +168,28 @@ pub record Summarized (old new : AContainer) (before after : Linked) (id : List 
   pub submitted : Submits (summarize_of old id) between after (Ok id)
   pub leaves : new ≡ counted (since old id)
 
--- what it leaves where it failed
-abbrev pub SummarizeLeaves : AContainer → AContainer → Type 0
-SummarizeLeaves old new =
-    (new ≡ old) ⊎ ((id : List ℕ) × ((new ≡ since old id) ⊎ (new ≡ counted (since old id))))
+-- what asking for a tree to be acknowledged leaves, by the answer: a client number counts as used but where it was refused, or where no
+-- memory was found before
+abbrev pub ProposeLeaves : {A : Type 0} → AContainer → AContainer → Result A LoadFault → Type 0
+ProposeLeaves old new (Ok done) = new ≡ counted old
+ProposeLeaves old new (Err (LinkFailed note)) = new ≡ counted old
+ProposeLeaves old new (Err NoMemory) = (new ≡ old) ⊎ (new ≡ counted old)
+ProposeLeaves old new (Err NoSummary) = new ≡ old
+ProposeLeaves old new (Err (BadSummary path)) = new ≡ old
+ProposeLeaves old new (Err (EditRefused fault)) = new ≡ old
+ProposeLeaves old new (Err (Refused nack)) = new ≡ old
+ProposeLeaves old new (Err (Clash id kept bytes)) = new ≡ old
+
+-- its tree was put, and is the last one from now on, and then what asks for it failed
+pub record PutAlone (old new : AContainer) (before : Linked) (fault : LoadFault) : Type 0 where
+  pub id : List ℕ
+  pub between : Linked
+  pub uploaded : UploadsTree old before between (Ok id)
+  pub leaves : ProposeLeaves {A = Unit {0}} (since old id) new (Err fault)
+
+-- what it leaves where it failed: nothing but what such a put leaves
+abbrev pub SummarizeLeaves : AContainer → AContainer → Linked → LoadFault → Type 0
+SummarizeLeaves old new before fault = (new ≡ old) ⊎ PutAlone old new before fault
 
 abbrev pub SummarizeStops : Linked → Linked → LoadFault → Type 0
 SummarizeStops old new (LinkFailed note) = IsNoted old new note
@@ -184,7 +202,7 @@ SummarizeStops old new (Clash id kept bytes) = Rose old.refusals new.refusals
 
 abbrev pub SummarizeDoes : AContainer → AContainer → Linked → Linked → Result (List ℕ) LoadFault → Type 0
 SummarizeDoes old new before after (Ok id) = Summarized old new before after id
-SummarizeDoes old new before after (Err fault) = SummarizeLeaves old new × (Changes before after × SummarizeStops before after fault)
+SummarizeDoes old new before after (Err fault) = SummarizeLeaves old new before fault × (Changes before after × SummarizeStops before after fault)
 
 -- ---- loading
 

@@ -79,9 +79,9 @@ blob_under name (Ok a) = Ok a
 blob_under name (Err (BadBlob path)) = Err (under name path)
 blob_under name (Err NoMemory) = Err name
 
--- of another entry and the one that is wanted, the one that stands first; the wanted one is missing then
+-- of another entry and the tree that is wanted, the one that stands first; the wanted one is missing then, or stands behind
 abbrev pub first_of : List ℕ → List ℕ → List ℕ
-first_of name wanted = if is_lt (byte_order name wanted) then name else wanted
+first_of name wanted = if is_lt (byte_order name (wanted ++ codes "/")) then name else wanted
 
 -- the entry of the wanted name, which is the next, and those behind it
 abbrev pub next : List ℕ → Children → Result (Summary × Children) (List ℕ)

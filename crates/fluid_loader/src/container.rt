@@ -6,7 +6,7 @@ ghost use Rattle.fluid_runtime.specs.AppTree.{app_tree};
 ghost use Rattle.fluid_runtime.specs.Shown.{shown};
 ghost use Rattle.fluid_store.specs.Standing.{Stands};
 ghost use Rattle.fluid_loader.specs.Container.{empty, acknowledged, is_from, taken_by, behind};
-ghost use Rattle.fluid_loader.specs.Calls.{FetchesIn, Answers, LoadsOnly, LoadDoes, LoadReads, begun_in, begun_picked, Fetched, ReadStops, PumpDoes, PumpReads, Submits, IsBehindFront, ProposeSays, counted, op_of, noop_of, summarize_of, shown_channels, EditLeaves, EditSays, Uploaded, UploadsTree, SummarizeDoes, Picked, Begins, since, failure};
+ghost use Rattle.fluid_loader.specs.Calls.{FetchesIn, Answers, LoadsOnly, LoadDoes, LoadReads, begun_in, begun_picked, Fetched, ReadStops, PumpDoes, PumpReads, Submits, IsBehindFront, ProposeLeaves, ProposeSays, op_of, noop_of, summarize_of, shown_channels, EditLeaves, EditSays, Uploaded, UploadsTree, SummarizeDoes, Picked, Begins, since, failure};
 ghost use Rattle.fluid_loader.specs.Laws.{HasReplayed, IsBased, IsHonestPick, IsOrder, IsShort};
 ghost use Rattle.fluid_loader.specs.Version.{IsIn, IsOfVersion};
 ghost use Rattle.fluid_loader.specs.Link.{AreFrom, Document, Fits, picked};
@@ -184,8 +184,7 @@ impl Container {
     fn propose<L: Link>(&mut self, alloc: Global, link: &mut L, id: &Id) -> Result<(), LoadFault>
         requires { Fits (L.seen link.old).client (summarize_of self.old id.now) }
         ensures lent { L.lent link.new ≡ L.lent link.old }
-        ensures taken { OnOk result (self.new ≡ counted self.old) }
-        ensures fault { OnErr result ((self.new ≡ self.old) ⊎ (self.new ≡ counted self.old)) }
+        ensures leaves { ProposeLeaves self.old self.new result }
         ensures says { ProposeSays (summarize_of self.old id.now) (L.seen link.old) (L.seen link.new) result }
     {
         let contents = summarize(alloc, id, &self.head, self.number)?;

@@ -4,7 +4,7 @@ ghost use Rattle.fluid_tree.specs.Summary.{children};
 ghost use Rattle.fluid_runtime.specs.App.{loaded};
 ghost use Rattle.fluid_store.specs.Standing.{object_at};
 ghost use Rattle.fluid_loader.specs.Calls.{FetchesIn, LoadReads, Sees, IsAnswer, IsFault};
-ghost use Rattle.fluid_loader.specs.Version.{IsIn, HasId, no_node, as_inner, as_leaf, node_within, nodes_within, under, next, channels_answer, quorum_answer, version_answer, id_named, version_at};
+ghost use Rattle.fluid_loader.specs.Version.{IsIn, HasId, no_node, as_inner, as_leaf, node_within, nodes_within, under, first_of, next, channels_answer, quorum_answer, version_answer, id_named, version_at};
 ghost use Rattle.fluid_loader.specs.Said.{known, said, channels_said};
 
 use crate::container::failed;
@@ -214,10 +214,21 @@ fn next<'a>(
     if name.as_str() == wanted {
         return Ok((node, rest));
     }
-    if name.as_str() < wanted {
-        return Err(bad(alloc, name.as_str()));
+    Err(first_of(alloc, name.as_str(), wanted))
+}
+
+// Of another entry and the tree that is wanted, the one that stands first.
+fn first_of(alloc: Global, name: &str, wanted: &str) -> LoadFault
+    ensures { (result ≡ LoadFault.NoMemory) ⊎ (result ≡ LoadFault.BadSummary (first_of name.now wanted.now)) }
+{
+    let Ok(place) = format!(in alloc; "{wanted}/") else {
+        return LoadFault::NoMemory;
+    };
+    if name < place.as_str() {
+        bad(alloc, name)
+    } else {
+        bad(alloc, wanted)
     }
-    Err(bad(alloc, wanted))
 }
 
 fn app_in(alloc: Global, node: &Node) -> Result<App, LoadFault>
