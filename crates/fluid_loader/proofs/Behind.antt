@@ -8,7 +8,7 @@ use Rattle.fluid_types.specs.declared.messages.Message.{Message}
 use Rattle.fluid_types.specs.declared.entries.Submission.{Submission}
 use Rattle.fluid_quorum.specs.After.{after}
 use Rattle.fluid_store.specs.Held.{Held, Keeps}
-use Rattle.fluid_loader.specs.Calls.{IsBehindFront, ProposeSays, SummarizeDoes, SummarizeLeaves, SummarizeStops, counted, since}
+use Rattle.fluid_loader.specs.Calls.{ProposeLeaves, UploadsTree, IsBehindFront, ProposeSays, SummarizeDoes, SummarizeLeaves, SummarizeStops, since}
 use Rattle.fluid_loader.specs.Container.{AContainer, IsKept, taken_by, behind}
 use Rattle.fluid_loader.specs.Link.{AreFrom, Linked, Document, GrowsIfTold, Changes}
 use Rattle.fluid_loader.specs.declared.following.Following.{Following}
@@ -108,9 +108,14 @@ changes_then a b c h k = record {
 rose_since : (a b c : ℕ) → a ≤ b → Rose b c → Rose a c
 rose_since a b c le h = omega (arith, le, h)
 
-leaves : (old mid new : AContainer) (id : List ℕ) → mid ≡ since old id → (new ≡ mid) ⊎ (new ≡ counted mid) → SummarizeLeaves old new
-leaves old mid new id is (inl same) = inr (id, inl (same ∙ is))
-leaves old mid new id is (inr one) = inr (id, inr (one ∙ ap counted is))
+leaves : (old mid new : AContainer) (id : List ℕ) (before between : Linked) (fault : LoadFault) → mid ≡ since old id → UploadsTree old before between (Ok id)
+    → ProposeLeaves {A = Unit {0}} mid new (Err fault) → SummarizeLeaves old new before fault
+leaves old mid new id before between fault is put left = inr (record {
+  id = id;
+  between = between;
+  uploaded = put;
+  leaves = subst (λ c. ProposeLeaves {A = Unit {0}} c new (Err fault)) is left;
+})
 
 stops_by : (submission : Submission) (a b c : Linked) (fault : LoadFault) → Changes a b → ProposeSays {A = Unit {0}} submission b c (Err fault) → Changes a c × SummarizeStops a c fault
 stops_by submission a b c (LinkFailed note) first h =
@@ -128,5 +133,5 @@ handed old new before after (Ok id) fault h s = absurd h
 handed old new before after (Err e) fault h s = subst (λ f. SummarizeDoes old new before after (Err f)) (sym h) s
 
 pub propose_stops : (old mid new : AContainer) (id : List ℕ) (submission : Submission) (a b c : Linked) (r : Result (List ℕ) LoadFault) (fault : LoadFault) → IsErrAnd r (λ e. e ≡ fault)
-    → mid ≡ since old id → (new ≡ mid) ⊎ (new ≡ counted mid) → Changes a b → ProposeSays {A = Unit {0}} submission b c (Err fault) → SummarizeDoes old new a c r
-propose_stops old mid new id submission a b c r fault handed_on is left first h = handed old new a c r fault handed_on (leaves old mid new id is left, stops_by submission a b c fault first h)
+    → mid ≡ since old id → UploadsTree old a b (Ok id) → ProposeLeaves {A = Unit {0}} mid new (Err fault) → Changes a b → ProposeSays {A = Unit {0}} submission b c (Err fault) → SummarizeDoes old new a c r
+propose_stops old mid new id submission a b c r fault handed_on is put left first h = handed old new a c r fault handed_on (leaves old mid new id a b fault is put left, stops_by submission a b c fault first h)

@@ -28,7 +28,7 @@ use Rattle.fluid_store.proofs.Whole.{each_in_order}
 use Rattle.fluid_loader.specs.Version.{no_node, node_within}
 use Rattle.fluid_loader.proofs.Honest.{plain_utf8, named_nodes, blob_read, tree_read}
 
-same_word : (a b : QuorumBlob) → blob_word a ≡ blob_word b → a ≡ b
+pub same_word : (a b : QuorumBlob) → blob_word a ≡ blob_word b → a ≡ b
 same_word word.Attributes word.Attributes h = refl
 same_word word.Attributes word.Members h = cc
 same_word word.Attributes word.Proposals h = cc
@@ -47,7 +47,7 @@ same_word word.Values word.Proposals h = cc
 same_word word.Values word.Values h = refl
 
 -- the answer is that of the four texts
-answer_by : (t s : Summary) → ((b : QuorumBlob) → text_in t b ≡ text_in s b) → answer t ≡ answer s
+pub answer_by : (t s : Summary) → ((b : QuorumBlob) → text_in t b ≡ text_in s b) → answer t ≡ answer s
 unfolding answer attributes_in members_in proposals_in values_in
 answer_by t s e =
     λ i.
@@ -63,19 +63,19 @@ no_blobs q h = cc
 
 module _ (back : IsReadBack) (held : Held) (quorum : Quorum) where
   -- an entry under whose id the blob of its name stands
-  abbrev IsBlobOf : ObjectEntry → Type 0
+  abbrev pub IsBlobOf : ObjectEntry → Type 0
   IsBlobOf x = (b : QuorumBlob) × ((x.name ≡ blob_word b) × ((x.tree ≡ false) × Stands held x.id (blob (blob_text quorum b))))
 
-  abbrev nodes_of : List QuorumBlob → Children
+  abbrev pub nodes_of : List QuorumBlob → Children
   nodes_of bs = children (map (λ (b : List ℕ × List ℕ). (b.0, blob b.1)) (map (λ b. (blob_word b, blob_text quorum b)) bs))
 
-  entries_of : (bs : List QuorumBlob) (es : List ObjectEntry) → AllStand held es (nodes_of bs) → Each IsBlobOf es
+  pub entries_of : (bs : List QuorumBlob) (es : List ObjectEntry) → AllStand held es (nodes_of bs) → Each IsBlobOf es
   entries_of [] [] stand = tt
   entries_of [] (e ∷ es) stand = absurd stand
   entries_of (b ∷ bs) [] stand = absurd stand
   entries_of (b ∷ bs) (e ∷ es) stand = ((b, (stand.0, (stand.1.0, stand.1.1.1.0))), entries_of bs es stand.1.1.1.1)
 
-  protocol_is : protocol (blobs_of quorum) ≡ tree (nodes_of quorum_blobs)
+  pub protocol_is : protocol (blobs_of quorum) ≡ tree (nodes_of quorum_blobs)
   unfolding blobs_of
   protocol_is = refl
 
@@ -113,7 +113,7 @@ module _ (back : IsReadBack) (held : Held) (quorum : Quorum) where
           let text : blob_text quorum o ≡ content = cc in
           (sym said.0 ∙ sym text ∙ ap (blob_text quorum) same, said.1)
 
-  blob_names : AllUtf8 (names (nodes_of quorum_blobs))
+  pub blob_names : AllUtf8 (names (nodes_of quorum_blobs))
   blob_names = (plain_utf8 (blob_word word.Attributes) refl, (plain_utf8 (blob_word word.Members) refl, (plain_utf8 (blob_word word.Proposals) refl, (plain_utf8 (blob_word word.Values) refl, tt))))
 
   same_quorum : (q p : Quorum) → ◌≡◌ {A = Result Quorum BlobFault} (Ok q) (Ok p) → q ≡ p

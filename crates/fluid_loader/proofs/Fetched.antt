@@ -27,11 +27,11 @@ use Rattle.fluid_store.proofs.Whole.{IsApart, AreApart as AreApartEntries, each_
 use Rattle.fluid_loader.specs.Laws.{IsShort, AreNamed}
 use Rattle.fluid_loader.proofs.Honest.{two_in_order, keys_are, content_name, kind_name, pair, two_names, IsEntryOf, nodes_of, entries_of, has_name, names_utf8}
 
-blob_size : (content : List ℕ) → length content ≤ length (object_bytes (Blob content))
+pub blob_size : (content : List ℕ) → length content ≤ length (object_bytes (Blob content))
 unfolding object_bytes
 blob_size content = body_size (codes "blob") content
 
-tree_size : (es : List ObjectEntry) → length (flat_map entry_bytes (in_order es)) ≤ length (tree_bytes es)
+pub tree_size : (es : List ObjectEntry) → length (flat_map entry_bytes (in_order es)) ≤ length (tree_bytes es)
 unfolding tree_bytes
 tree_size es = body_size (codes "tree") (flat_map entry_bytes (in_order es))
 
@@ -91,10 +91,10 @@ module _ (back : IsReadBack) (held : Held) (short : IsShort held) where
           ∙ (λ i. Ok (tree (child (stand.0 i) (blob (content_of channel)) (child (rest.0 i) (blob (kind_word (kind_of channel))) no_children))))
 
   module _ (channels : Channels) (named : AreNamed channels) where
-    abbrev Entry : ObjectEntry → Type 0
+    abbrev pub Entry : ObjectEntry → Type 0
     Entry = IsEntryOf back held channels
 
-    abbrev pairs_in : (es : List ObjectEntry) → Each Entry es → Pairs
+    abbrev pub pairs_in : (es : List ObjectEntry) → Each Entry es → Pairs
     pairs_in [] h = []
     pairs_in (x ∷ es) h = (x.name, h.0.0) ∷ pairs_in es h.1
 
@@ -104,7 +104,7 @@ module _ (back : IsReadBack) (held : Held) (short : IsShort held) where
         ap (λ r. r >>= λ s. (nodes_by (child_at (suc n)) es >>= λ nodes. Ok (child x.name s nodes))) (channel_child n x h.0.0 h.0.1.1.0 h.0.1.1.1)
         ∙ ap (λ r. r >>= λ nodes. Ok (child x.name (channel_node h.0.0) nodes)) (all_children n es h.1)
 
-    in_each : (es : List ObjectEntry) (h : Each Entry es) → AllByRecursion (λ e. get channels e.0 ≡ Some e.1) (pairs_in es h)
+    pub in_each : (es : List ObjectEntry) (h : Each Entry es) → AllByRecursion (λ e. get channels e.0 ≡ Some e.1) (pairs_in es h)
     in_each [] h = tt
     in_each (x ∷ es) h = (h.0.1.0, in_each es h.1)
 
@@ -112,19 +112,19 @@ module _ (back : IsReadBack) (held : Held) (short : IsShort held) where
     apart_from x [] h apart = tt
     apart_from x (y ∷ es) h apart = (apart.0, apart_from x es h.1 apart.1)
 
-    in_apart : (es : List ObjectEntry) (h : Each Entry es) → AreApartEntries es → AreApart (pairs_in es h)
+    pub in_apart : (es : List ObjectEntry) (h : Each Entry es) → AreApartEntries es → AreApart (pairs_in es h)
     in_apart [] h apart = tt
     in_apart (x ∷ es) h apart = (apart_from x es h.1 apart.0, in_apart es h.1 apart.1)
 
-    in_named : (at : List ℕ) (es : List ObjectEntry) (h : Each Entry es) → Has (λ x. x.name ≡ at) es → IsNamed at (pairs_in es h)
+    pub in_named : (at : List ℕ) (es : List ObjectEntry) (h : Each Entry es) → Has (λ x. x.name ≡ at) es → IsNamed at (pairs_in es h)
     in_named at [] h has = absurd has
     in_named at (x ∷ es) h (inl own) = inl own
     in_named at (x ∷ es) h (inr later) = inr (in_named at es h.1 later)
 
-    each_found : AllByRecursion (λ c. get channels c.0 ≡ Some c.1) (entries channels)
+    pub each_found : AllByRecursion (λ c. get channels c.0 ≡ Some c.1) (entries channels)
     each_found = each-all (λ c. get channels c.0 ≡ Some c.1) (entries channels) (λ k d within. found_there channels k d within)
 
-    each_named : (cs : Pairs) → AllByRecursion (λ c. get channels c.0 ≡ Some c.1) cs → AllByRecursion (λ c. IsName c.0) cs
+    pub each_named : (cs : Pairs) → AllByRecursion (λ c. get channels c.0 ≡ Some c.1) cs → AllByRecursion (λ c. IsName c.0) cs
     each_named [] h = tt
     each_named (c ∷ cs) h = (named c.0 c.1 h.0, each_named cs h.1)
 

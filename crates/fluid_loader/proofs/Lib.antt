@@ -1,9 +1,11 @@
 pub mod Behind
 pub mod Seen
+pub mod Inside
 pub mod Loading
 pub mod Storable
 pub mod Honest
 pub mod Blobs
 pub mod Fetched
 pub mod Based
+pub mod Exact
 pub mod Replayed

@@ -4,14 +4,15 @@ use Rattle.std.specs.Result.{IsErrAnd}
 use Rattle.fluid_io.specs.Causes.{Tells}
 use Rattle.fluid_tree.specs.declared.id.SummaryRef.{SummaryRef}
 use Rattle.fluid_types.specs.declared.messages.Message.{Message}
-use Rattle.fluid_loader.specs.Calls.{Answers, ReadStops, LoadReads, LoadsOnly, PumpReads, PumpDoes, PickedSays, Sees, Loaded, LoadDoes, begun_of, or_bad, begun_picked, begun_in}
+use Rattle.fluid_loader.specs.Calls.{FetchesIn, Answers, ReadStops, LoadReads, LoadsOnly, PumpReads, PumpDoes, PickedSays, Sees, Loaded, LoadDoes, begun_of, or_bad, begun_picked, begun_in}
 use Rattle.fluid_loader.specs.Container.{AContainer, behind}
 use Rattle.fluid_loader.specs.Laws.{IsOrder, IsHonestPick, HasReplayed, IsWholeReplay}
 use Rattle.fluid_loader.specs.Link.{Document, Linked, Reads, picked}
-use Rattle.fluid_loader.specs.Version.{version_at}
+use Rattle.fluid_loader.specs.Version.{IsOfVersion, version_at}
 use Rattle.fluid_loader.specs.declared.link.Pick.{Pick}
 use Rattle.fluid_loader.specs.declared.fault.LoadFault.{LoadFault}
 use Rattle.fluid_loader.specs.declared.fault.LoadFault.TheVariants.{LinkFailed, NoSummary, BadSummary, Edit, Refused, NoMemory, Clash}
+use Rattle.fluid_loader.proofs.Inside.{kept_fetched}
 use Rattle.fluid_loader.proofs.Seen.{tells_then, tells_both, tells_of}
 
 -- why a call that only reads stops is why its caller stops
@@ -85,8 +86,8 @@ only_begun old mid h =
     record { same = h.same ∙ (λ i. record old { faults = mid.faults; objects = mid.objects; messages = none i }); later = h.later }
 
 pub loaded_by : (pick : Pick) (old mid new : Linked) (first c : AContainer) (number : ℕ) → LoadReads old mid → Tells old.told (λ d. begun_in pick d ≡ Ok first) → PumpDoes first c mid new (Ok number)
-    → Loaded pick old new c
-loaded_by pick old mid new first c number reads begins done =
+    → FetchesIn (λ d. IsOfVersion d.held (picked pick d.order)) old mid → Loaded pick old new c
+loaded_by pick old mid new first c number reads begins done inside =
     let messages = done.1.0 in
     let fetched = done.1.1.0 in
     let same = reads.same in
@@ -100,6 +101,7 @@ loaded_by pick old mid new first c number reads begins done =
       fetched =
           ap (λ (l : Linked). l.messages) fetched.fetched
           ∙ ap (λ ms. ms ++ map (λ (m : Message). m.number) messages) (ap (λ (l : Linked). l.messages) same);
+      objects = kept_fetched (λ d. IsOfVersion d.held (picked pick d.order)) old mid new (ap (λ (l : Linked). l.objects) fetched.fetched) inside;
     }
 
 -- a container that was loaded from an honest summary is the replay of the whole order

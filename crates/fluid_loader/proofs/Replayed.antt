@@ -2,7 +2,12 @@
 use Rattle.std.proofs.Common.{◌≡◌, ℕ, suc, bytes_eq, ◌+◌, ◌^◌, ◌≤◌, ◌==◌, Bool, true, false, cond, ◌&&◌, List, [], ◌∷◌, ◌++◌, length, take, drop, Option, Some, None, Result, Ok, Err, codes, refl, sym, ap, subst, ◌∙◌, arith, append_assoc, append-nil}
 use Rattle.std.specs.Prelude.{All}
 use Rattle.std.specs.List.{filter_map, cons_option}
-use Rattle.std.proofs.lemmas.List.{take-append-drop}
+use Rattle.std.specs.FinMap.{get}
+use Rattle.std.proofs.lemmas.Bool.{eqb-false}
+use Rattle.std.proofs.lemmas.List.{take-append-drop, length-take-le}
+use Rattle.fluid_tree.specs.Object.{tree_bytes}
+use Rattle.fluid_types.proofs.Numbers.{last_number}
+use Rattle.fluid_types.specs.Quorum.{at_last}
 use Rattle.std.proofs.lemmas.List.Elements.{All-take}
 use Rattle.fluid_tree.specs.Laws.{IsReadBack}
 use Rattle.fluid_tree.specs.Summary.{Summary, Children, no_children, child, children, is_tree}
@@ -46,6 +51,8 @@ use Rattle.fluid_loader.specs.Link.{Document, picked}
 use Rattle.fluid_loader.specs.Version.{AVersion, ◌>>=◌, node_within, nodes_within, blob_under, under, of_number, channels_answer, quorum_answer, version_answer, entries_of, entries_at, id_named, version_at}
 use Rattle.fluid_loader.specs.declared.link.Pick.TheVariants.{Empty, Latest, Handle}
 use Rattle.fluid_loader.proofs.Based.{behind_based}
+use Rattle.fluid_loader.proofs.Exact.{tree_at, app_exact, protocol_exact}
+use Rattle.fluid_loader.specs.Laws.{IsShort, AreTexts as LawTexts, IsHonestRead}
 use Rattle.fluid_loader.proofs.Blobs.{protocol_read}
 use Rattle.fluid_loader.proofs.Honest.{plain_utf8, two_in_order, keys_are, app_read}
 use Rattle.fluid_loader.proofs.Storable.{AreKept, none_kept, replay_kept}
@@ -86,6 +93,13 @@ behind_quorum law client c before (m ∷ ms) first is =
     ∙ ap quorum_of (sym joined)
 
 -- ---- orders
+
+is_eq : (a b : ℕ) → a ≡ b → (a == b) ≡ true
+is_eq a b e = by_test (a == b) refl
+  where
+    by_test : (c : Bool) → (a == b) ≡ c → c ≡ true
+    by_test true h = refl
+    by_test false h = absurd (eqb-false a b h e)
 
 numbers_fit : (k : ℕ) (ms : List Message) → k ≤ largest + 1 → AreNumberedFrom k ms → Each IsReadAsItself ms → length ms + k ≤ largest + 1
 numbers_fit k [] le numbered back = omega (arith, le)
@@ -162,6 +176,10 @@ module _ (back : IsReadBack) (maps : map_laws.IsReadBack) (counters : counter_la
 
     kept : AreKept (length first_ones) (replayed order s.number)
     kept = let same : 0 + length first_ones ≡ length first_ones = omega arith in subst (λ k. AreKept k (replayed order s.number)) same (replay_kept first_ones 0 no_channels each_back (none_kept 0))
+
+    same_number : s.number ≤ length order → ((quorum_of first_ones).number == s.number) ≡ true
+    unfolding quorum_of
+    same_number within = is_eq (at_last (λ m. m.number) first_ones) s.number (last_number first_ones numbered ∙ length-take-le s.number order within)
 
     abbrev IsRead : Channels × Quorum → Type 0
     IsRead v = (v.0 ≡ replayed order s.number) × (v.1 ≡ quorum_of first_ones)
@@ -244,6 +262,43 @@ module _ (back : IsReadBack) (maps : map_laws.IsReadBack) (counters : counter_la
           based = behind_based stays unmarked held client first later (begun_based v right);
         }
 
+    -- the version is read, where nothing that is held is too long
+    version_read : IsShort held → s.number ≤ length order → LawTexts (replayed order s.number) (quorum_of first_ones) → IsHonest held order s → (v : AVersion) × (version_at held s ≡ Ok v)
+    version_read short within texts stands = by_entries_of stands.1.0 stands.1.1.0 stands.1.1.1
+      where
+        channels : Channels
+        channels = replayed order s.number
+
+        by_entries_of : (es : List ObjectEntry) → get held s.handle ≡ Some (tree_bytes es) → AllStand held es (pair (app_tree (replayed order s.number)) (protocol (blobs_of (quorum_of first_ones))))
+            → (v : AVersion) × (version_at held s ≡ Ok v)
+        by_entries_of [] here stand = absurd stand
+        by_entries_of (e ∷ []) here stand = absurd stand.1.1.1.1
+        by_entries_of (e ∷ f ∷ g ∷ gs) here stand = absurd stand.1.1.1.1.1.1.1.1
+        by_entries_of (e ∷ f ∷ []) here stand =
+            let rest = stand.1.1.1.1 in
+            let fit = standing_fit held (e ∷ f ∷ []) (pair (app_tree (replayed order s.number)) (protocol (blobs_of (quorum_of first_ones)))) stand stands.0 version_names in
+            let sorted : in_order (e ∷ f ∷ []) ≡ e ∷ f ∷ [] = two_in_order e f (keys_are e f app_name protocol_name true true stand.0 stand.1.0 rest.0 rest.1.0) in
+            let root : entries_at held s.handle ≡ Ok (e ∷ f ∷ []) = ap entries_of (tree_at back held short s.handle (e ∷ f ∷ []) fit here) ∙ ap Ok sorted in
+            let x = node_within held 2 e in
+            let y = node_within held 2 f in
+            let app_is = app_exact back held short (replayed order s.number) (λ at channel is. (kept at channel is).0) maps counters (length first_ones) few kept texts.maps e stand.1.0 stand.1.1.1.0 in
+            let state = protocol_exact back held short (quorum_of first_ones) only (quorums first_ones numbered read_back) texts.blobs f rest.1.0 rest.1.1.1.0 in
+            let number : ((quorum_of first_ones).number == s.number) ≡ true = same_number within in
+            let inner_q : quorum_answer s.number y ≡ Ok (quorum_of first_ones) =
+            ap (λ b. cond b (blob_under protocol_name (quorum.answer y) >>= of_number s.number) (Err protocol_name)) state.0
+            ∙ ap (λ r. blob_under protocol_name r >>= of_number s.number) state.1
+            ∙ ap (λ b. cond b (Ok (quorum_of first_ones)) (Err (under protocol_name (codes "attributes")))) number in
+            let both : version_answer s.number (pair x y) ≡ Ok (replayed order s.number, quorum_of first_ones) =
+            ap (λ r. blob_under app_name r >>= λ c. (quorum_answer s.number y >>= λ q. Ok (c, q))) app_is ∙ ap (λ r. r >>= λ q. Ok (replayed order s.number, q)) inner_q in
+            let named : children (nodes_within held 2 (e ∷ f ∷ [])) ≡ pair x y = (λ i. child (stand.0 i) x (child (rest.0 i) y no_children)) in (
+              record { channels = replayed order s.number; quorum = quorum_of first_ones; base = id_named s.handle app_name (e ∷ f ∷ []) },
+              ap
+                  (λ r. r >>= λ entries. version_answer s.number (children (nodes_within held 2 entries)) >>= λ v. Ok (record { channels = v.0; quorum = v.1; base = id_named s.handle app_name entries }))
+                  root
+                  ∙ ap (λ cs. version_answer s.number cs >>= λ v. Ok (record { channels = v.0; quorum = v.1; base = id_named s.handle app_name (e ∷ f ∷ []) })) named
+                  ∙ ap (λ r. r >>= λ v. Ok (record { channels = v.0; quorum = v.1; base = id_named s.handle app_name (e ∷ f ∷ []) })) both,
+            )
+
   behind_nothing : (client : List ℕ) (document : Document) → IsOrder document.order → HasReplayed document (behind client empty (drop 0 document.order))
   behind_nothing client document is_order = record {
     channels = behind_channels client empty document.order;
@@ -270,3 +325,6 @@ module _ (back : IsReadBack) (maps : map_laws.IsReadBack) (counters : counter_la
       subst (λ c. HasReplayed document (behind client c (drop c.number document.order))) made (behind_nothing client document is_order)
   whole_replay client document Latest first is_order honest h = by_picked client document (picked Latest document.order) first is_order honest h
   whole_replay client document (Handle id) first is_order honest h = by_picked client document (picked (Handle id) document.order) first is_order honest h
+
+  pub honest_read : IsHonestRead
+  honest_read document s is_order within short texts stands = version_read document.order is_order document.held s short within texts stands

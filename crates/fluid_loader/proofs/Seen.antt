@@ -1,10 +1,11 @@
 -- The nodes of a version.
-use Rattle.std.proofs.Common.{◌≡◌, ℕ, zero, suc, true, false, List, Option, Some, None, Result, Ok, Err, if◌then◌else◌, sym, ap, subst, ◌∙◌, arith}
+use Rattle.std.proofs.Common.{◌≡◌, ℕ, zero, suc, true, false, List, Option, Some, None, Result, Ok, Err, if◌then◌else◌, sym, ap, subst, ◌∙◌, arith, ◌+◌, ◌<◌, [], ◌∷◌, ◌++◌, length, get_or, take}
 use Rattle.fluid_io.specs.Causes.{Tells}
 use Rattle.fluid_tree.specs.Summary.{Summary, tree, children}
 use Rattle.fluid_tree.specs.declared.object.Object.{Object}
 use Rattle.fluid_tree.specs.declared.object.Object.TheVariants.{Tree}
 use Rattle.fluid_tree.specs.declared.object.ObjectEntry.{ObjectEntry}
+use Rattle.fluid_runtime.proofs.Nodes.{pushed_on}
 use Rattle.fluid_store.specs.Held.{Held}
 use Rattle.fluid_store.specs.Standing.{object_at}
 use Rattle.fluid_loader.specs.Calls.{Sees}
@@ -70,3 +71,14 @@ tree_read told between levels id entries slice nodes node found same is own made
     (made ∙ ap (λ ns. tree (children ns)) (same_answer nodes (nodes_within d.held levels slice) rest ∙ ap (nodes_within d.held levels) own)
     ∙ ap (as_inner (node_within d.held levels)) (sym is ∙ same_answer found (object_at d.held id) here)))
     at (tells_of told between _ same all)
+
+-- one node more
+pub node_pushed : (old mid : Option Document) (levels n : ℕ) (entries : List ObjectEntry) (e : ObjectEntry) (so_far behind : List (List ℕ × Summary)) (name : List ℕ) (node : Summary) → mid ≡ old
+    → n < length entries → e ≡ get_or entries n e → name ≡ e.name → behind ≡ so_far ++ (name, node) ∷ [] → Tells old (λ d. so_far ≡ nodes_within d.held levels (take n entries))
+    → Tells mid (λ d. ◌≡◌ {A = Result Summary (List ℕ)} (Ok node) (Ok (node_within d.held levels e))) → Tells old (λ d. behind ≡ nodes_within d.held levels (take (n + 1) entries))
+node_pushed old mid levels n entries e so_far behind name node same within is own pushed first next =
+    tells_both old (λ d. so_far ≡ nodes_within d.held levels (take n entries)) (λ d. ◌≡◌ {A = Result Summary (List ℕ)} (Ok node) (Ok (node_within d.held levels e)))
+    (λ d. behind ≡ nodes_within d.held levels (take (n + 1) entries))
+    (λ d a b.
+    pushed_on (λ f. (f.name, node_within d.held levels f)) entries so_far behind n e (name, node) pushed a within is (λ i. (own i, same_answer node (node_within d.held levels e) b i)))
+    first (tells_of old mid (λ d. ◌≡◌ {A = Result Summary (List ℕ)} (Ok node) (Ok (node_within d.held levels e))) same next)

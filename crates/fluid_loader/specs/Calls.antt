@@ -1,5 +1,6 @@
 -- What each call of a container does.
 use Rattle.std.specs.Prelude.{◌≡◌, ◌⊎◌, ℕ, ◌+◌, ◌^◌, ◌<◌, ◌≤◌, IfSome, Option, List, [], ◌∷◌, ◌++◌, drop, map, false, Some, None, Result, Ok, Err, ⊤}
+use Rattle.std.specs.List.{AllByRecursion}
 use Rattle.fluid_io.specs.Causes.{Rose, Tells}
 use Rattle.fluid_io.specs.declared.faults.FaultNote.{FaultNote}
 use Rattle.fluid_json.specs.Tree.{null}
@@ -13,7 +14,7 @@ use Rattle.fluid_runtime.specs.App.{all_are}
 use Rattle.fluid_runtime.specs.AppTree.{tree_since}
 use Rattle.fluid_runtime.specs.Refused as refused
 use Rattle.fluid_store.specs.Held.{Held}
-use Rattle.fluid_loader.specs.Version.{AVersion, version_at}
+use Rattle.fluid_loader.specs.Version.{AVersion, IsOfVersion, version_at}
 use Rattle.fluid_loader.specs.Container.{AContainer, empty, begun, behind}
 use Rattle.fluid_loader.specs.Link.{Document, Linked, Reads, AreFrom, Changes, IsUploaded, count_handles, picked}
 use Rattle.fluid_loader.specs.Submitting.{numbered, summarize_tree}
@@ -167,10 +168,28 @@ pub record Summarized (old new : AContainer) (before after : Linked) (id : List 
   pub submitted : Submits (summarize_of old id) between after (Ok id)
   pub leaves : new ≡ counted (since old id)
 
--- what it leaves where it failed
-abbrev pub SummarizeLeaves : AContainer → AContainer → Type 0
-SummarizeLeaves old new =
-    (new ≡ old) ⊎ ((id : List ℕ) × ((new ≡ since old id) ⊎ (new ≡ counted (since old id))))
+-- what asking for a tree to be acknowledged leaves, by the answer: a client number counts as used but where it was refused, or where no
+-- memory was found before
+abbrev pub ProposeLeaves : {A : Type 0} → AContainer → AContainer → Result A LoadFault → Type 0
+ProposeLeaves old new (Ok done) = new ≡ counted old
+ProposeLeaves old new (Err (LinkFailed note)) = new ≡ counted old
+ProposeLeaves old new (Err NoMemory) = (new ≡ old) ⊎ (new ≡ counted old)
+ProposeLeaves old new (Err NoSummary) = new ≡ old
+ProposeLeaves old new (Err (BadSummary path)) = new ≡ old
+ProposeLeaves old new (Err (EditRefused fault)) = new ≡ old
+ProposeLeaves old new (Err (Refused nack)) = new ≡ old
+ProposeLeaves old new (Err (Clash id kept bytes)) = new ≡ old
+
+-- its tree was put, and is the last one from now on, and then what asks for it failed
+pub record PutAlone (old new : AContainer) (before : Linked) (fault : LoadFault) : Type 0 where
+  pub id : List ℕ
+  pub between : Linked
+  pub uploaded : UploadsTree old before between (Ok id)
+  pub leaves : ProposeLeaves {A = Unit {0}} (since old id) new (Err fault)
+
+-- what it leaves where it failed: nothing but what such a put leaves
+abbrev pub SummarizeLeaves : AContainer → AContainer → Linked → LoadFault → Type 0
+SummarizeLeaves old new before fault = (new ≡ old) ⊎ PutAlone old new before fault
 
 abbrev pub SummarizeStops : Linked → Linked → LoadFault → Type 0
 SummarizeStops old new (LinkFailed note) = IsNoted old new note
@@ -183,7 +202,7 @@ SummarizeStops old new (Clash id kept bytes) = Rose old.refusals new.refusals
 
 abbrev pub SummarizeDoes : AContainer → AContainer → Linked → Linked → Result (List ℕ) LoadFault → Type 0
 SummarizeDoes old new before after (Ok id) = Summarized old new before after id
-SummarizeDoes old new before after (Err fault) = SummarizeLeaves old new × (Changes before after × SummarizeStops before after fault)
+SummarizeDoes old new before after (Err fault) = SummarizeLeaves old new before fault × (Changes before after × SummarizeStops before after fault)
 
 -- ---- loading
 
@@ -205,6 +224,12 @@ failure before after NoLinkMemory = NoMemory
 pub record LoadReads (old new : Linked) : Type 0 where
   pub same : new ≡ record old { faults = new.faults; objects = new.objects }
   pub later : old.faults ≤ new.faults
+
+-- the objects that were fetched are such, where the link tells what is held
+pub record FetchesIn (inside : Document → List ℕ → Type 0) (old new : Linked) : Type 0 where
+  pub ids : List (List ℕ)
+  pub fetched : new.objects ≡ old.objects ++ ids
+  pub are : Tells old.told (λ document. AllByRecursion (inside document) ids)
 
 -- what a call that reads objects answers of what is held, where the link tells it
 abbrev pub Sees : {A : Type 0} → (Held → Result A (List ℕ)) → Linked → Linked → Result A LoadFault → Type 0
@@ -267,7 +292,8 @@ pub record LoadsOnly (old new : Linked) : Type 0 where
   pub same : new ≡ record old { faults = new.faults; objects = new.objects; messages = new.messages }
   pub later : old.faults ≤ new.faults
 
--- a container was loaded: it began so, and took in all messages behind that, each of which was fetched once
+-- a container was loaded: it began so, and took in all messages behind that, each of which was fetched once; no object was fetched but
+-- those of the version
 pub record Loaded (pick : Pick) (old new : Linked) (c : AContainer) : Type 0 where
   pub first : AContainer
   pub messages : List Message
@@ -276,6 +302,7 @@ pub record Loaded (pick : Pick) (old new : Linked) (c : AContainer) : Type 0 whe
   pub all : Tells old.told (λ document. drop first.number document.order ≡ messages)
   pub taken : c ≡ behind old.client first messages
   pub fetched : new.messages ≡ old.messages ++ map (λ m. m.number) messages
+  pub objects : FetchesIn (λ document. IsOfVersion document.held (picked pick document.order)) old new
 
 abbrev pub LoadDoes : Pick → Linked → Linked → Result AContainer LoadFault → Type 0
 LoadDoes pick old new (Ok c) = Loaded pick old new c

@@ -1,19 +1,23 @@
 -- What holds of containers: one that begins with an honest summary and takes in the messages behind it is one that has taken in all.
-use Rattle.std.specs.Prelude.{◌≡◌, ℕ, ◌^◌, ◌<◌, length, List, [], ◌∷◌, take, drop, Bool, All, Option, Some, None, Ok, codes}
+use Rattle.std.specs.Prelude.{◌≡◌, ℕ, ◌^◌, ◌<◌, length, List, [], ◌∷◌, take, drop, Bool, All, Option, Some, None, Ok, codes, ◌≤◌, IsUtf8}
 use Rattle.std.specs.FinMap.{get}
 use Rattle.fluid_table.specs.Table.{Values}
 use Rattle.fluid_types.specs.Names.{IsName}
 use Rattle.fluid_types.specs.Blobs.{blobs}
 use Rattle.fluid_types.specs.Order.{AreFirst}
-use Rattle.fluid_types.specs.Quorum.{quorum_of}
+use Rattle.fluid_types.specs.Quorum.{Quorum, quorum, quorum_of}
 use Rattle.fluid_types.specs.declared.messages.Message.{Message}
 use Rattle.fluid_tree.specs.Summary.{Summary, tree, child, no_children}
 use Rattle.fluid_tree.specs.declared.id.SummaryRef.{SummaryRef}
 use Rattle.fluid_readback.specs.Quorums.{IsReadAsItself}
 use Rattle.fluid_rules.specs.Scribe.{protocol, tree_entry}
-use Rattle.fluid_edits.specs.Replay.{Channel, Channels, no_channels, replay}
+use Rattle.fluid_edits.specs.Replay.{Channel, a_map, Channels, no_channels, replay}
 use Rattle.fluid_runtime.specs.Laws.{IsSince, IsUnmarked}
 use Rattle.fluid_runtime.specs.AppTree.{app_tree, tree_since}
+use Rattle.fluid_map.specs.Content.{content}
+use Rattle.fluid_map.specs.Replay as map
+use Rattle.fluid_quorum.specs.Node as node
+use Rattle.fluid_loader.specs.Version.{AVersion, version_at}
 use Rattle.fluid_store.specs.Held.{Held, Keeps}
 use Rattle.fluid_store.specs.Standing.{Stands}
 use Rattle.fluid_store.specs.Uploading.{IsEarlier, StandsResolved}
@@ -86,6 +90,18 @@ pub record HasReplayed (document : Document) (c : AContainer) : Type 0 where
 -- the channels of a container behind messages are the replay of these from its channels
 abbrev pub IsReplayBehind : Type 0
 IsReplayBehind = (client : List ℕ) (c : AContainer) (messages : List Message) → (behind client c messages).channels ≡ replay c.channels messages
+
+-- the contents of the maps and of the quorum's blobs are UTF-8, as what is written of them is
+pub record AreTexts (channels : Channels) (q : Quorum) : Type 0 where
+  pub maps : (at : List ℕ) (values : map.Values) → get channels at ≡ Some (a_map values) → IsUtf8 (content values)
+  pub blobs : node.AreTexts q
+
+-- an honest summary of a number of the order is read, where no object that is held is too long to be read
+abbrev pub IsHonestRead : Type 0
+IsHonestRead =
+    (document : Document) (summary : SummaryRef) → IsOrder document.order → summary.number ≤ length document.order → IsShort document.held
+    → AreTexts (replayed document.order summary.number) (quorum document.order summary.number) → IsHonest document.held document.order summary
+    → (v : AVersion) × (version_at document.held summary ≡ Ok v)
 
 -- a container that begins with nothing, or with an honest summary, is one that has taken in the whole order once it has taken in the
 -- messages behind its number

@@ -1,5 +1,5 @@
 -- What the version of a summary says: the tree of `.app` and `.protocol`, read object by object.
-use Rattle.std.specs.Prelude.{ℕ, zero, suc, ◌==◌, List, [], ◌∷◌, ◌++◌, map, Option, Some, None, Result, Ok, Err, if◌then◌else◌, bytes_eq, codes}
+use Rattle.std.specs.Prelude.{◌≡◌, ◌⊎◌, ℕ, zero, suc, ◌==◌, List, [], ◌∷◌, ◌++◌, map, Option, Some, None, Result, Ok, Err, if◌then◌else◌, bytes_eq, codes}
 use Rattle.std.specs.Ordering.{is_lt}
 use Rattle.fluid_table.specs.Table.{byte_order}
 use Rattle.fluid_tree.specs.Summary.{Summary, blob, tree, handle, Children, no_children, child, children, is_tree}
@@ -40,6 +40,28 @@ node_within held (suc levels) entry = if entry.tree then as_inner (node_within h
 abbrev pub nodes_within : Held → ℕ → List ObjectEntry → List (List ℕ × Summary)
 nodes_within held levels entries = map (λ e. (e.name, node_within held levels e)) entries
 
+-- ---- which objects stand in it
+
+-- one of the entries has such an id
+abbrev pub HasId : (List ℕ → Type 0) → List ObjectEntry → Type 0
+HasId inside [] = ⊥
+HasId inside (e ∷ es) = inside e.id ⊎ HasId inside es
+
+abbrev pub IsBelow : (List ℕ → Type 0) → Option Object → Type 0
+IsBelow inside None = ⊥
+IsBelow inside (Some (Blob content)) = ⊥
+IsBelow inside (Some (Tree entries)) = HasId inside entries
+
+-- the id is that of an object in the tree under the root, at most so many entries deep
+abbrev pub IsIn : Held → (levels : ℕ) → List ℕ → List ℕ → Type 0
+IsIn held zero id root = id ≡ root
+IsIn held (suc levels) id root = (id ≡ root) ⊎ IsBelow (IsIn held levels id) (object_at held root)
+
+-- the object is one of the version of the summary, where there is one
+abbrev pub IsOfVersion : Held → Option SummaryRef → List ℕ → Type 0
+IsOfVersion held None id = ⊥
+IsOfVersion held (Some summary) id = IsIn held 3 id summary.handle
+
 -- ---- what it says, or the path of the first object, in the order of the tree, that isn't held or is outside its form
 
 infixl 1 ◌>>=◌
@@ -57,9 +79,9 @@ blob_under name (Ok a) = Ok a
 blob_under name (Err (BadBlob path)) = Err (under name path)
 blob_under name (Err NoMemory) = Err name
 
--- of another entry and the one that is wanted, the one that stands first; the wanted one is missing then
+-- of another entry and the tree that is wanted, the one that stands first; the wanted one is missing then, or stands behind
 abbrev pub first_of : List ℕ → List ℕ → List ℕ
-first_of name wanted = if is_lt (byte_order name wanted) then name else wanted
+first_of name wanted = if is_lt (byte_order name (wanted ++ codes "/")) then name else wanted
 
 -- the entry of the wanted name, which is the next, and those behind it
 abbrev pub next : List ℕ → Children → Result (Summary × Children) (List ℕ)

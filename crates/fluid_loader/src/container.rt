@@ -6,8 +6,9 @@ ghost use Rattle.fluid_runtime.specs.AppTree.{app_tree};
 ghost use Rattle.fluid_runtime.specs.Shown.{shown};
 ghost use Rattle.fluid_store.specs.Standing.{Stands};
 ghost use Rattle.fluid_loader.specs.Container.{empty, acknowledged, is_from, taken_by, behind};
-ghost use Rattle.fluid_loader.specs.Calls.{Answers, LoadsOnly, LoadDoes, LoadReads, begun_in, begun_picked, Fetched, ReadStops, PumpDoes, PumpReads, Submits, IsBehindFront, ProposeSays, counted, op_of, noop_of, summarize_of, shown_channels, EditLeaves, EditSays, Uploaded, UploadsTree, SummarizeDoes, Picked, Begins, since, failure};
+ghost use Rattle.fluid_loader.specs.Calls.{FetchesIn, Answers, LoadsOnly, LoadDoes, LoadReads, begun_in, begun_picked, Fetched, ReadStops, PumpDoes, PumpReads, Submits, IsBehindFront, ProposeLeaves, ProposeSays, op_of, noop_of, summarize_of, shown_channels, EditLeaves, EditSays, Uploaded, UploadsTree, SummarizeDoes, Picked, Begins, since, failure};
 ghost use Rattle.fluid_loader.specs.Laws.{HasReplayed, IsBased, IsHonestPick, IsOrder, IsShort};
+ghost use Rattle.fluid_loader.specs.Version.{IsIn, IsOfVersion};
 ghost use Rattle.fluid_loader.specs.Link.{AreFrom, Document, Fits, picked};
 
 use crate::following::Following;
@@ -183,8 +184,7 @@ impl Container {
     fn propose<L: Link>(&mut self, alloc: Global, link: &mut L, id: &Id) -> Result<(), LoadFault>
         requires { Fits (L.seen link.old).client (summarize_of self.old id.now) }
         ensures lent { L.lent link.new ≡ L.lent link.old }
-        ensures taken { OnOk result (self.new ≡ counted self.old) }
-        ensures fault { OnErr result ((self.new ≡ self.old) ⊎ (self.new ≡ counted self.old)) }
+        ensures leaves { ProposeLeaves self.old self.new result }
         ensures says { ProposeSays (summarize_of self.old id.now) (L.seen link.old) (L.seen link.new) result }
     {
         let contents = summarize(alloc, id, &self.head, self.number)?;
@@ -253,6 +253,7 @@ impl Container {
 fn begin<L: Link>(alloc: Global, link: &mut L, pick: &Pick) -> Result<Container, LoadFault>
     ensures lent { L.lent link.new ≡ L.lent link.old }
     ensures reads { LoadReads (L.seen link.old) (L.seen link.new) }
+    ensures fetched { OnOk result (FetchesIn (λ document. IsOfVersion document.held (picked pick.now document.order)) (L.seen link.old) (L.seen link.new)) }
     ensures does { Answers (begun_in pick.now) (L.seen link.old) (L.seen link.new) result }
 {
     match pick {
@@ -265,6 +266,7 @@ fn begin<L: Link>(alloc: Global, link: &mut L, pick: &Pick) -> Result<Container,
 fn from_picked<L: Link>(alloc: Global, link: &mut L, pick: &Pick) -> Result<Container, LoadFault>
     ensures lent { L.lent link.new ≡ L.lent link.old }
     ensures reads { LoadReads (L.seen link.old) (L.seen link.new) }
+    ensures fetched { OnOk result (FetchesIn (λ document. IsOfVersion document.held (picked pick.now document.order)) (L.seen link.old) (L.seen link.new)) }
     ensures does { Answers (λ document. begun_picked document.held (picked pick.now document.order)) (L.seen link.old) (L.seen link.new) result }
 {
     let Some(summary) = picked(alloc, link, pick)? else {
@@ -280,6 +282,7 @@ fn from_summary<L: Link>(
 ) -> Result<Container, LoadFault>
     requires { summary.now.number < 2 ^ 53 }
     ensures lent { L.lent link.new ≡ L.lent link.old }
+    ensures fetched { OnOk result (FetchesIn (λ document one. IsIn document.held 3 one summary.now.handle) (L.seen link.old) (L.seen link.new)) }
     ensures does { Begins summary.now (L.seen link.old) (L.seen link.new) result }
 {
     let Version { app, quorum, base } = read_version(alloc, link, summary)?;

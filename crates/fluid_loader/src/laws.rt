@@ -1,5 +1,5 @@
 //! What holds of the definitions, said by functions that do nothing.
-ghost use Rattle.fluid_loader.specs.Laws.{IsHonestVersion, IsReplayBehind, IsWholeReplay, IsWholeUpload, StayBased};
+ghost use Rattle.fluid_loader.specs.Laws.{IsHonestRead, IsHonestVersion, IsReplayBehind, IsWholeReplay, IsWholeUpload, StayBased};
 
 use fluid_counter::laws::content_is_read_back as counters_are_read_back;
 use fluid_handles::laws::a_tree_without_handles_is_itself;
@@ -19,6 +19,21 @@ pub fn messages_are_replayed()
 /// the quorum of the whole order, and nothing pending.
 pub fn honest_summaries_are_replayed()
     ensures { IsWholeReplay }
+{
+    objects_are_read_back();
+    maps_are_read_back();
+    counters_are_read_back();
+    only_blobs_are_read();
+    quorum_goes_on();
+    blobs_of_messages_are_read_back();
+    unchanged_channels_stay();
+    unmarked_apps_give_no_handle();
+}
+
+/// An honest summary of a number of the order is read, where no object that is held is too long to be read, and the contents
+/// of its blobs are UTF-8.
+pub fn honest_summaries_are_read()
+    ensures { IsHonestRead }
 {
     objects_are_read_back();
     maps_are_read_back();

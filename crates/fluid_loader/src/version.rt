@@ -1,10 +1,10 @@
 //! The version that a summary's handle names: the tree of `.app` and `.protocol`, read object by object.
-ghost use Rattle.std.specs.Prelude.{◌≡◌, ◌⊎◌, Ok, IfOk, IfErr};
+ghost use Rattle.std.specs.Prelude.{◌≡◌, ◌⊎◌, suc, Ok, IfOk, IfErr, OnOk};
 ghost use Rattle.fluid_tree.specs.Summary.{children};
 ghost use Rattle.fluid_runtime.specs.App.{loaded};
 ghost use Rattle.fluid_store.specs.Standing.{object_at};
-ghost use Rattle.fluid_loader.specs.Calls.{LoadReads, Sees, IsAnswer, IsFault};
-ghost use Rattle.fluid_loader.specs.Version.{no_node, as_inner, as_leaf, node_within, nodes_within, under, next, channels_answer, quorum_answer, version_answer, id_named, version_at};
+ghost use Rattle.fluid_loader.specs.Calls.{FetchesIn, LoadReads, Sees, IsAnswer, IsFault};
+ghost use Rattle.fluid_loader.specs.Version.{IsIn, HasId, no_node, as_inner, as_leaf, node_within, nodes_within, under, first_of, next, channels_answer, quorum_answer, version_answer, id_named, version_at};
 ghost use Rattle.fluid_loader.specs.Said.{known, said, channels_said};
 
 use crate::container::failed;
@@ -43,6 +43,7 @@ pub(crate) fn read_version<L: Link>(
 ) -> Result<Version, LoadFault>
     ensures lent { L.lent link.new ≡ L.lent link.old }
     ensures reads { LoadReads (L.seen link.old) (L.seen link.new) }
+    ensures fetched { OnOk result (FetchesIn (λ document one. IsIn document.held 3 one summary.now.handle) (L.seen link.old) (L.seen link.new)) }
     ensures fresh { IfOk result (λ v. (v.app ≡ loaded v.app.channels) × (v.quorum.number ≡ summary.now.number)) }
     ensures sees { Sees (λ held. version_at held summary.now) (L.seen link.old) (L.seen link.new) (known result) }
 {
@@ -79,6 +80,7 @@ fn read_nodes<L: Link>(
 ) -> Result<Entries, LoadFault>
     ensures lent { L.lent link.new ≡ L.lent link.old }
     ensures reads { LoadReads (L.seen link.old) (L.seen link.new) }
+    ensures fetched { OnOk result (FetchesIn (λ document one. HasId (IsIn document.held levels one) entries.now) (L.seen link.old) (L.seen link.new)) }
     ensures sees { Sees (λ held. Ok (nodes_within held levels entries.now)) (L.seen link.old) (L.seen link.new) result }
 {
     let mut nodes = Entries::new(alloc);
@@ -100,6 +102,7 @@ fn read_node<L: Link>(
 ) -> Result<Node, LoadFault>
     ensures lent { L.lent link.new ≡ L.lent link.old }
     ensures reads { LoadReads (L.seen link.old) (L.seen link.new) }
+    ensures fetched { OnOk result (FetchesIn (λ document one. IsIn document.held levels one entry.now.id) (L.seen link.old) (L.seen link.new)) }
     ensures sees { Sees (λ held. Ok (node_within held levels entry.now)) (L.seen link.old) (L.seen link.new) result }
 {
     if !entry.tree {
@@ -121,6 +124,7 @@ fn read_tree<L: Link>(
 ) -> Result<Node, LoadFault>
     ensures lent { L.lent link.new ≡ L.lent link.old }
     ensures reads { LoadReads (L.seen link.old) (L.seen link.new) }
+    ensures fetched { OnOk result (FetchesIn (λ document one. IsIn document.held (suc levels) one id.now) (L.seen link.old) (L.seen link.new)) }
     ensures sees { Sees (λ held. Ok (as_inner (node_within held levels) (object_at held id.now))) (L.seen link.old) (L.seen link.new) result }
 {
     match object_at(alloc, link, id)? {
@@ -137,6 +141,7 @@ fn read_tree<L: Link>(
 fn read_blob<L: Link>(alloc: Global, link: &mut L, id: &Id) -> Result<Node, LoadFault>
     ensures lent { L.lent link.new ≡ L.lent link.old }
     ensures reads { LoadReads (L.seen link.old) (L.seen link.new) }
+    ensures fetched { OnOk result (FetchesIn (λ document one. one ≡ id.now) (L.seen link.old) (L.seen link.new)) }
     ensures sees { Sees (λ held. Ok (as_leaf (object_at held id.now))) (L.seen link.old) (L.seen link.new) result }
 {
     match object_at(alloc, link, id)? {
@@ -156,6 +161,7 @@ fn no_node(alloc: Global) -> Node
 fn object_at<L: Link>(alloc: Global, link: &mut L, id: &Id) -> Result<Option<Object>, LoadFault>
     ensures lent { L.lent link.new ≡ L.lent link.old }
     ensures reads { LoadReads (L.seen link.old) (L.seen link.new) }
+    ensures fetched { OnOk result (FetchesIn (λ document one. one ≡ id.now) (L.seen link.old) (L.seen link.new)) }
     ensures sees { Sees (λ held. Ok (object_at held id.now)) (L.seen link.old) (L.seen link.new) result }
 {
     let before = link.faults();
@@ -208,10 +214,21 @@ fn next<'a>(
     if name.as_str() == wanted {
         return Ok((node, rest));
     }
-    if name.as_str() < wanted {
-        return Err(bad(alloc, name.as_str()));
+    Err(first_of(alloc, name.as_str(), wanted))
+}
+
+// Of another entry and the tree that is wanted, the one that stands first.
+fn first_of(alloc: Global, name: &str, wanted: &str) -> LoadFault
+    ensures { (result ≡ LoadFault.NoMemory) ⊎ (result ≡ LoadFault.BadSummary (first_of name.now wanted.now)) }
+{
+    let Ok(place) = format!(in alloc; "{wanted}/") else {
+        return LoadFault::NoMemory;
+    };
+    if name < place.as_str() {
+        bad(alloc, name)
+    } else {
+        bad(alloc, wanted)
     }
-    Err(bad(alloc, wanted))
 }
 
 fn app_in(alloc: Global, node: &Node) -> Result<App, LoadFault>

@@ -1,7 +1,7 @@
 use Rattle.std.proofs.Common.{◌≡◌, ◌+◌, ◌*◌, take}
 use Rattle.fluid_io.specs.Causes.{Tells}
-use Rattle.fluid_loader.specs.Calls.{LoadReads}
-use Rattle.fluid_loader.specs.Version.{nodes_within}
+use Rattle.fluid_loader.specs.Calls.{FetchesIn, LoadReads}
+use Rattle.fluid_loader.specs.Version.{HasId, IsIn, nodes_within}
 use Rattle.fluid_loader.proofs.version.+nodes.Given as goal
 
 abbrev pub decreases-read_node : goal.decreases-read_node
@@ -18,5 +18,6 @@ abbrev pub invariant-read_nodes-loop-entry : goal.invariant-read_nodes-loop-entr
 invariant-read_nodes-loop-entry g l = record {
   lent : g.L.Link.lent l.link ≡ g.L.Link.lent l.fn.link;
   reads : LoadReads (g.L.Link.seen l.fn.link) (g.L.Link.seen l.link);
+  fetched : FetchesIn (λ d one. HasId (IsIn d.held l.levels one) l.entries) (g.L.Link.seen l.fn.link) (g.L.Link.seen l.link);
   nodes : Tells (g.L.Link.seen l.fn.link).told (λ document. l.nodes ≡ nodes_within document.held l.levels (take l.entry-index l.entries));
 }

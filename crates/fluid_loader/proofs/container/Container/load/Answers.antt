@@ -12,7 +12,7 @@ returns-in_err-pump-clause-does g c =
 pub returns-clause-does : goal.returns-clause-does
 returns-clause-does g c =
     loaded_by c.args.pick.now (g.L.Link.seen c.args.link.now) (g.L.Link.seen c.begin.new.link) (g.L.Link.seen c.pump.new.link) c.in_ok-container.container c.pump.new.self c.in_ok-pump.field-0
-    c.in_ok-container.ensures.reads c.in_ok-container.ensures.does c.in_ok-pump.ensures.does
+    c.in_ok-container.ensures.reads c.in_ok-container.ensures.does c.in_ok-pump.ensures.does c.in_ok-container.ensures.fetched
 
 pub returns-clause-replays : goal.returns-clause-replays
 returns-clause-replays g c =
@@ -20,4 +20,4 @@ returns-clause-replays g c =
     let new = g.L.Link.seen c.pump.new.link in
     loaded_replays c.honest_summaries_are_replayed.ensures c.args.pick.now old new c.pump.new.self
     (loaded_by c.args.pick.now old (g.L.Link.seen c.begin.new.link) new c.in_ok-container.container c.pump.new.self c.in_ok-pump.field-0 c.in_ok-container.ensures.reads c.in_ok-container.ensures.does
-    c.in_ok-pump.ensures.does)
+    c.in_ok-pump.ensures.does c.in_ok-container.ensures.fetched)

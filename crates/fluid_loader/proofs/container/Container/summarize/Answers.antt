@@ -14,7 +14,7 @@ pub returns-in_err-propose-clause-does : goal.returns-in_err-propose-clause-does
 returns-in_err-propose-clause-does g c =
     propose_stops c.args.self.now c.upload.new.self c.propose.new.self c.in_ok-id.id (summarize_of c.upload.new.self c.in_ok-id.id) (g.L.Link.seen c.args.link.now) (g.L.Link.seen c.upload.new.link)
     (g.L.Link.seen c.propose.new.link) c.from_residual-in_err-propose.result c.in_err-propose.field-0.0 c.from_residual-in_err-propose.ensures.1 c.in_ok-id.ensures.done
-    c.in_err-propose.ensures.fault c.in_ok-id.ensures.does.changes c.in_err-propose.ensures.says
+    c.in_ok-id.ensures.does c.in_err-propose.ensures.leaves c.in_ok-id.ensures.does.changes c.in_err-propose.ensures.says
 
 pub returns-clause-stands : goal.returns-clause-stands
 returns-clause-stands g c =
