@@ -13,20 +13,20 @@ use Rattle.fluid_codec.specs.declared.events.Asked.{Asked}
 use Rattle.fluid_codec.specs.declared.events.Event.{Event}
 use Rattle.fluid_codec.specs.declared.events.Event.TheVariants as event
 use Rattle.fluid_codec.specs.declared.replies.Reply.TheVariants.{Nacked}
-use Rattle.fluid_voice.specs.declared.refusals.Refusal.{Refusal}
-use Rattle.fluid_voice.specs.declared.refusals.Refusal.TheVariants.{AlreadyConnected, ReadMissing}
+use Rattle.fluid_voice.specs.declared.refusals.ConnectRefusal.{ConnectRefusal}
+use Rattle.fluid_voice.specs.declared.refusals.ConnectRefusal.TheVariants.{AlreadyConnected, ReadMissing}
 use Rattle.fluid_voice.specs.declared.states.VoiceState.{VoiceState}
 use Rattle.fluid_voice.specs.declared.states.VoiceState.TheVariants.{Fresh, Reading, Writing, Used}
 use Rattle.fluid_voice.specs.declared.actions.Act.{Act}
 use Rattle.fluid_voice.specs.declared.actions.Act.TheVariants as act
-use Rattle.fluid_voice.specs.States.{document, is_connected, is_used}
-use Rattle.fluid_voice.specs.Refusals.{refused, front}
+use Rattle.fluid_voice.specs.States.{document_name, is_connected, is_used}
+use Rattle.fluid_voice.specs.Refusals.{refused, front_nack}
 use Rattle.fluid_voice.specs.Heard.{connect_acts, submit_acts, asks, puts, event_acts, read_acts, acts_of}
 
 -- of each act that a text may have
 pub record Holds (P : Act → Type 0) (s : VoiceState) (text : List ℕ) (moment : ℕ) : Type 0 where
-  pub nack : (rule : NackRule) → P (act.Say (Nacked (document s) (front rule)))
-  pub refusal : (refusal : Refusal) → P (act.Say (refused refusal))
+  pub nack : (rule : NackRule) → P (act.Say (Nacked (document_name s) (front_nack rule)))
+  pub refusal : (refusal : ConnectRefusal) → P (act.Say (refused refusal))
   pub connect :
       (name : List ℕ) (write : Bool) (scopes : Scopes) (client : Tree) → event_spelled text ≡ Ok (event.Connect name write scopes client)
       → is_connected s ≡ false → P (act.Connect name (write && scopes.write) scopes client moment)

@@ -4,5 +4,6 @@ pub mod Each
 pub mod Fit
 pub mod Suiting
 pub mod Staying
+pub mod Entering
 pub mod Computed
 pub mod Feeding

@@ -15,13 +15,12 @@ use Rattle.fluid_codec.specs.declared.events.Event.TheVariants as event
 use Rattle.fluid_codec.specs.declared.replies.Reply.TheVariants.{Connected, ConnectError, Nacked}
 use Rattle.fluid_voice.specs.declared.states.VoiceState.{VoiceState}
 use Rattle.fluid_voice.specs.declared.states.VoiceState.TheVariants.{Fresh, Reading, Writing}
-use Rattle.fluid_voice.specs.declared.actions.Act.{Act}
 use Rattle.fluid_voice.specs.declared.actions.Act.TheVariants as act
 use Rattle.fluid_voice.specs.declared.ends.ActEnd.TheVariants.{Joined, Told, Entered, FullNow, TooMany}
-use Rattle.fluid_voice.specs.Refusals.{front}
+use Rattle.fluid_voice.specs.Refusals.{front_nack}
 use Rattle.fluid_voice.specs.Heard.{event_acts}
-use Rattle.fluid_voice.specs.Answered.{replies_to, state_after}
-use Rattle.fluid_voice.specs.Asked.{range_asked, document_end}
+use Rattle.fluid_voice.specs.Replies.{replies_to, state_after}
+use Rattle.fluid_voice.specs.Ends.{range_asked, connect_end, entry_end}
 
 -- a document, and a client of it
 abbrev pub d : List ℕ
@@ -72,9 +71,9 @@ OneConnect =
 -- who isn't connected, who only reads and who speaks for another submits nothing; an own list is entered one by one
 abbrev pub WhoSubmits : Type 0
 WhoSubmits =
-    (event_acts Fresh 7 (event.SubmitOp c0 []) ≡ (act.Say (Nacked None (front NotConnected)) ∷ []))
-    × (event_acts reader 7 (event.SubmitOp c0 []) ≡ (act.Say (Nacked (Some d) (front ReadOnly)) ∷ []))
-    × (event_acts writer 7 (event.SubmitOp (codes "c5") (op 1 (pos 1) ∷ [])) ≡ (act.Say (Nacked (Some d) (front ForeignClient)) ∷ []))
+    (event_acts Fresh 7 (event.SubmitOp c0 []) ≡ (act.Say (Nacked None (front_nack NotConnected)) ∷ []))
+    × (event_acts reader 7 (event.SubmitOp c0 []) ≡ (act.Say (Nacked (Some d) (front_nack ReadOnly)) ∷ []))
+    × (event_acts writer 7 (event.SubmitOp (codes "c5") (op 1 (pos 1) ∷ [])) ≡ (act.Say (Nacked (Some d) (front_nack ForeignClient)) ∷ []))
     × (event_acts writer 7 (event.SubmitOp c0 []) ≡ [])
     × (event_acts writer 7 (event.SubmitOp c0 (op 1 (pos 1) ∷ op 2 (pos 1) ∷ []))
     ≡ (act.Enter (Submit c0 (op 1 (pos 1)) 7) ∷ act.Enter (Submit c0 (op 2 (pos 1)) 7) ∷ []))
@@ -84,7 +83,7 @@ abbrev pub WhatIsTold : Type 0
 WhatIsTold =
     (replies_to writer (act.Enter (Submit c0 (op 1 (pos 1)) 7)) (Entered verdict.Dropped) ≡ [])
     × (replies_to writer (act.Enter (Submit c0 (op 1 (pos 1)) 7)) (Entered verdict.Absorbed) ≡ [])
-    × (replies_to writer (act.Enter (Submit c0 (op 1 (pos 1)) 7)) FullNow ≡ (Nacked (Some d) (front Full) ∷ []))
+    × (replies_to writer (act.Enter (Submit c0 (op 1 (pos 1)) 7)) FullNow ≡ (Nacked (Some d) (front_nack Full) ∷ []))
 
 -- with three messages: from one of them or the number behind the last, to at least that and at most the number behind the last
 abbrev pub Ranges : Type 0
@@ -124,15 +123,12 @@ joined_by_c0 = (
 abbrev pub limits : ℕ → ℕ → Limits
 limits entries clients = record { entries = entries; clients = clients; checkpoints = 1; bytes = 1048576 }
 
-abbrev pub connect : Act
-connect = act.Connect d true read_write null 5
-
 -- the second entry's client is c1, and its join has number 2; who reads is told of the one message. A full document is told before
 -- one with too many clients
 abbrev pub AtLimits : Type 0
 AtLimits =
-    (document_end (limits 9 9) joined_by_c0 connect ≡ Some (Joined (codes "c1") 2))
-    × (document_end (limits 9 1) joined_by_c0 connect ≡ Some TooMany)
-    × (document_end (limits 1 1) joined_by_c0 connect ≡ Some FullNow)
-    × (document_end (limits 1 1) joined_by_c0 (act.Enter (Submit c0 (op 1 (pos 1)) 7)) ≡ Some FullNow)
-    × (document_end (limits 1 1) joined_by_c0 (act.Connect d false read_write null 5) ≡ Some (Told 1))
+    (connect_end (limits 9 9) joined_by_c0 true read_write null 5 ≡ Joined (codes "c1") 2)
+    × (connect_end (limits 9 1) joined_by_c0 true read_write null 5 ≡ TooMany)
+    × (connect_end (limits 1 1) joined_by_c0 true read_write null 5 ≡ FullNow)
+    × (entry_end (limits 1 1) joined_by_c0 (Submit c0 (op 1 (pos 1)) 7) ≡ FullNow)
+    × (connect_end (limits 1 1) joined_by_c0 false read_write null 5 ≡ Told 1)

@@ -11,17 +11,17 @@ use Rattle.fluid_voice.specs.declared.actions.Act.{Act}
 use Rattle.fluid_voice.specs.declared.actions.Act.TheVariants as act
 use Rattle.fluid_voice.specs.Heard.{acts_of}
 
-abbrev pub IsSubmission : Raw → Type 0
-IsSubmission (Submit id submission moment) = ⊤
-IsSubmission (Join id scopes detail moment) = ⊥
-IsSubmission (Leave id moment) = ⊥
-IsSubmission (Report summary found moment) = ⊥
+abbrev pub IsLeaveOrSubmission : Raw → Type 0
+IsLeaveOrSubmission (Submit id submission moment) = ⊤
+IsLeaveOrSubmission (Join id scopes detail moment) = ⊥
+IsLeaveOrSubmission (Leave id moment) = ⊤
+IsLeaveOrSubmission (Report summary found moment) = ⊥
 
--- what it enters is a submission that fits, and a join that fits whichever name its client gets
+-- what it enters is a submission or a leave that fits, or a join that fits whichever name its client gets
 abbrev pub IsFitting : Act → Type 0
 IsFitting (act.Say reply) = ⊤
 IsFitting (act.Connect name write scopes detail moment) = (id : List ℕ) → IsName id → Fits (Join id scopes detail moment)
-IsFitting (act.Enter raw) = IsSubmission raw × Fits raw
+IsFitting (act.Enter raw) = IsLeaveOrSubmission raw × Fits raw
 IsFitting (act.Deltas from to) = ⊤
 IsFitting (act.Summary asked) = ⊤
 IsFitting (act.GetObject id) = ⊤

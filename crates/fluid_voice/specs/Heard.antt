@@ -1,7 +1,8 @@
 -- What a text asks for: the acts of a connection that hears it, in order. The first case that fits decides.
-use Rattle.std.specs.Prelude.{ℕ, Bool, not, ◌&&◌, if◌then◌else◌, List, [], ◌∷◌, map, Ok, Err, is_ok, bytes_eq}
+use Rattle.std.specs.Prelude.{ℕ, Bool, not, ◌&&◌, if◌then◌else◌, List, [], ◌∷◌, ◌++◌, map, Ok, Err, is_ok, bytes_eq}
 use Rattle.fluid_types.specs.Forms.{Read}
 use Rattle.fluid_types.specs.declared.entries.Submission.{Submission}
+use Rattle.fluid_types.specs.declared.entries.Raw.{Raw}
 use Rattle.fluid_types.specs.declared.entries.Raw.TheVariants.{Submit}
 use Rattle.fluid_types.specs.declared.fault.Field.TheVariants as field
 use Rattle.fluid_types.specs.declared.fault.What.TheVariants.{NotAllowed}
@@ -13,20 +14,20 @@ use Rattle.fluid_codec.specs.Events.{event_spelled}
 use Rattle.fluid_codec.specs.declared.events.Event.{Event}
 use Rattle.fluid_codec.specs.declared.events.Event.TheVariants as event
 use Rattle.fluid_codec.specs.declared.replies.Reply.TheVariants.{Nacked}
-use Rattle.fluid_voice.specs.declared.refusals.Refusal.{Refusal}
-use Rattle.fluid_voice.specs.declared.refusals.Refusal.TheVariants.{AlreadyConnected, ReadMissing}
+use Rattle.fluid_voice.specs.declared.refusals.ConnectRefusal.{ConnectRefusal}
+use Rattle.fluid_voice.specs.declared.refusals.ConnectRefusal.TheVariants.{AlreadyConnected, ReadMissing}
 use Rattle.fluid_voice.specs.declared.states.VoiceState.{VoiceState}
 use Rattle.fluid_voice.specs.declared.states.VoiceState.TheVariants.{Fresh, Reading, Writing, Used}
 use Rattle.fluid_voice.specs.declared.actions.Act.{Act}
 use Rattle.fluid_voice.specs.declared.actions.Act.TheVariants as act
-use Rattle.fluid_voice.specs.States.{document, is_connected, is_used}
-use Rattle.fluid_voice.specs.Refusals.{refused, front}
+use Rattle.fluid_voice.specs.States.{document_name, is_connected, is_used}
+use Rattle.fluid_voice.specs.Refusals.{refused, front_nack}
 
 -- a nack of the front, under the name of the document to which the connection is connected, and none otherwise
 abbrev pub nacks : VoiceState → NackRule → List Act
-nacks s rule = act.Say (Nacked (document s) (front rule)) ∷ []
+nacks s rule = act.Say (Nacked (document_name s) (front_nack rule)) ∷ []
 
-abbrev pub refuses : Refusal → List Act
+abbrev pub refuses : ConnectRefusal → List Act
 refuses refusal = act.Say (refused refusal) ∷ []
 
 -- ---- a connect
@@ -41,15 +42,15 @@ connect_acts s may_read connect =
 -- ---- submissions
 
 -- one entry for each submission, in their order
-abbrev pub entries : ℕ → List ℕ → List Submission → List Act
-entries moment id submissions = map (λ submission. act.Enter (Submit id submission moment)) submissions
+abbrev pub submission_acts : ℕ → List ℕ → List Submission → List Act
+submission_acts moment id submissions = map (λ submission. act.Enter (Submit id submission moment)) submissions
 
 -- only a client that writes may submit, and only under its own id
 abbrev pub submit_acts : VoiceState → ℕ → List ℕ → List Submission → List Act
 submit_acts Fresh moment id submissions = nacks Fresh NotConnected
 submit_acts (Reading name next) moment id submissions = nacks (Reading name next) ReadOnly
 submit_acts (Writing name own next) moment id submissions =
-    if bytes_eq id own then entries moment id submissions else nacks (Writing name own next) ForeignClient
+    if bytes_eq id own then submission_acts moment id submissions else nacks (Writing name own next) ForeignClient
 submit_acts Used moment id submissions = nacks Used NotConnected
 
 -- ---- questions
@@ -85,3 +86,33 @@ read_acts s moment (Err fault) = nacks s (Unread fault)
 -- the acts of a text that is heard at this moment; a connection that has left hears nothing
 unfoldable pub acts_of : VoiceState → List ℕ → ℕ → List Act
 acts_of s text moment = if is_used s then [] else read_acts s moment (event_spelled text)
+
+-- ---- what of a text is entered, but for a connect's join
+
+-- the entry of an act that enters one
+abbrev pub entry_of : Act → List Raw
+entry_of (act.Enter raw) = raw ∷ []
+entry_of (act.Say reply) = []
+entry_of (act.Connect name write scopes detail moment) = []
+entry_of (act.Deltas from to) = []
+entry_of (act.Summary asked) = []
+entry_of (act.GetObject id) = []
+entry_of (act.PutObject bytes) = []
+
+abbrev pub entries_in : List Act → List Raw
+entries_in [] = []
+entries_in (act ∷ acts) = entry_of act ++ entries_in acts
+
+-- the submissions of an event under this id
+abbrev pub submitted_under : List ℕ → Read Event → List Submission
+submitted_under id (Ok (event.SubmitOp other submissions)) = if bytes_eq other id then submissions else []
+submitted_under id (Ok (event.Connect name write scopes client)) = []
+submitted_under id (Ok (event.GetDeltas from to)) = []
+submitted_under id (Ok (event.GetSummary asked)) = []
+submitted_under id (Ok (event.GetObject object)) = []
+submitted_under id (Ok (event.PutObject bytes)) = []
+submitted_under id (Err fault) = []
+
+-- the submissions that a text spells under this id, in their order
+abbrev pub submissions_of : List ℕ → List ℕ → List Submission
+submissions_of id text = submitted_under id (event_spelled text)

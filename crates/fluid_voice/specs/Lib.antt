@@ -1,8 +1,9 @@
 pub mod States
 pub mod Refusals
 pub mod Heard
-pub mod Answered
-pub mod Asked
+pub mod Replies
+pub mod Ends
+pub mod Suits
 pub mod Feed
 pub mod Fitting
 pub mod Laws

@@ -2,9 +2,9 @@
 ghost use Rattle.std.specs.Prelude.{◌≡◌, ◌∷◌, [], Some, option_map, IfOk};
 ghost use Rattle.fluid_types.specs.declared.nacks.NackRule.TheVariants.{Full};
 ghost use Rattle.fluid_codec.specs.declared.replies.Reply.TheVariants.{Ops, Nacked};
-ghost use Rattle.fluid_voice.specs.States.{document};
-ghost use Rattle.fluid_voice.specs.Refusals.{front};
-ghost use Rattle.fluid_voice.specs.Answered.{verdict_replies, entry_replies, addressed, given_replies, is_front_nack, has_front_nack};
+ghost use Rattle.fluid_voice.specs.States.{document_name};
+ghost use Rattle.fluid_voice.specs.Refusals.{front_nack};
+ghost use Rattle.fluid_voice.specs.Replies.{verdict_replies, entry_replies, addressed, given_replies, is_front_nack, has_front_nack};
 
 use crate::ends::ActEnd;
 use crate::states::VoiceState;
@@ -75,8 +75,8 @@ impl Replies {
 }
 
 /// The name of the document to which it is connected.
-fn document(alloc: Global, state: &VoiceState) -> Result<Option<DocName>, NoMemory>
-    ensures { IfOk result (λ name. name ≡ document state.now) }
+fn document_name(alloc: Global, state: &VoiceState) -> Result<Option<DocName>, NoMemory>
+    ensures { IfOk result (λ name. name ≡ document_name state.now) }
 {
     match state {
         VoiceState::Fresh => Ok(None),
@@ -95,15 +95,15 @@ fn named(alloc: Global, name: &DocName) -> Result<Option<DocName>, NoMemory>
 
 /// A nack under the name of the connection's document.
 fn nacked(alloc: Global, state: &VoiceState, nack: Nack) -> Result<Reply, NoMemory>
-    ensures { IfOk result (λ reply. reply ≡ Nacked (document state.now) nack) }
+    ensures { IfOk result (λ reply. reply ≡ Nacked (document_name state.now) nack) }
 {
-    let name = document(alloc, state)?;
+    let name = document_name(alloc, state)?;
     Ok(Reply::Nacked { name, nack })
 }
 
-/// A nack that is about no entry.
-pub(crate) fn front(rule: NackRule) -> Nack
-    ensures { result ≡ front rule }
+/// A nack of the front, which carries no submission.
+pub fn front_nack(rule: NackRule) -> Nack
+    ensures { result ≡ front_nack rule }
 {
     Nack {
         rule,
@@ -112,14 +112,14 @@ pub(crate) fn front(rule: NackRule) -> Nack
     }
 }
 
-pub(crate) fn front_nack(
+pub(crate) fn front_reply(
     alloc: Global,
     state: &VoiceState,
     rule: NackRule,
 ) -> Result<Reply, NoMemory>
-    ensures { IfOk result (λ reply. reply ≡ Nacked (document state.now) (front rule)) }
+    ensures { IfOk result (λ reply. reply ≡ Nacked (document_name state.now) (front_nack rule)) }
 {
-    nacked(alloc, state, front(rule))
+    nacked(alloc, state, front_nack(rule))
 }
 
 /// The most messages of one op event.
@@ -131,9 +131,9 @@ pub(crate) fn event(
     state: &VoiceState,
     messages: Messages,
 ) -> Result<Option<Reply>, NoMemory>
-    ensures { IfOk result (λ event. event ≡ option_map (λ name. Ops name messages) (document state.now)) }
+    ensures { IfOk result (λ event. event ≡ option_map (λ name. Ops name messages) (document_name state.now)) }
 {
-    match document(alloc, state)? {
+    match document_name(alloc, state)? {
         Some(name) => Ok(Some(Reply::Ops { name, messages })),
         None => Ok(None),
     }
@@ -145,7 +145,7 @@ pub(crate) fn entry_replies(
     state: &VoiceState,
     end: ActEnd,
 ) -> Result<Replies, NoMemory>
-    ensures { IfOk result (λ replies. replies ≡ entry_replies (document state.now) end) }
+    ensures { IfOk result (λ replies. replies ≡ entry_replies (document_name state.now) end) }
 {
     match end {
         ActEnd::Entered(verdict) => verdict_replies(alloc, state, verdict),
@@ -159,14 +159,14 @@ pub(crate) fn entry_replies(
 }
 
 fn full(alloc: Global, state: &VoiceState) -> Result<Replies, NoMemory>
-    ensures { IfOk result (λ replies. replies ≡ Nacked (document state.now) (front Full) ∷ []) }
+    ensures { IfOk result (λ replies. replies ≡ Nacked (document_name state.now) (front_nack Full) ∷ []) }
 {
-    let reply = front_nack(alloc, state, NackRule::Full)?;
+    let reply = front_reply(alloc, state, NackRule::Full)?;
     Replies::one(alloc, reply)
 }
 
 fn verdict_replies(alloc: Global, state: &VoiceState, verdict: Verdict) -> Result<Replies, NoMemory>
-    ensures { IfOk result (λ replies. replies ≡ verdict_replies (document state.now) verdict) }
+    ensures { IfOk result (λ replies. replies ≡ verdict_replies (document_name state.now) verdict) }
 {
     match verdict {
         Verdict::Nacked(nack) => {
@@ -185,7 +185,7 @@ pub(crate) fn given_replies(
     state: &VoiceState,
     end: ActEnd,
 ) -> Result<Replies, NoMemory>
-    ensures { IfOk result (λ replies. replies ≡ given_replies (document state.now) end) }
+    ensures { IfOk result (λ replies. replies ≡ given_replies (document_name state.now) end) }
 {
     match end {
         ActEnd::Given(reply) => {
@@ -203,7 +203,7 @@ pub(crate) fn given_replies(
 
 // A nack that was given is sent under the name of the connection's document.
 fn addressed(alloc: Global, state: &VoiceState, reply: Reply) -> Result<Reply, NoMemory>
-    ensures { IfOk result (λ sent. sent ≡ addressed (document state.now) reply) }
+    ensures { IfOk result (λ sent. sent ≡ addressed (document_name state.now) reply) }
 {
     match reply {
         Reply::Nacked { nack, .. } => nacked(alloc, state, nack),
@@ -211,7 +211,8 @@ fn addressed(alloc: Global, state: &VoiceState, reply: Reply) -> Result<Reply, N
     }
 }
 
-/// Whether it is a nack that is about no entry: the text that it answers wasn't read, or not allowed.
+/// Whether it is a nack of the front, which carries no submission: the text that it answers wasn't read or wasn't allowed, or the
+/// document is full.
 pub fn is_front_nack(reply: &Reply) -> bool
     ensures { result ≡ is_front_nack reply.now }
 {

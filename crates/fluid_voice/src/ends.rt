@@ -16,6 +16,6 @@ pub enum ActEnd {
     FullNow,
     /// The document's limit of clients is reached, and nothing was entered.
     TooMany,
-    /// The reply. A nack in it needs no name: it is sent under that of the connection's document.
+    /// The reply. A nack that is given to a question needs no name: it is sent under that of the connection's document.
     Given(Reply),
 }

@@ -7,11 +7,11 @@ ghost use Rattle.fluid_types.specs.declared.fault.CodecFault.TheVariants as code
 ghost use Rattle.fluid_types.specs.declared.nacks.NackRule.TheVariants.{Unread};
 ghost use Rattle.fluid_voice.specs.declared.actions.Act.TheVariants as act;
 ghost use Rattle.fluid_voice.specs.States.{is_connected, is_used};
-ghost use Rattle.fluid_voice.specs.Heard.{nacks, refuses, connect_acts, entries, submit_acts, asks, puts, event_acts, acts_of};
+ghost use Rattle.fluid_voice.specs.Heard.{nacks, refuses, connect_acts, submission_acts, submit_acts, asks, puts, event_acts, acts_of};
 
 use crate::actions::{Act, Acts};
-use crate::answering::front_nack;
-use crate::refusals::Refusal;
+use crate::answering::front_reply;
+use crate::refusals::ConnectRefusal;
 use crate::states::VoiceState;
 use fluid_codec::{Event, read_event};
 use fluid_json::{Bytes, NoMemory};
@@ -117,10 +117,10 @@ fn connect_acts(
     ensures { IfOk result (λ acts. acts ≡ connect_acts state.now may_read connect) }
 {
     if is_connected(state) {
-        return refuses(alloc, Refusal::AlreadyConnected);
+        return refuses(alloc, ConnectRefusal::AlreadyConnected);
     }
     if !may_read {
-        return refuses(alloc, Refusal::ReadMissing);
+        return refuses(alloc, ConnectRefusal::ReadMissing);
     }
     Acts::one(alloc, connect)
 }
@@ -139,7 +139,7 @@ fn submit_acts(
         VoiceState::Reading(_, _) => nacks(alloc, state, NackRule::ReadOnly),
         VoiceState::Writing(_, own, _) => {
             if id == *own {
-                return entries(alloc, moment, &id, submissions);
+                return submission_acts(alloc, moment, &id, submissions);
             }
             nacks(alloc, state, NackRule::ForeignClient)
         }
@@ -148,13 +148,13 @@ fn submit_acts(
 }
 
 // One entry for each submission.
-fn entries(
+fn submission_acts(
     alloc: Global,
     moment: u64,
     id: &ClientId,
     submissions: Submissions,
 ) -> Result<Acts, NoMemory>
-    ensures { IfOk result (λ acts. acts ≡ entries moment id.now submissions) }
+    ensures { IfOk result (λ acts. acts ≡ submission_acts moment id.now submissions) }
 {
     let submissions = submissions.into_vec();
     let mut acts = Acts::with_capacity(alloc, submissions.len())?;
@@ -230,7 +230,7 @@ fn isnt_object(fault: &TreeFault) -> Result<bool, NoMemory>
     }
 }
 
-fn refuses(alloc: Global, refusal: Refusal) -> Result<Acts, NoMemory>
+fn refuses(alloc: Global, refusal: ConnectRefusal) -> Result<Acts, NoMemory>
     ensures { IfOk result (λ acts. acts ≡ refuses refusal) }
 {
     let reply = refusal.reply(alloc)?;
@@ -240,6 +240,6 @@ fn refuses(alloc: Global, refusal: Refusal) -> Result<Acts, NoMemory>
 fn nacks(alloc: Global, state: &VoiceState, rule: NackRule) -> Result<Acts, NoMemory>
     ensures { IfOk result (λ acts. acts ≡ nacks state.now rule) }
 {
-    let reply = front_nack(alloc, state, rule)?;
+    let reply = front_reply(alloc, state, rule)?;
     Acts::one(alloc, Act::Say(reply))
 }

@@ -8,7 +8,7 @@ use std::alloc::Global;
 
 /// Why a client isn't connected to a document.
 #[derive(Clone, Copy, Debug, PartialEq, Eq)]
-pub enum Refusal {
+pub enum ConnectRefusal {
     AlreadyConnected,
     /// The scope `doc:read` isn't held.
     ReadMissing,
@@ -17,17 +17,17 @@ pub enum Refusal {
     TooManyClients,
 }
 
-impl Refusal {
+impl ConnectRefusal {
     /// The code, as in HTTP.
     pub fn code(self) -> u32
         ensures { result ≡ refusal_code self }
     {
         match self {
-            Refusal::AlreadyConnected => 400,
-            Refusal::ReadMissing => 403,
-            Refusal::TooManyDocuments => 429,
-            Refusal::DocumentFull => 429,
-            Refusal::TooManyClients => 429,
+            ConnectRefusal::AlreadyConnected => 400,
+            ConnectRefusal::ReadMissing => 403,
+            ConnectRefusal::TooManyDocuments => 429,
+            ConnectRefusal::DocumentFull => 429,
+            ConnectRefusal::TooManyClients => 429,
         }
     }
 
@@ -35,11 +35,11 @@ impl Refusal {
         ensures { result.now ≡ refusal_text self }
     {
         match self {
-            Refusal::AlreadyConnected => "already connected",
-            Refusal::ReadMissing => "doc:read is missing",
-            Refusal::TooManyDocuments => "too many documents",
-            Refusal::DocumentFull => "document is full",
-            Refusal::TooManyClients => "too many clients",
+            ConnectRefusal::AlreadyConnected => "already connected",
+            ConnectRefusal::ReadMissing => "doc:read is missing",
+            ConnectRefusal::TooManyDocuments => "too many documents",
+            ConnectRefusal::DocumentFull => "document is full",
+            ConnectRefusal::TooManyClients => "too many clients",
         }
     }
 

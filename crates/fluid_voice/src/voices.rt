@@ -1,22 +1,22 @@
 // A connection's voice.
-ghost use Rattle.std.specs.Prelude.{◌≡◌, ◌≤◌, ◌<◌, ◌^◌, ◌+◌, ◌-◌, ◌∷◌, [], Some, None, true, false, IfOk, option_map, length, All};
+ghost use Rattle.std.specs.Prelude.{◌≡◌, ◌≤◌, ◌-◌, ◌∷◌, [], max, is_some, Some, None, true, false, if◌then◌else◌, IfOk, IfSome, option_map, length, All};
 ghost use Rattle.fluid_types.specs.Forms.{largest};
 ghost use Rattle.fluid_readback.specs.Laws.{longest_text};
 ghost use Rattle.fluid_voice.specs.declared.states.VoiceState.TheVariants.{Fresh, Reading, Writing, Used};
 ghost use Rattle.fluid_codec.specs.declared.replies.Reply.TheVariants.{Connected, Ops};
 ghost use Rattle.fluid_types.specs.declared.entries.Raw.TheVariants.{Leave};
 ghost use Rattle.fluid_voice.specs.declared.actions.Act.TheVariants as act;
-ghost use Rattle.fluid_voice.specs.States.{document, leave_of, with_next};
+ghost use Rattle.fluid_voice.specs.States.{document_name, is_fresh, leave_of, number_behind, with_next};
 ghost use Rattle.fluid_voice.specs.Refusals.{refused};
 ghost use Rattle.fluid_voice.specs.Heard.{acts_of};
 ghost use Rattle.fluid_voice.specs.Fitting.{IsFitting};
-ghost use Rattle.fluid_voice.specs.Answered.{connect_replies, entry_replies, replies_to, connected_to, state_after, IsCounted};
+ghost use Rattle.fluid_voice.specs.Replies.{writer_replies, reader_replies, connect_replies, entry_replies, replies_to, writer_state, reader_state, connect_state, has_left, state_after, entered_verdict};
 
 use crate::actions::{Act, Acts};
 use crate::answering::{Replies, entry_replies, event, given_replies};
 use crate::ends::ActEnd;
 use crate::hearing::acts_of;
-use crate::refusals::Refusal;
+use crate::refusals::ConnectRefusal;
 use crate::states::VoiceState;
 use fluid_codec::Reply;
 use fluid_json::NoMemory;
@@ -69,13 +69,13 @@ impl Voice {
     /// The replies to an act that ended so. Where the connection stands is noted first, which takes no memory: for want of it the
     /// replies alone are lost.
     pub fn take(&mut self, alloc: Global, act: Act, end: ActEnd) -> Result<Replies, NoMemory>
-        ensures state { IsCounted end → self.new ≡ state_after self.old act end }
+        ensures state { self.new ≡ state_after self.old act end }
         ensures replies { IfOk result (λ replies. replies ≡ replies_to self.old act end) }
     {
         match act {
             Act::Say(reply) => Replies::one(alloc, reply),
-            Act::Connect { name, .. } => self.connect(alloc, name, end),
-            Act::Enter(_) => entry_replies(alloc, &self.state, end),
+            Act::Connect { name, write, .. } => self.take_connect(alloc, name, write, end),
+            Act::Enter(raw) => self.take_raw(alloc, &raw, end),
             Act::Deltas(_, _) => given_replies(alloc, &self.state, end),
             Act::Summary(_) => given_replies(alloc, &self.state, end),
             Act::GetObject(_) => given_replies(alloc, &self.state, end),
@@ -83,25 +83,70 @@ impl Voice {
         }
     }
 
-    /// The same of an entry that was handed on and is here no more.
+    /// The same of a submission whose entry was handed on and is here no more.
     pub fn take_entry(&self, alloc: Global, end: ActEnd) -> Result<Replies, NoMemory>
-        ensures { IfOk result (λ replies. replies ≡ entry_replies (document self.now) end) }
+        ensures { IfOk result (λ replies. replies ≡ entry_replies (document_name self.now) end) }
     {
         entry_replies(alloc, &self.state, end)
     }
 
-    fn connect(&mut self, alloc: Global, name: DocName, end: ActEnd) -> Result<Replies, NoMemory>
-        ensures state { IsCounted end → self.new ≡ connected_to name self.old end }
-        ensures replies { IfOk result (λ replies. replies ≡ connect_replies end) }
+    /// The same of a connect to the document of this name, which writes or only reads, and whose detail was handed on.
+    pub fn take_connect(
+        &mut self,
+        alloc: Global,
+        name: DocName,
+        write: bool,
+        end: ActEnd,
+    ) -> Result<Replies, NoMemory>
+        ensures state { self.new ≡ connect_state name write self.old end }
+        ensures replies { IfOk result (λ replies. replies ≡ connect_replies self.old write end) }
+    {
+        if !is_fresh(&self.state) {
+            return refuse(alloc, ConnectRefusal::AlreadyConnected);
+        }
+        if write {
+            return self.take_writer(alloc, name, end);
+        }
+        self.take_reader(alloc, name, end)
+    }
+
+    fn take_writer(
+        &mut self,
+        alloc: Global,
+        name: DocName,
+        end: ActEnd,
+    ) -> Result<Replies, NoMemory>
+        ensures state { self.new ≡ writer_state name self.old end }
+        ensures replies { IfOk result (λ replies. replies ≡ writer_replies end) }
     {
         match end {
             ActEnd::Joined(id, number) => self.write(alloc, name, id, number),
-            ActEnd::Told(last) => self.read(alloc, name, last),
-            ActEnd::FullNow => refuse(alloc, Refusal::DocumentFull),
-            ActEnd::TooMany => refuse(alloc, Refusal::TooManyClients),
+            ActEnd::FullNow => refuse(alloc, ConnectRefusal::DocumentFull),
+            ActEnd::TooMany => refuse(alloc, ConnectRefusal::TooManyClients),
             ActEnd::Given(reply) => Replies::one(alloc, reply),
             ActEnd::Said => Ok(Replies::none(alloc)),
+            ActEnd::Told(_) => Ok(Replies::none(alloc)),
             ActEnd::Entered(_) => Ok(Replies::none(alloc)),
+        }
+    }
+
+    fn take_reader(
+        &mut self,
+        alloc: Global,
+        name: DocName,
+        end: ActEnd,
+    ) -> Result<Replies, NoMemory>
+        ensures state { self.new ≡ reader_state name self.old end }
+        ensures replies { IfOk result (λ replies. replies ≡ reader_replies end) }
+    {
+        match end {
+            ActEnd::Told(last) => self.read(alloc, name, last),
+            ActEnd::Given(reply) => Replies::one(alloc, reply),
+            ActEnd::Said => Ok(Replies::none(alloc)),
+            ActEnd::Joined(_, _) => Ok(Replies::none(alloc)),
+            ActEnd::Entered(_) => Ok(Replies::none(alloc)),
+            ActEnd::FullNow => Ok(Replies::none(alloc)),
+            ActEnd::TooMany => Ok(Replies::none(alloc)),
         }
     }
 
@@ -129,7 +174,7 @@ impl Voice {
     }
 
     fn read(&mut self, alloc: Global, name: DocName, last: u64) -> Result<Replies, NoMemory>
-        ensures state { last < 2 ^ 64 - 1 → self.new ≡ Reading name (last + 1) }
+        ensures state { self.new ≡ Reading name (number_behind last) }
         ensures replies { IfOk result (λ replies. replies ≡ Connected last None false ∷ []) }
     {
         self.state = VoiceState::Reading(name, behind(last));
@@ -143,17 +188,36 @@ impl Voice {
         )
     }
 
+    fn take_raw(&mut self, alloc: Global, raw: &Raw, end: ActEnd) -> Result<Replies, NoMemory>
+        ensures state { self.new ≡ (if has_left raw.now end then Used else self.old) }
+        ensures replies { IfOk result (λ replies. replies ≡ entry_replies (document_name self.old) end) }
+    {
+        let left = has_left(raw, &end);
+        let replies = entry_replies(alloc, &self.state, end);
+        self.close_if(left);
+        replies
+    }
+
+    fn close_if(&mut self, left: bool)
+        ensures { self.new ≡ (if left then Used else self.old) }
+    {
+        if left {
+            self.state = VoiceState::Used;
+        }
+    }
+
     /// An op event with these messages, under the name of the connection's document; none where it is connected to none. How many
     /// there are is the caller's part: see `MOST_IN_EVENT`.
     pub fn event(&self, alloc: Global, messages: Messages) -> Result<Option<Reply>, NoMemory>
-        ensures { IfOk result (λ event. event ≡ option_map (λ name. Ops name messages) (document self.now)) }
+        ensures { IfOk result (λ event. event ≡ option_map (λ name. Ops name messages) (document_name self.now)) }
     {
         event(alloc, &self.state, messages)
     }
 
-    /// The leave that a connection enters when it ends; none where it doesn't write.
+    /// The leave that a connection enters when it ends; none where it doesn't write. It fits a log.
     pub fn leave(&self, alloc: Global, moment: u64) -> Result<Option<Act>, NoMemory>
-        ensures { IfOk result (λ entry. entry ≡ option_map act.Enter (leave_of moment self.now)) }
+        ensures leave { IfOk result (λ entry. entry ≡ option_map act.Enter (leave_of moment self.now)) }
+        ensures fit { moment ≤ largest → IfOk result (λ entry. IfSome entry IsFitting) }
     {
         match &self.state {
             VoiceState::Fresh => Ok(None),
@@ -163,34 +227,73 @@ impl Voice {
         }
     }
 
-    /// The connection has left. Takes no memory.
+    /// A connection that has no leave to enter ends. One that has is closed when its end is taken. Takes no memory.
     pub fn close(&mut self)
         ensures { self.new ≡ Used }
     {
         self.state = VoiceState::Used;
     }
 
-    /// The messages before this number were delivered. Takes no memory.
+    /// The messages before this number were delivered. What was delivered before stays so. Takes no memory.
     pub fn advance(&mut self, next: u64)
         ensures { self.new ≡ with_next next self.old }
     {
         match &mut self.state {
             VoiceState::Fresh => {}
-            VoiceState::Reading(_, number) => *number = next,
-            VoiceState::Writing(_, _, number) => *number = next,
+            VoiceState::Reading(_, number) => *number = later(*number, next),
+            VoiceState::Writing(_, _, number) => *number = later(*number, next),
             VoiceState::Used => {}
         }
     }
 }
 
+fn is_fresh(state: &VoiceState) -> bool
+    ensures { result ≡ is_fresh state.now }
+{
+    match state {
+        VoiceState::Fresh => true,
+        VoiceState::Reading(_, _) => false,
+        VoiceState::Writing(_, _, _) => false,
+        VoiceState::Used => false,
+    }
+}
+
+// A leave was entered.
+fn has_left(raw: &Raw, end: &ActEnd) -> bool
+    ensures { result ≡ has_left raw.now end.now }
+{
+    match raw {
+        Raw::Join { .. } => false,
+        Raw::Leave { .. } => is_entered(end),
+        Raw::Submit { .. } => false,
+        Raw::Report { .. } => false,
+    }
+}
+
+fn is_entered(end: &ActEnd) -> bool
+    ensures { result ≡ is_some (entered_verdict end.now) }
+{
+    match end {
+        ActEnd::Said => false,
+        ActEnd::Joined(_, _) => false,
+        ActEnd::Told(_) => false,
+        ActEnd::Entered(_) => true,
+        ActEnd::FullNow => false,
+        ActEnd::TooMany => false,
+        ActEnd::Given(_) => false,
+    }
+}
+
 fn leave(alloc: Global, id: &ClientId, moment: u64) -> Result<Option<Act>, NoMemory>
-    ensures { IfOk result (λ entry. entry ≡ Some (act.Enter (Leave id.now moment))) }
+    ensures leave { IfOk result (λ entry. entry ≡ Some (act.Enter (Leave id.now moment))) }
+    ensures fit { moment ≤ largest → IfOk result (λ entry. IfSome entry IsFitting) }
 {
     let id = id.copy(alloc)?;
+    let _name = id.as_str();
     Ok(Some(Act::Enter(Raw::Leave { id, moment })))
 }
 
-fn refuse(alloc: Global, refusal: Refusal) -> Result<Replies, NoMemory>
+fn refuse(alloc: Global, refusal: ConnectRefusal) -> Result<Replies, NoMemory>
     ensures { IfOk result (λ replies. replies ≡ refused refusal ∷ []) }
 {
     let reply = refusal.reply(alloc)?;
@@ -206,7 +309,13 @@ fn before(number: u64) -> u64
 
 // The number behind this one, where there is one.
 fn behind(number: u64) -> u64
-    ensures { number < 2 ^ 64 - 1 → result ≡ number + 1 }
+    ensures { result ≡ number_behind number }
 {
     number.saturating_add(1)
+}
+
+fn later(one: u64, other: u64) -> u64
+    ensures { result ≡ max one other }
+{
+    one.max(other)
 }

@@ -25,6 +25,8 @@ enum Step {
     Leaves(&'static str),
     // The messages before this number were delivered.
     Delivers(u64),
+    // Its leave is sequenced.
+    Goes,
     Closes,
 }
 
@@ -87,6 +89,14 @@ impl Life {
         drop(act);
     }
 
+    fn go(&mut self, rt: &impl Abort, alloc: Global) {
+        let act = self.voice.leave(alloc, MOMENT).expect(rt, "memory");
+        self.acts
+            .push(act.expect(rt, "a leave"))
+            .expect(rt, "memory");
+        self.end(rt, alloc, &End::Sequenced, "");
+    }
+
     fn do_step(&mut self, rt: &impl Abort, alloc: Global, step: &Step) {
         match step {
             Step::Fresh => *self = Life::new(alloc),
@@ -97,6 +107,7 @@ impl Life {
             Step::Stands(wanted) => self.stand(rt, alloc, *wanted),
             Step::Leaves(wanted) => self.leave(rt, alloc, *wanted),
             Step::Delivers(next) => self.voice.advance(*next),
+            Step::Goes => self.go(rt, alloc),
             Step::Closes => self.voice.close(),
         }
     }
@@ -224,6 +235,8 @@ const READING: &[Step] = &[
     Step::Stands("reading d 6"),
     Step::Delivers(9),
     Step::Stands("reading d 9"),
+    Step::Closes,
+    Step::Stands("used"),
     Step::Fresh,
     Step::Hears(
         r#"["connect_document",{"id":"d","mode":"read","scopes":["doc:read","doc:write"]}]"#,
@@ -279,14 +292,22 @@ enter {"clientId":"c0","moment":7,"operation":{"clientSequenceNumber":9,"content
     Step::Stands("writing d c0 1"),
     Step::Delivers(4),
     Step::Stands("writing d c0 4"),
+    // What was delivered stays so.
+    Step::Delivers(2),
+    Step::Stands("writing d c0 4"),
     Step::Leaves(r#"enter {"clientId":"c0","moment":7,"raw":"leave"}"#),
-    Step::Closes,
+    Step::Goes,
     Step::Stands("used"),
     Step::Leaves(""),
     Step::Delivers(5),
     Step::Stands("used"),
     Step::Hears(CONNECT, ""),
     Step::Hears("hello", ""),
+    // An end that its connect can't have.
+    Step::Fresh,
+    Step::Hears(CONNECT, "connect d joins rw- null 7"),
+    Step::Ends(End::Told(3), ""),
+    Step::Stands("fresh"),
 ];
 
 // At the limits of documents, entries and clients.

@@ -3,7 +3,7 @@ use fluid_codec::read_message;
 use fluid_json::Bytes;
 use fluid_tree::{Id, SummaryRef};
 use fluid_types::{ClientId, Messages, Nack, NackRule, Raw, Submission, Verdict};
-use fluid_voice::{Act, ActEnd, Refusal, Reply, out_of_range, range_asked, summary_asked};
+use fluid_voice::{Act, ActEnd, ConnectRefusal, Reply, out_of_range, range_asked, summary_asked};
 use std::alloc::Global;
 use std::process::Abort;
 
@@ -67,7 +67,9 @@ fn sequenced(rt: &impl Abort, alloc: Global) -> ActEnd {
 }
 
 fn too_many_documents(rt: &impl Abort, alloc: Global) -> ActEnd {
-    let reply = Refusal::TooManyDocuments.reply(alloc).expect(rt, "memory");
+    let reply = ConnectRefusal::TooManyDocuments
+        .reply(alloc)
+        .expect(rt, "memory");
     ActEnd::Given(reply)
 }
 
