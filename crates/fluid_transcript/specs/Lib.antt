@@ -5,3 +5,5 @@ pub mod Documents
 pub mod Containers
 pub mod Steps
 pub mod Transcript
+pub mod Laws
+pub mod Examples
