@@ -1,3 +1,4 @@
 mod Computed
+mod LinesComputed
 mod Growing
 mod Rowed

@@ -7,3 +7,4 @@ pub mod Steps
 pub mod Transcript
 pub mod Laws
 pub mod Examples
+pub mod LineExamples
