@@ -5,3 +5,6 @@ pub mod Documents
 pub mod Containers
 pub mod Steps
 pub mod Transcript
+pub mod Laws
+pub mod Examples
+pub mod LineExamples

@@ -8,3 +8,5 @@
 //! - `laws` and `examples` say that what `specs/Laws.antt` and `specs/Examples.antt` state is proved.
 #![tactic(auto)]
 
+pub mod examples;
+pub mod laws;

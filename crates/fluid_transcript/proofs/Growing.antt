@@ -1,0 +1,26 @@
+-- One line more at the end.
+use Rattle.std.proofs.Common.{◌≡◌, ℕ, List, [], ◌∷◌, ◌++◌, refl, sym, ap, ◌∙◌, append_assoc, append-nil}
+use Rattle.std.specs.List.{flat_map}
+use Rattle.fluid_rules.specs.declared.limits.Limits.{Limits}
+use Rattle.fluid_transcript.specs.World.{World}
+use Rattle.fluid_transcript.specs.Transcript.{taken, behind, lines_of, written}
+use Rattle.fluid_transcript.specs.Laws.{WorldGrows, LinesGrow, TranscriptGrows}
+
+pub world_grows : WorldGrows
+world_grows limits w [] line = refl
+world_grows limits w (first ∷ lines) line = world_grows limits (taken limits w first).world lines line
+
+pub lines_grow : LinesGrow
+lines_grow limits w [] line = append-nil (taken limits w line).lines
+lines_grow limits w (first ∷ lines) line =
+    ap (λ more. (taken limits w first).lines ++ more) (lines_grow limits (taken limits w first).world lines line)
+    ∙ sym (append_assoc (taken limits w first).lines (lines_of limits (taken limits w first).world lines) (taken limits (behind limits (taken limits w first).world lines) line).lines)
+
+written_both : (first second : List (List ℕ)) → written (first ++ second) ≡ written first ++ written second
+written_both [] second = refl
+written_both (line ∷ first) second =
+    ap (λ more. (line ++ 10 ∷ []) ++ more) (written_both first second) ∙ sym (append_assoc (line ++ 10 ∷ []) (written first) (written second))
+
+pub transcript_grows : TranscriptGrows
+transcript_grows limits w lines line =
+    ap written (lines_grow limits w lines line) ∙ written_both (lines_of limits w lines) (taken limits (behind limits w lines) line).lines

@@ -1,0 +1,4 @@
+mod Computed
+mod LinesComputed
+mod Growing
+mod Rowed

@@ -1,0 +1,55 @@
+//! Worked examples, each computed from the definitions.
+ghost use Rattle.fluid_transcript.specs.Examples.{NewDocument, TwoClients, Sweeps, Loads, GoesOn};
+ghost use Rattle.fluid_transcript.specs.LineExamples.{Forms, Hears, Collects, Edits, Refusals, Beyond, FirstUse};
+
+/// The steps of a document that is new.
+pub fn new_document()
+    ensures { NewDocument }
+{}
+
+/// Those of a document with two clients and two checkpoints.
+pub fn two_clients()
+    ensures { TwoClients }
+{}
+
+/// Who is silent leaves.
+pub fn sweeps()
+    ensures { Sweeps }
+{}
+
+/// Containers that are loaded, and that aren't.
+pub fn loads()
+    ensures { Loads }
+{}
+
+/// A container goes on, and one is refused.
+pub fn goes_on()
+    ensures { GoesOn }
+{}
+
+/// The forms of lines.
+pub fn forms()
+    ensures { Forms }
+{}
+
+/// What connections hear, collect and write.
+pub fn connections()
+    ensures hears { Hears }
+    ensures collects { Collects }
+{}
+
+/// Edits that are refused, and that aren't.
+pub fn edits()
+    ensures { Edits }
+{}
+
+/// Which lines are refused.
+pub fn refusals()
+    ensures refusals { Refusals }
+    ensures beyond { Beyond }
+{}
+
+/// A document's first use.
+pub fn first_use()
+    ensures { FirstUse }
+{}
