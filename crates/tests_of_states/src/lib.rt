@@ -7,6 +7,10 @@ mod answering;
 #[cfg(test)]
 mod entering;
 #[cfg(test)]
+mod orders;
+#[cfg(test)]
+mod plain;
+#[cfg(test)]
 mod quorums;
 #[cfg(test)]
 mod sequencing;

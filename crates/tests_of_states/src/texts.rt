@@ -14,6 +14,12 @@ pub enum Entry {
     // With its client number and its reference.
     Op(&'static str, u64, i64),
     Summarize(&'static str, u64, i64),
+    // Builds on the last acknowledged summary.
+    Next(&'static str, u64, i64),
+    // With these contents.
+    Summarizing(&'static str, u64, i64, &'static str),
+    Propose(&'static str, u64, i64, &'static str),
+    Noop(&'static str, u64, i64, &'static str),
     // On this number, and whether the tree was found.
     Report(u64, bool),
 }
@@ -27,8 +33,17 @@ pub fn record(rt: &impl Abort, alloc: Global, entry: &Entry) -> String {
         Entry::Op(id, number, reference) => submit(
             rt, alloc, *id, "op", *number, *reference, "null",
         ),
-        Entry::Summarize(id, number, reference) => {
+        Entry::Summarize(id, number, reference) | Entry::Next(id, number, reference) => {
             submit(rt, alloc, *id, "summarize", *number, *reference, PROPOSAL)
+        }
+        Entry::Summarizing(id, number, reference, contents) => {
+            submit(rt, alloc, *id, "summarize", *number, *reference, contents)
+        }
+        Entry::Propose(id, number, reference, contents) => {
+            submit(rt, alloc, *id, "propose", *number, *reference, contents)
+        }
+        Entry::Noop(id, number, reference, contents) => {
+            submit(rt, alloc, *id, "noop", *number, *reference, contents)
         }
         Entry::Report(summary, found) => report(rt, alloc, *summary, *found),
     }
