@@ -32,9 +32,10 @@ use Rattle.fluid_document.specs.Rooms.{for_room, roomed}
 use Rattle.fluid_document.specs.Loading.{loaded, newest, ReadsBehind, PutsDeltas, IsBadAs, IsLoadFault}
 use Rattle.fluid_document.specs.Taking.{ReadsKept}
 use Rattle.fluid_document.specs.Kept.{records, IsLoggable, IsKept}
+use Rattle.fluid_document.specs.Laws.{CheckpointIsLoaded}
 use Rattle.fluid_document.proofs.Keeps.{kept_entered, kept_more, deltas_grow}
 use Rattle.fluid_document.proofs.Foldings.{state-entries_of, entered-entries_of}
-use Rattle.fluid_document.proofs.Reloading.{loaded-first, loaded-any}
+use Rattle.fluid_document.proofs.Reloading.{loaded-first}
 use Rattle.fluid_lane.specs.declared.fault.LaneFault.{LaneFault}
 use Rattle.fluid_lane.specs.declared.fault.LaneFault.TheVariants.{LogFailed, Full, BadRecord, NoCheckpoint, CheckpointsFull, TooManyClients, DeltaFailed, NoMemory, BadCheckpoint, TooLarge, Worn}
 use Rattle.fluid_lane.specs.Faults.{of_loading, IsCausedBy}
@@ -52,12 +53,13 @@ use Rattle.fluid_lane.proofs.Stands.{Was, told_too, for_put, still_nothing}
 newest-some : (n : ℕ) → newest (suc n) ≡ Some n
 newest-some n = rw (lt-leb (suc n) 0 (omega arith)) (ap Some (omega arith))
 
-at_newest : (l : Ledger) (c : Content) (n : ℕ) → n ≡ length c.checkpoints → IsKept false l c → loaded c (newest n) ≡ Ok (entries_of l)
-at_newest l c zero is kept = loaded-first l c kept
-at_newest l c (suc n) is kept = ap (loaded c) (newest-some n) ∙ loaded-any l c n kept (omega (arith, is))
+at_newest : CheckpointIsLoaded → (l : Ledger) (c : Content) (n : ℕ) → n ≡ length c.checkpoints → IsKept false l c → loaded c (newest n) ≡ Ok (entries_of l)
+at_newest law l c zero is kept = loaded-first l c kept
+at_newest law l c (suc n) is kept = ap (loaded c) (newest-some n) ∙ law l c n kept (omega (arith, is))
 
 -- what is known of a keeper and of what was read of it
 pub record Opens (old mid : Keeping) (m : InMemory) : Type 0 where
+  pub law : CheckpointIsLoaded
   pub sized : IsSized old
   pub puts : PutsDeltas old mid
   pub later : old.faults ≤ mid.faults
@@ -75,7 +77,7 @@ same_told old mid puts = ap is_some puts.kept.content ∙ told_map (put_behind p
 entries_are : (old mid : Keeping) (m : InMemory) (l : Ledger) → Opens old mid m → Tells old.content (IsKept false l) → Tells old.content (λ _. m.entries ≡ entries_of l)
 entries_are old mid m l opens kept =
     tells_both old.content (HasLengths old) (λ c. (loaded c (newest old.checkpoints) ≡ Ok m.entries) × IsKept false l c) (λ _. m.entries ≡ entries_of l)
-    (λ c lengths both. same_ok m.entries (entries_of l) (loaded c (newest old.checkpoints)) both.0 (at_newest l c old.checkpoints lengths.checkpoints both.1))
+    (λ c lengths both. same_ok m.entries (entries_of l) (loaded c (newest old.checkpoints)) both.0 (at_newest opens.law l c old.checkpoints lengths.checkpoints both.1))
     opens.sized (tells_both old.content (λ c. loaded c (newest old.checkpoints) ≡ Ok m.entries) (IsKept false l) (λ c. (loaded c (newest old.checkpoints) ≡ Ok m.entries) × IsKept false l c) (λ c a b. (a, b)) opens.loads kept)
 
 for_opened : (old mid : Keeping) (m : InMemory) (l : Ledger) → Opens old mid m → Tells old.content (IsKept false l) → Tells mid.content (IsFor false m.entries m.messages l)
@@ -386,10 +388,10 @@ not_bad e r (loading.BadRecord place) is bad = absurd (never_err e (loading.BadR
 not_bad e r (loading.BadCheckpoint number fault) is bad = absurd (never_err e (loading.BadCheckpoint number fault) r is bad)
 not_bad e r loading.Worn is bad = tt
 
-pub never_reads : (old : Keeping) (l : Ledger) (fault : LoadFault) → IsSized old → Tells old.content (λ content. IsBadAs (loaded content (newest old.checkpoints)) fault) → Tells old.content (IsKept false l) → Tells old.content (λ _. IsNotBad (of_loading fault))
-never_reads old l fault sized bad kept =
+pub never_reads : CheckpointIsLoaded → (old : Keeping) (l : Ledger) (fault : LoadFault) → IsSized old → Tells old.content (λ content. IsBadAs (loaded content (newest old.checkpoints)) fault) → Tells old.content (IsKept false l) → Tells old.content (λ _. IsNotBad (of_loading fault))
+never_reads law old l fault sized bad kept =
     tells_both old.content (HasLengths old) (λ c. IsBadAs (loaded c (newest old.checkpoints)) fault × IsKept false l c) (λ _. IsNotBad (of_loading fault))
-    (λ c lengths both. not_bad (entries_of l) (loaded c (newest old.checkpoints)) fault (at_newest l c old.checkpoints lengths.checkpoints both.1) both.0)
+    (λ c lengths both. not_bad (entries_of l) (loaded c (newest old.checkpoints)) fault (at_newest law l c old.checkpoints lengths.checkpoints both.1) both.0)
     sized (tells_both old.content (λ c. IsBadAs (loaded c (newest old.checkpoints)) fault) (IsKept false l) (λ c. IsBadAs (loaded c (newest old.checkpoints)) fault × IsKept false l c) (λ c a b. (a, b)) bad kept)
 
 -- nobody has left yet

@@ -11,7 +11,7 @@ use Rattle.fluid_document.specs.declared.fault.LoadFault.TheVariants as loading
 use Rattle.fluid_document.specs.Entries.{Entries, entries_of}
 use Rattle.fluid_document.specs.Loading.{loaded}
 use Rattle.fluid_document.specs.Kept.{IsKept}
-use Rattle.fluid_document.proofs.Reloading.{loaded-any}
+use Rattle.fluid_document.specs.Laws.{CheckpointIsLoaded}
 use Rattle.fluid_lane.specs.declared.fault.LaneFault.{LaneFault}
 use Rattle.fluid_lane.specs.declared.fault.LaneFault.TheVariants.{LogFailed, Full, BadRecord, NoCheckpoint, CheckpointsFull, TooManyClients, DeltaFailed, NoMemory, BadCheckpoint, TooLarge, Worn}
 use Rattle.fluid_lane.specs.declared.steps.Step.{Step}
@@ -38,20 +38,20 @@ record Knows (s : Standing) (l : List Step) (number : ℕ) (c : Content) : Type 
   loads : loaded c (Some number) ≡ Ok (entries_of (ledger l))
   said : IsFor s.owed s.entries s.messages (ledger l) c
 
-knows : (s : Standing) (l : List Step) (number : ℕ) → IsSized s.keeping → s.owed ≡ false → number < s.keeping.checkpoints → LaneStands s l → Tells s.keeping.content (Knows s l number)
-knows s l number sized level lt stands =
+knows : CheckpointIsLoaded → (s : Standing) (l : List Step) (number : ℕ) → IsSized s.keeping → s.owed ≡ false → number < s.keeping.checkpoints → LaneStands s l → Tells s.keeping.content (Knows s l number)
+knows law s l number sized level lt stands =
     tells_both s.keeping.content (HasLengths s.keeping) (IsTold s l) (Knows s l number)
     (λ c lengths told. record {
-      loads = loaded-any (ledger l) c number (subst (λ o. IsKept o (ledger l) c) level told.stands.kept) (omega (arith, lt, lengths.checkpoints));
+      loads = law (ledger l) c number (subst (λ o. IsKept o (ledger l) c) level told.stands.kept) (omega (arith, lt, lengths.checkpoints));
       said = told.stands;
     }) sized stands.told
 
 -- what was read is what the lane had
-pub restart_same : (s : Standing) (l : List Step) (number : ℕ) (e : Entries) → IsSized s.keeping → s.owed ≡ false → number < s.keeping.checkpoints → LaneStands s l → Tells s.keeping.content (λ content. loaded content (Some number) ≡ Ok e)
+pub restart_same : CheckpointIsLoaded → (s : Standing) (l : List Step) (number : ℕ) (e : Entries) → IsSized s.keeping → s.owed ≡ false → number < s.keeping.checkpoints → LaneStands s l → Tells s.keeping.content (λ content. loaded content (Some number) ≡ Ok e)
     → Tells s.keeping.content (λ _. e ≡ entries_of (ledger l))
-restart_same s l number e sized level lt stands loads =
+restart_same law s l number e sized level lt stands loads =
     tells_both s.keeping.content (Knows s l number) (λ content. loaded content (Some number) ≡ Ok e) (λ _. e ≡ entries_of (ledger l))
-    (λ c known is. same_ok e (entries_of (ledger l)) (loaded c (Some number)) is known.loads) (knows s l number sized level lt stands) loads
+    (λ c known is. same_ok e (entries_of (ledger l)) (loaded c (Some number)) is known.loads) (knows law s l number sized level lt stands) loads
 
 never_bad : (s : Standing) (l : List Step) (number : ℕ) (c : Content) (fault : LaneFault) → Knows s l number c → RefusesRestart number s.entries c fault → IsNotBad fault
 never_bad s l number c (LogFailed note) known refuses = tt
@@ -69,7 +69,7 @@ never_bad s l number c (BadCheckpoint bad fault) known refuses =
 never_bad s l number c (TooLarge bytes) known refuses = tt
 never_bad s l number c Worn known refuses = tt
 
-pub restart_never : (s : Standing) (l : List Step) (number : ℕ) (fault : LaneFault) → IsSized s.keeping → s.owed ≡ false → number < s.keeping.checkpoints → LaneStands s l
+pub restart_never : CheckpointIsLoaded → (s : Standing) (l : List Step) (number : ℕ) (fault : LaneFault) → IsSized s.keeping → s.owed ≡ false → number < s.keeping.checkpoints → LaneStands s l
     → Tells s.keeping.content (λ content. RefusesRestart number s.entries content fault) → Tells s.keeping.content (λ _. IsNotBad fault)
-restart_never s l number fault sized level lt stands refuses =
-    tells_both s.keeping.content (Knows s l number) (λ content. RefusesRestart number s.entries content fault) (λ _. IsNotBad fault) (λ c known r. never_bad s l number c fault known r) (knows s l number sized level lt stands) refuses
+restart_never law s l number fault sized level lt stands refuses =
+    tells_both s.keeping.content (Knows s l number) (λ content. RefusesRestart number s.entries content fault) (λ _. IsNotBad fault) (λ c known r. never_bad s l number c fault known r) (knows law s l number sized level lt stands) refuses

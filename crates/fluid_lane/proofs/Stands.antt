@@ -22,7 +22,7 @@ use Rattle.fluid_core.specs.Entering.{verdict_in}
 use Rattle.fluid_core.proofs.Entered.{verdict-state_of}
 use Rattle.fluid_document.specs.Entries.{Entries, most, taken_up, entries_of}
 use Rattle.fluid_document.specs.Entry.{PutsSome, IsTorn}
-use Rattle.fluid_document.specs.Kept.{IsLoggable, IsKept, checkpoint_text}
+use Rattle.fluid_document.specs.Kept.{IsLoggable, IsKept, IsPrinted}
 use Rattle.fluid_document.proofs.Keeps.{kept_owed, kept_cut, kept_torn, kept_entered, kept_more}
 use Rattle.fluid_document.proofs.Foldings.{taken-entries_of, state-entries_of, entered-entries_of}
 use Rattle.fluid_lane.specs.declared.steps.Side.{Side}
@@ -195,13 +195,13 @@ for_torn s t ms raw fits text same entries level owed still l is =
     stand was.said)
 
 -- a checkpoint was stored
-pub for_stored : (s t : Standing) (text : List ℕ) (l : Ledger) → text ≡ checkpoint_text s.entries → KeepsSame (with_checkpoint text s.keeping) t.keeping → t.entries ≡ s.entries → t.messages ≡ s.messages → t.owed ≡ s.owed
+pub for_stored : (s t : Standing) (text : List ℕ) (l : Ledger) → IsPrinted s.entries text → KeepsSame (with_checkpoint text s.keeping) t.keeping → t.entries ≡ s.entries → t.messages ≡ s.messages → t.owed ≡ s.owed
     → Tells s.keeping.content (AreAll (order l)) → Tells s.keeping.content (IsFor s.owed s.entries s.messages l) → Tells t.keeping.content (IsFor t.owed t.entries t.messages l)
 for_stored s t text l printed same entries messages owed all is =
     tells_along _ _ (IsFor t.owed t.entries t.messages l) (sym same.content)
     (tells_becomes s.keeping.content (add_checkpoint text) (λ c. AreAll (order l) c × IsFor s.owed s.entries s.messages l c) (IsFor t.owed t.entries t.messages l)
     (λ c both. for_with s.owed t.owed s.entries t.entries s.messages t.messages l c (add_checkpoint text c) entries
-    (subst (λ o. IsKept o l (add_checkpoint text c)) (sym owed) (kept_stored s.owed l c text (printed ∙ ap checkpoint_text both.1.entries) both.0 both.1.kept))
+    (subst (λ o. IsKept o l (add_checkpoint text c)) (sym owed) (kept_stored s.owed l c text (subst (λ e. IsPrinted e text) both.1.entries printed) both.0 both.1.kept))
     (subst (λ d. StandFor d (order l) (add_checkpoint text c)) (sym messages) (same_stand s.messages s.messages (order l) c (add_checkpoint text c) refl refl refl both.1.messages)) both.1)
     (tells_both s.keeping.content (AreAll (order l)) (IsFor s.owed s.entries s.messages l) (λ c. AreAll (order l) c × IsFor s.owed s.entries s.messages l c) (λ c a b. (a, b)) all is))
 
@@ -360,7 +360,7 @@ stored_beside s r t number text same faults entries sides last opened limits is 
     })
 
 -- a checkpoint was stored
-pub stored_list : (s t : Standing) (number : ℕ) (text : List ℕ) (l : List Step) → IsBeside s t (Aside (Stored number) ∷ []) → text ≡ checkpoint_text s.entries → KeepsSame (with_checkpoint text s.keeping) t.keeping → t.entries ≡ s.entries → t.messages ≡ s.messages
+pub stored_list : (s t : Standing) (number : ℕ) (text : List ℕ) (l : List Step) → IsBeside s t (Aside (Stored number) ∷ []) → IsPrinted s.entries text → KeepsSame (with_checkpoint text s.keeping) t.keeping → t.entries ≡ s.entries → t.messages ≡ s.messages
     → t.owed ≡ s.owed → Tells s.keeping.content (AreAll (order (ledger l))) → LaneStands s l → LaneStands t (l ++ Aside (Stored number) ∷ [])
 stored_list s t number text l beside printed same entries messages owed all stands =
     let more : List Step = Aside (Stored number) ∷ [] in

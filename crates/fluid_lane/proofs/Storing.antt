@@ -1,5 +1,5 @@
 -- A keeper that is kept stays so behind a checkpoint that was stored.
-use Rattle.std.proofs.Common.{◌≡◌, ℕ, ◌≤◌, arith, Bool, List, [], ◌∷◌, ◌++◌, length, map, Some, slice_get, refl, sym, ap, ◌∙◌, append-nil, length-append}
+use Rattle.std.proofs.Common.{◌≡◌, ℕ, ◌≤◌, arith, Bool, List, [], ◌∷◌, ◌++◌, length, map, Some, slice_get, inl, refl, sym, ap, ◌∙◌, append-nil, length-append}
 use Rattle.std.proofs.lemmas.List.{length-map}
 use Rattle.std.proofs.lemmas.List.Elements.{All-push, All-weaker}
 use Rattle.fluid_io.specs.Causes.{Tells}
@@ -12,20 +12,21 @@ use Rattle.fluid_deltas.proofs.Telling.{tells_along, tells_becomes}
 use Rattle.fluid_deltas.specs.Pushed.{AreDeltasOf}
 use Rattle.fluid_deltas.specs.Flushes.{put_behind, AreAll}
 use Rattle.fluid_lane.specs.Calls.{HasCheckpoint}
-use Rattle.fluid_document.specs.Kept.{IsCheckpointOf, checkpoint_of, IsKept}
+use Rattle.fluid_document.specs.Entries.{entries_of}
+use Rattle.fluid_document.specs.Kept.{IsCheckpointOf, IsPrinted, IsKept}
 
 -- a checkpoint of a ledger whose messages are all among the deltas
-whole_checkpoint : (l : Ledger) (c : Content) (text : List ℕ) → text ≡ checkpoint_of l → AreAll (order l) c → IsCheckpointOf l (length c.deltas) text
+whole_checkpoint : (l : Ledger) (c : Content) (text : List ℕ) → IsPrinted (entries_of l) text → AreAll (order l) c → IsCheckpointOf l (length c.deltas) text
 unfolding seq
 whole_checkpoint l c text is all = record {
   before = l;
   behind = [];
   splits = sym (append-nil l);
-  text = is;
+  text = inl is;
   reached = omega (arith, ap length all, length-map (order l) message_printed);
 }
 
-pub kept_stored : (owed : Bool) (l : Ledger) (c : Content) (text : List ℕ) → text ≡ checkpoint_of l → AreAll (order l) c → IsKept owed l c → IsKept owed l (add_checkpoint text c)
+pub kept_stored : (owed : Bool) (l : Ledger) (c : Content) (text : List ℕ) → IsPrinted (entries_of l) text → AreAll (order l) c → IsKept owed l c → IsKept owed l (add_checkpoint text c)
 kept_stored owed l c text is all kept = record {
   legal = kept.legal;
   few = kept.few;

@@ -14,7 +14,7 @@ ghost use Rattle.fluid_deltas.specs.Pushed.{StandFor, slice};
 ghost use Rattle.fluid_deltas.specs.Ranges.{IsAnswer, IsHeldAnswer, IsSlice, AreHeld, Reads, held_between, range_of};
 ghost use Rattle.fluid_deltas.specs.Flushes.{PutsAll, AreAll};
 ghost use Rattle.fluid_document.specs.Entries.{most, taken_up};
-ghost use Rattle.fluid_document.specs.Kept.{IsKept, checkpoint_text};
+ghost use Rattle.fluid_document.specs.Kept.{IsKept, IsPrinted};
 ghost use Rattle.fluid_document.specs.Loading.{loaded, ReadsBehind, PutsDeltas};
 ghost use Rattle.fluid_lane.specs.declared.steps.Step.{Step as AStep};
 ghost use Rattle.fluid_lane.specs.Faults.{IsCausedBy, IsLogFailed, IsOutside, IsReadFault};
@@ -32,7 +32,9 @@ use crate::start::joined_id;
 use crate::steps::Side;
 use fluid_clients::Clients;
 use fluid_deltas::DeltaFault;
-use fluid_document::{Document, EnterFault, LoadFault, MOST, bad_field, enter, load, note_of};
+use fluid_document::{
+    Document, EnterFault, LoadFault, MOST, bad_field, enter, kept_is_loaded, load, note_of,
+};
 use fluid_io::FaultNote;
 use fluid_json::{Json, NoMemory};
 use fluid_log::{Keeper, KeeperFault};
@@ -372,6 +374,7 @@ impl<K: Keeper> Lane<K> {
                 stored,
             });
         }
+        kept_is_loaded();
         match self.reload(alloc, number) {
             Ok(document) => {
                 self.document = document;
@@ -517,7 +520,7 @@ impl<K: Keeper> Lane<K> {
         ensures kept { MatchResult result (λ _. KeepsSame (with_checkpoint text.now self.old.keeping) self.new.keeping) (λ _. KeepsSame self.old.keeping self.new.keeping) }
         ensures number { IfOk result (λ number. number ≡ self.old.keeping.checkpoints) }
         ensures stored { IfOk result (λ number. Tells self.new.keeping.content (HasCheckpoint number text.now)) }
-        ensures goes { (before : List AStep) → text.now ≡ checkpoint_text self.old.entries → Tells self.old.keeping.content (AreAll (order (ledger before))) →
+        ensures goes { (before : List AStep) → IsPrinted self.old.entries text.now → Tells self.old.keeping.content (AreAll (order (ledger before))) →
             LaneStands self.old before → LaneStands self.new (before ++ steps_of stored_by result) }
         ensures terms { IsBeside self.old self.new (steps_of stored_by result) }
     {

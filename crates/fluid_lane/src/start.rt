@@ -10,7 +10,7 @@ ghost use Rattle.fluid_lane.specs.Starting.{LeaveDoes, LeavesAll, Starts, Starts
 
 use crate::LaneFault;
 use crate::lane::Lane;
-use fluid_document::{Document, EnterFault, MOST, load, take_in};
+use fluid_document::{Document, EnterFault, MOST, kept_is_loaded, load, take_in};
 use fluid_json::NoMemory;
 use fluid_log::Keeper;
 use fluid_rules::Limits;
@@ -35,6 +35,7 @@ impl<K: Keeper> Lane<K> {
         let mut keeper = keeper;
         let opened = keeper.checkpoints();
         let newest = newest(opened);
+        kept_is_loaded();
         match load(alloc, &mut keeper, newest) {
             Ok(document) => {
                 let mut document = document;

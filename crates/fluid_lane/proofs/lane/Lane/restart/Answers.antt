@@ -34,7 +34,7 @@ returns-in-Ok-reload-clause-goes g c =
     (goes_restarted c.settle.new.self c.reload.new.self _ c.args.number r.goes (ap (λ u. u.keeping) c.self-2.view_is) (r.whole.0 ∙ sym (ap (λ e. e.entered) r.same.0)) (ap (λ u. u.owed) c.self-2.view_is) (ap (λ u. u.sides + 1) c.self-2.view_is) refl
     (ap (λ u. u.opened) c.self-2.view_is) (ap (λ u. u.limits) c.self-2.view_is)
     (λ l h. told_too c.settle.new.self.keeping.content c.reload.new.self.keeping.content (d.entries ≡ entries_of (ledger l)) r.goes.told
-    (restart_same c.settle.new.self l c.args.number d.entries sized s.done (omega (arith, c.if-number-stored.false, c.checkpoints-stored.ensures, ap (λ u. u.keeping.checkpoints) c.self.view_is)) h r.loaded))
+    (restart_same c.kept_is_loaded.ensures.checkpoints c.settle.new.self l c.args.number d.entries sized s.done (omega (arith, c.if-number-stored.false, c.checkpoints-stored.ensures, ap (λ u. u.keeping.checkpoints) c.self.view_is)) h r.loaded))
     (λ l h. r.stands l h))
 
 pub returns-in-Ok-reload-clause-restarts : goal.returns-in-Ok-reload-clause-restarts
@@ -53,5 +53,5 @@ returns-in-Err-reload-clause-never g c = λ l h.
     let r = c.in-Err-reload.ensures in
     let sized : IsSized c.settle.new.self.keeping = subst (λ u. IsSized u.keeping) c.self.view_is (g.K.Keeper.sized c.self.inside.keeper) in
     told_too c.settle.new.self.keeping.content c.args.self.now.keeping.content _ (sym s.goes.told)
-    (restart_never c.settle.new.self l c.args.number c.in-Err-reload.fault sized s.done (omega (arith, c.if-number-stored.false, c.checkpoints-stored.ensures, ap (λ u. u.keeping.checkpoints) c.self.view_is))
+    (restart_never c.kept_is_loaded.ensures.checkpoints c.settle.new.self l c.args.number c.in-Err-reload.fault sized s.done (omega (arith, c.if-number-stored.false, c.checkpoints-stored.ensures, ap (λ u. u.keeping.checkpoints) c.self.view_is))
     (nothing_less c.settle.new.self l (s.goes.list l h)) r.loaded)

@@ -34,7 +34,7 @@ returns-in-Ok-dismiss_all-clause-ok g c =
     let loads = subst (λ number. Tells old.content (λ content. loaded content number ≡ Ok c.in-Ok.document.entries)) from e.loaded in
     subst (Starts old c.args.limits c.args.moment) (sym c.begun.ensures)
     (starts c.args.moment old (g.K.Keeper.seen c.load.new.keeper) (g.K.Keeper.seen c.dismiss_all.new.keeper) c.args.limits c.in-Ok.document c.dismiss_all.new.document c.checkpoints-opened.result
-    (record { sized = g.K.Keeper.sized c.args.keeper; puts = e.puts; later = e.later; loads = loads; kept = e.kept }) d.does.0 d.does.1
+    (record { law = c.kept_is_loaded.ensures.checkpoints; sized = g.K.Keeper.sized c.args.keeper; puts = e.puts; later = e.later; loads = loads; kept = e.kept }) d.does.0 d.does.1
     c.checkpoints-opened.ensures (subst (λ number. Tells old.content (ReadsBehind number old.records old.reads (g.K.Keeper.seen c.load.new.keeper).reads)) from e.reads))
 
 pub returns-in-Err-dismiss_all-clause-err : goal.returns-in-Err-dismiss_all-clause-err
@@ -44,7 +44,7 @@ returns-in-Err-dismiss_all-clause-err g c =
     let old = g.K.Keeper.seen c.args.keeper in
     let from = c.newest-newest.ensures ∙ ap newest c.checkpoints-opened.ensures in
     let loads = subst (λ number. Tells old.content (λ content. loaded content number ≡ Ok c.in-Ok.document.entries)) from e.loaded in
-    let opens : Opens (g.K.Keeper.seen c.args.keeper) (g.K.Keeper.seen c.load.new.keeper) c.in-Ok.document = record { sized = g.K.Keeper.sized c.args.keeper; puts = e.puts; later = e.later; loads = loads; kept = e.kept } in
+    let opens : Opens (g.K.Keeper.seen c.args.keeper) (g.K.Keeper.seen c.load.new.keeper) c.in-Ok.document = record { law = c.kept_is_loaded.ensures.checkpoints; sized = g.K.Keeper.sized c.args.keeper; puts = e.puts; later = e.later; loads = loads; kept = e.kept } in
     record {
       left = λ l kept. left_some c.args.limits c.args.moment old (g.K.Keeper.seen c.load.new.keeper) (g.K.Keeper.seen c.dismiss_all.new.keeper) c.in-Ok.document c.dismiss_all.new.document l c.in-Err-dismiss_all.fault opens d.does kept;
       never = λ l kept. tells_each old.content _ (λ content. never_behind c.args.moment _ _ _ _ c.in-Err-dismiss_all.fault d.does);
@@ -62,7 +62,7 @@ returns-in-Err-clause-err g c =
     rw c.from.ensures
     (record {
       left = λ l kept. left_nobody c.args.moment _ l (read_kept (λ d. d) l (Err c.in-Err.fault) _ (e.kept l kept));
-      never = λ l kept. never_reads old l c.in-Err.fault (g.K.Keeper.sized c.args.keeper) loads kept;
+      never = λ l kept. never_reads c.kept_is_loaded.ensures.checkpoints old l c.in-Err.fault (g.K.Keeper.sized c.args.keeper) loads kept;
       bad = bad_reads old.content (newest old.checkpoints) c.in-Err.fault loads;
       cause = caused_by _ _ _ c.in-Err.fault e.cause;
       grew = grew_read _ _ e.puts;

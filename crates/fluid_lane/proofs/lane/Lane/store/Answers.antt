@@ -2,7 +2,7 @@ use Rattle.std.proofs.Common.{refl, sym, ap, subst, ◌∙◌}
 use Rattle.fluid_io.specs.Causes.{Tells}
 use Rattle.fluid_types.specs.Ledger.{order}
 use Rattle.fluid_deltas.specs.Flushes.{AreAll}
-use Rattle.fluid_document.specs.Kept.{checkpoint_text}
+use Rattle.fluid_document.specs.Kept.{IsPrinted}
 use Rattle.fluid_lane.specs.Steps.{ledger}
 use Rattle.fluid_lane.specs.Standing.{LaneStands}
 use Rattle.fluid_lane.proofs.Stands.{goes_to, goes_same, failed, quietly, stored_beside, stored_list, beside_of}
@@ -17,7 +17,7 @@ returns-in-Ok-clause-terms g c =
 pub returns-in-Ok-clause-goes : goal.returns-in-Ok-clause-goes
 returns-in-Ok-clause-goes g c = λ l is all h.
     let e = c.in-Ok.ensures in
-    stored_list _ _ c.in-Ok.number c.args.text.now l (stored_beside _ _ _ c.in-Ok.number _ e.does.1 e.cause.later refl refl refl refl refl refl) (is ∙ ap (λ s. checkpoint_text s.entries) (sym c.self.view_is)) e.does.1 refl refl refl
+    stored_list _ _ c.in-Ok.number c.args.text.now l (stored_beside _ _ _ c.in-Ok.number _ e.does.1 e.cause.later refl refl refl refl refl refl) (subst (λ s. IsPrinted s.entries c.args.text.now) (sym c.self.view_is) is) e.does.1 refl refl refl
     (subst (λ s. Tells s.keeping.content (AreAll (order (ledger l)))) (sym c.self.view_is) all) (subst (λ s. LaneStands s l) (sym c.self.view_is) h)
 
 pub returns-in-Err-Failed-clause-terms : goal.returns-in-Err-Failed-clause-terms
