@@ -9,3 +9,4 @@ pub mod Fetched
 pub mod Based
 pub mod Exact
 pub mod Replayed
+pub mod Goes

@@ -84,7 +84,7 @@ front_numbered : (n : ℕ) (xs ys : List Message) → AreNumberedFrom n (xs ++ y
 front_numbered n [] ys h = tt
 front_numbered n (x ∷ xs) ys h = (h.0, front_numbered (suc n) xs ys h.1)
 
-behind_quorum : GoesOn → (client : List ℕ) (c : AContainer) (before ms : List Message) → AreFirst (before ++ ms) → c.quorum ≡ quorum_of before → (behind client c ms).quorum ≡ quorum_of (before ++ ms)
+pub behind_quorum : GoesOn → (client : List ℕ) (c : AContainer) (before ms : List Message) → AreFirst (before ++ ms) → c.quorum ≡ quorum_of before → (behind client c ms).quorum ≡ quorum_of (before ++ ms)
 behind_quorum law client c before [] first is = is ∙ ap quorum_of (sym (append-nil before))
 behind_quorum law client c before (m ∷ ms) first is =
     let joined : before ++ (m ∷ ms) ≡ (before ++ m ∷ []) ++ ms = sym (append_assoc before (m ∷ []) ms) in

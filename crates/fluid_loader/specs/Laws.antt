@@ -1,5 +1,5 @@
 -- What holds of containers: one that begins with an honest summary and takes in the messages behind it is one that has taken in all.
-use Rattle.std.specs.Prelude.{◌≡◌, ℕ, ◌^◌, ◌<◌, length, List, [], ◌∷◌, take, drop, Bool, All, Option, Some, None, Ok, codes, ◌≤◌, IsUtf8}
+use Rattle.std.specs.Prelude.{◌≡◌, ℕ, ◌^◌, ◌<◌, length, List, [], ◌∷◌, take, drop, Bool, All, Option, Some, None, Ok, codes, ◌≤◌, IsUtf8, ◌++◌}
 use Rattle.std.specs.FinMap.{get}
 use Rattle.fluid_table.specs.Table.{Values}
 use Rattle.fluid_types.specs.Names.{IsName}
@@ -85,6 +85,12 @@ pub record HasReplayed (document : Document) (c : AContainer) : Type 0 where
   pub pending : c.pending ≡ []
   pub based : IsBased document.held c
 
+-- the container is behind the first messages of the order up to its number, whatever it has pending
+pub record Follows (order : List Message) (c : AContainer) : Type 0 where
+  pub within : c.number ≤ length order
+  pub channels : c.channels ≡ replayed order c.number
+  pub quorum : c.quorum ≡ quorum order c.number
+
 -- ---- laws
 
 -- the channels of a container behind messages are the replay of these from its channels
@@ -130,3 +136,11 @@ IsHonestVersion =
     (held : Held) (order : List Message) (summary : SummaryRef) (app state : List ℕ) → length app ≡ 20 → length state ≡ 20 → Stands held app (app_tree (replayed order summary.number))
     → Stands held state (protocol (blobs order summary.number))
     → get held summary.handle ≡ Some (tree_bytes (tree_entry (codes ".app") app ∷ tree_entry (codes ".protocol") state ∷ [])) → IsHonest held order summary
+
+-- a container follows an order from nothing on, still does where the order has become longer, and is behind all of it once it has taken
+-- in the messages behind its number
+pub record GoOnFollowing : Type 0 where
+  pub begins : (order : List Message) → Follows order empty
+  pub longer : (order more : List Message) (c : AContainer) → Follows order c → Follows (order ++ more) c
+  pub pumps : (client : List ℕ) (order : List Message) (c : AContainer) → IsOrder order → Follows order c
+      → Follows order (behind client c (drop c.number order)) × ((behind client c (drop c.number order)).number ≡ length order)

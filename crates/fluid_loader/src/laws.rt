@@ -1,5 +1,5 @@
 //! What holds of the definitions, said by functions that do nothing.
-ghost use Rattle.fluid_loader.specs.Laws.{IsHonestRead, IsHonestVersion, IsReplayBehind, IsWholeReplay, IsWholeUpload, StayBased};
+ghost use Rattle.fluid_loader.specs.Laws.{GoOnFollowing, IsHonestRead, IsHonestVersion, IsReplayBehind, IsWholeReplay, IsWholeUpload, StayBased};
 
 use fluid_counter::laws::content_is_read_back as counters_are_read_back;
 use fluid_handles::laws::a_tree_without_handles_is_itself;
@@ -28,6 +28,13 @@ pub fn honest_summaries_are_replayed()
     blobs_of_messages_are_read_back();
     unchanged_channels_stay();
     unmarked_apps_give_no_handle();
+}
+
+/// A container that follows an order goes on so, and is behind all of it once it has taken in the messages behind its number.
+pub fn containers_go_on_following()
+    ensures { GoOnFollowing }
+{
+    quorum_goes_on();
 }
 
 /// An honest summary of a number of the order is read, where no object that is held is too long to be read, and the contents
