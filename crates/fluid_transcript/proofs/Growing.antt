@@ -1,8 +1,5 @@
 -- One line more at the end.
 use Rattle.std.proofs.Common.{◌≡◌, ℕ, List, [], ◌∷◌, ◌++◌, refl, sym, ap, ◌∙◌, append_assoc, append-nil}
-use Rattle.std.specs.List.{flat_map}
-use Rattle.fluid_rules.specs.declared.limits.Limits.{Limits}
-use Rattle.fluid_transcript.specs.World.{World}
 use Rattle.fluid_transcript.specs.Transcript.{taken, behind, lines_of, written}
 use Rattle.fluid_transcript.specs.Laws.{WorldGrows, LinesGrow, TranscriptGrows}
 

@@ -1,5 +1,5 @@
 -- The submissions of a text are one row.
-use Rattle.std.proofs.Common.{◌≡◌, ℕ, zero, suc, ◌+◌, ◌-◌, ◌≤◌, ◌<◌, Bool, true, false, cond, leb, List, [], ◌∷◌, ◌++◌, map, take, drop, refl, sym, ap, ap₂, ◌∙◌, append_assoc, append-nil, arith}
+use Rattle.std.proofs.Common.{◌≡◌, ℕ, zero, suc, ◌+◌, ◌-◌, Bool, true, false, List, [], ◌∷◌, ◌++◌, map, take, drop, refl, sym, ap, ap₂, ◌∙◌, append_assoc, append-nil, arith}
 use Rattle.std.specs.Prelude.{nat_le}
 use Rattle.std.specs.List.{flat_map}
 use Rattle.std.proofs.lemmas.Bool.Decides.{nat_tests}
@@ -79,15 +79,15 @@ module _ (limits : Limits) (c : List ℕ) (d : Document) (name id : List ℕ) (n
       all_full (s ∷ rest) before lines is
       ∙ ap (λ raws. writing name id next store raws (lines ++ submission_lines c name (ledger_with d before) (raws_of moment id (s ∷ rest)) 0)) (sym (append-nil before))
       ∙ ap (λ most. writing name id next store (before ++ take most (raws_of moment id (s ∷ rest))) (lines ++ submission_lines c name (ledger_with d before) (raws_of moment id (s ∷ rest)) most))
-        (sym (no_room limits.entries (counted (ledger_with d before)) is))
+      (sym (no_room limits.entries (counted (ledger_with d before)) is))
   rowed_by s rest before lines false is others =
       ap (λ h. hear limits c d h (entries moment id rest)) (one_entered s before lines is)
       ∙ others
       ∙ first_then (Submit id s moment) (verdict (ledger_with d before) (Submit id s moment)) (raws_of moment id rest) before lines
-        (room limits.entries (ledger_with d (before ++ Submit id s moment ∷ []))) (ledger_with d before) (ledger_with d (before ++ Submit id s moment ∷ [])) refl
-        (ledger_more before (Submit id s moment))
+      (room limits.entries (ledger_with d (before ++ Submit id s moment ∷ []))) (ledger_with d before) (ledger_with d (before ++ Submit id s moment ∷ [])) refl
+      (ledger_more before (Submit id s moment))
       ∙ ap (λ most. writing name id next store (before ++ take most (raws_of moment id (s ∷ rest))) (lines ++ submission_lines c name (ledger_with d before) (raws_of moment id (s ∷ rest)) most))
-        (sym (less_room limits.entries (counted (ledger_with d before)) (counted (ledger_with d (before ++ Submit id s moment ∷ []))) is (counted_more s before)))
+      (sym (less_room limits.entries (counted (ledger_with d before)) (counted (ledger_with d (before ++ Submit id s moment ∷ []))) is (counted_more s before)))
 
   rowed : (submissions : List Submission) (before : List Raw) (lines : List (List ℕ))
       → hear limits c d (writing name id next store before lines) (entries moment id submissions) ≡ behind_all limits c d name id next store before lines (raws_of moment id submissions)

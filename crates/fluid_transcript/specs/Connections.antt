@@ -11,11 +11,11 @@ use Rattle.fluid_rules.specs.Rules.{ledger}
 use Rattle.fluid_rules.specs.declared.limits.Limits.{Limits}
 use Rattle.fluid_store.specs.Held.{Held}
 use Rattle.fluid_voice.specs.declared.states.VoiceState.{VoiceState}
-use Rattle.fluid_voice.specs.declared.states.VoiceState.TheVariants.{Fresh, Reading, Writing, Used}
+use Rattle.fluid_voice.specs.declared.states.VoiceState.TheVariants.{Fresh, Used}
 use Rattle.fluid_voice.specs.declared.actions.Act.{Act}
 use Rattle.fluid_voice.specs.declared.actions.Act.TheVariants as act
 use Rattle.fluid_voice.specs.declared.ends.ActEnd.{ActEnd}
-use Rattle.fluid_voice.specs.declared.ends.ActEnd.TheVariants.{Said, Given}
+use Rattle.fluid_voice.specs.declared.ends.ActEnd.TheVariants.{Said}
 use Rattle.fluid_voice.specs.declared.refusals.Refusal.TheVariants.{TooManyDocuments}
 use Rattle.fluid_voice.specs.States as states
 use Rattle.fluid_voice.specs.Heard.{acts_of}

@@ -1,5 +1,5 @@
 -- The steps of a container: `load`, `pump`, `edit`, `beat`, `summarize` and `show`.
-use Rattle.std.specs.Prelude.{ℕ, ◌+◌, ◌-◌, Bool, true, false, ◌&&◌, List, [], ◌∷◌, ◌++◌, map, take, drop, length, count_by, Option, Some, None, option_map, bytes_eq, Result, Ok, Err, if◌then◌else◌}
+use Rattle.std.specs.Prelude.{ℕ, ◌+◌, ◌-◌, Bool, true, false, ◌&&◌, List, [], ◌∷◌, ◌++◌, take, drop, length, count_by, Option, Some, None, option_map, bytes_eq, Result, Ok, Err, if◌then◌else◌}
 use Rattle.sha1.specs.Sha1.{sha1}
 use Rattle.fluid_json.specs.Tree.{Tree, null}
 use Rattle.fluid_types.specs.declared.entries.Raw.{Raw}
@@ -8,7 +8,6 @@ use Rattle.fluid_types.specs.declared.entries.Scopes.{Scopes}
 use Rattle.fluid_types.specs.declared.entries.Submission.{Submission}
 use Rattle.fluid_types.specs.declared.entries.Offered.{Offered}
 use Rattle.fluid_types.specs.declared.entries.Offered.TheVariants.{Op, Noop, Summarize}
-use Rattle.fluid_types.specs.declared.messages.Message.{Message}
 use Rattle.fluid_types.specs.declared.nacks.NackRule.{NackRule}
 use Rattle.fluid_types.specs.declared.nacks.NackRule.TheVariants.{Full}
 use Rattle.fluid_types.specs.declared.verdicts.Verdict.{Verdict}
@@ -102,9 +101,9 @@ line_for p line (Some rule) = refused_line p rule
 abbrev pub submitted : World → (p : List ℕ) → (before after : Container) → (line : List ℕ) → Submitted → Effect
 submitted w p before after line s =
     record (says w (line_for p line s.refused ∷ [])) { entries = s.entries; name = Some (p, container (standing before after s.refused)) } where
-  standing : Container → Container → Option NackRule → Container
-  standing before after None = after
-  standing before after (Some rule) = before
+      standing : Container → Container → Option NackRule → Container
+      standing before after None = after
+      standing before after (Some rule) = before
 
 -- ---- load
 

@@ -1,20 +1,17 @@
 -- Worked examples: what steps write.
-use Rattle.std.specs.Prelude.{◌≡◌, [], ◌∷◌, ◌++◌, List, ℕ, Some, None, codes, take}
+use Rattle.std.specs.Prelude.{◌≡◌, [], ◌∷◌, ◌++◌, List, ℕ, codes, take}
 use Rattle.std.specs.FinMap.{empty}
-use Rattle.fluid_json.specs.Tree.{Tree, null, text}
+use Rattle.fluid_json.specs.Tree.{null}
 use Rattle.fluid_types.specs.declared.entries.Raw.{Raw}
-use Rattle.fluid_types.specs.declared.entries.Raw.TheVariants.{Join, Leave, Submit, Report}
-use Rattle.fluid_types.specs.declared.entries.Offered.TheVariants.{Op, Noop}
+use Rattle.fluid_types.specs.declared.entries.Raw.TheVariants.{Join, Leave, Submit}
+use Rattle.fluid_types.specs.declared.entries.Offered.TheVariants.{Op}
 use Rattle.fluid_rules.specs.declared.limits.Limits.{Limits}
-use Rattle.fluid_edits.specs.declared.edit.Edit.TheVariants.{Attach, Clear, Set}
+use Rattle.fluid_edits.specs.declared.edit.Edit.TheVariants.{Attach, Clear}
 use Rattle.fluid_edits.specs.declared.edit.ChannelKind.TheVariants.{Map}
 use Rattle.fluid_edits.specs.Forms.{contents_of}
 use Rattle.fluid_edits.specs.Replay.{no_channels}
 use Rattle.fluid_loader.specs.Submitting.{numbered}
-use Rattle.fluid_voice.specs.declared.states.VoiceState.TheVariants.{Fresh, Reading, Writing}
-use Rattle.fluid_transcript.specs.World.{World, Document, Container, new_document, connection, Effect, ledger_of}
-use Rattle.fluid_transcript.specs.Lines.{numbers}
-use Rattle.fluid_transcript.specs.Connections.{Hearing, hear, collected, closed}
+use Rattle.fluid_transcript.specs.World.{World, Document, Container, new_document}
 use Rattle.fluid_transcript.specs.Documents.{scribed, checkpointed, restarted, reopened, swept, counted_up}
 use Rattle.fluid_transcript.specs.Containers.{load, pumped, beaten, all_scopes}
 use Rattle.fluid_steps.specs.declared.steps.Pick.TheVariants as pick

@@ -1,10 +1,10 @@
 -- Worked examples: the forms of lines, connections, edits, and which lines are refused.
-use Rattle.std.specs.Prelude.{◌≡◌, [], ◌∷◌, ◌++◌, List, ℕ, pos, true, false, Some, None, codes, take}
+use Rattle.std.specs.Prelude.{◌≡◌, [], ◌∷◌, List, ℕ, pos, true, false, Some, None, codes}
 use Rattle.std.specs.FinMap.{empty, insert}
 use Rattle.fluid_json.specs.Tree.{null, text, object, members, whole}
-use Rattle.fluid_types.specs.declared.entries.Raw.TheVariants.{Join, Leave, Submit}
+use Rattle.fluid_types.specs.declared.entries.Raw.TheVariants.{Join, Submit}
 use Rattle.fluid_types.specs.declared.entries.Offered.TheVariants.{Op}
-use Rattle.fluid_types.specs.declared.nacks.NackRule.TheVariants.{Full, Nonexistent, Scope}
+use Rattle.fluid_types.specs.declared.nacks.NackRule.TheVariants.{Scope}
 use Rattle.fluid_rules.specs.declared.answers.Answer.TheVariants.{Ack, Refused}
 use Rattle.fluid_rules.specs.declared.answers.SummaryRule.TheVariants.{StaleHead}
 use Rattle.fluid_edits.specs.declared.edit.Edit.TheVariants.{Attach, Clear, Increment}
@@ -16,8 +16,8 @@ use Rattle.fluid_steps.specs.declared.steps.Step.TheVariants.{Count, Load, Sweep
 use Rattle.fluid_steps.specs.declared.steps.Pick.TheVariants as pick
 use Rattle.fluid_voice.specs.declared.actions.Act.TheVariants as act
 use Rattle.fluid_voice.specs.declared.states.VoiceState.TheVariants.{Fresh, Reading, Writing}
-use Rattle.fluid_transcript.specs.World.{World, Document, Container, new_document, connection, used_up, ledger_of}
-use Rattle.fluid_transcript.specs.Lines.{clash_line, closed_line, answer_line, scribe_clash_line, stored_line, large_line, bad_summary_line, summarized_line, shown_line, refused_line}
+use Rattle.fluid_transcript.specs.World.{Document, Container, new_document, connection, used_up, ledger_of}
+use Rattle.fluid_transcript.specs.Lines.{clash_line, answer_line, scribe_clash_line, stored_line, large_line, bad_summary_line, summarized_line, shown_line, refused_line}
 use Rattle.fluid_transcript.specs.Connections.{Hearing, hear, brought, closed}
 use Rattle.fluid_transcript.specs.Containers.{all_scopes, edited}
 use Rattle.fluid_transcript.specs.Steps.{beyond}

@@ -1,5 +1,5 @@
 -- The lines of a script's steps, without their ends.
-use Rattle.std.specs.Prelude.{ℕ, List, [], ◌∷◌, ◌++◌, length, codes, decimal}
+use Rattle.std.specs.Prelude.{ℕ, List, ◌++◌, length, codes, decimal}
 use Rattle.hex.specs.Hex.{encode_lower}
 use Rattle.fluid_json.specs.Tree.{Tree}
 use Rattle.fluid_json.specs.Printed.{printed}

@@ -1,5 +1,5 @@
 -- What lines write, one after another.
-use Rattle.std.specs.Prelude.{◌≡◌, ℕ, ◌+◌, ◌==◌, ◌&&◌, not, nat_le, Bool, List, [], ◌∷◌, ◌++◌, length, Option, Some, None, is_some, Result, Ok, Err, if◌then◌else◌, refl}
+use Rattle.std.specs.Prelude.{ℕ, ◌+◌, ◌==◌, ◌&&◌, not, nat_le, Bool, List, [], ◌∷◌, ◌++◌, length, Option, Some, None, is_some, Result, Ok, Err, if◌then◌else◌, refl}
 use Rattle.std.specs.List.{flat_map}
 use Rattle.std.specs.FinMap.{insert}
 use Rattle.fluid_types.specs.Ledger.{order}
@@ -16,7 +16,7 @@ use Rattle.fluid_steps.specs.declared.refusal.LineWhy.{LineWhy}
 use Rattle.fluid_voice.specs.declared.refusals.Refusal.TheVariants.{TooManyDocuments}
 use Rattle.fluid_transcript.specs.World.{Document, World, document, with_entries, farewells, is_open, ledger_of, Effect, says, Told, does}
 use Rattle.fluid_transcript.specs.Lines.{turned_away_line, no_summary_line, bad_summary_line, shown_line}
-use Rattle.fluid_transcript.specs.Containers.{Loading, turned_away, no_summary, bad_summary, loaded, visible, loading, joined_for, join_for}
+use Rattle.fluid_transcript.specs.Containers.{Loading, turned_away, no_summary, bad_summary, loaded, visible, loading, joined_for}
 use Rattle.fluid_transcript.specs.Steps.{refusal, about, effect, beyond}
 
 -- ---- first uses
