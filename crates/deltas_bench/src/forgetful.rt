@@ -10,13 +10,19 @@ use std::alloc::Global;
 /// content, and answers every other call with want of memory.
 #[derive(Drop)]
 pub(crate) struct Forgetful {
+    records: u64,
     deltas: u64,
+    checkpoints: u64,
 }
 
 impl Forgetful {
-    /// No delta was put.
+    /// Nothing was put. Records and checkpoints never are; they are counted so that each call of a keeper has its meaning.
     pub(crate) fn new() -> Forgetful {
-        Forgetful { deltas: 0 }
+        Forgetful {
+            records: 0,
+            deltas: 0,
+            checkpoints: 0,
+        }
     }
 }
 
@@ -25,9 +31,9 @@ impl Keeper for Forgetful {
 
     ghost seen = { λ keeper. record {
       content = None;
-      records = 0;
+      records = keeper.records;
       deltas = keeper.deltas;
-      checkpoints = 0;
+      checkpoints = keeper.checkpoints;
       faults = 0;
       reads = 0;
     } };
@@ -39,7 +45,7 @@ impl Keeper for Forgetful {
     }
 
     fn len(&self) -> u64 {
-        0
+        self.records
     }
 
     fn deltas(&self) -> u64 {
@@ -47,7 +53,7 @@ impl Keeper for Forgetful {
     }
 
     fn checkpoints(&self) -> u64 {
-        0
+        self.checkpoints
     }
 
     fn append(&mut self, _alloc: Global, _bytes: &[u8]) -> Result<(), KeeperFault> {
@@ -58,7 +64,8 @@ impl Keeper for Forgetful {
         Err(KeeperFault::NoMemory)
     }
 
-    fn cut(&mut self, _count: u64) -> Result<(), Failed> {
+    fn cut(&mut self, count: u64) -> Result<(), Failed> {
+        self.records = count;
         Ok(())
     }
 

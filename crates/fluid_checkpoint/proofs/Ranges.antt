@@ -73,9 +73,10 @@ state_small version t s is =
       scribe = record { base = second.0; behind = third.0; minima = changes.0; pending = waiting.0; acks = first.0 };
       heard = moments.0;
     } in
-    let same : made ≡ s = same_ok made s last.1.1 in
-    (subst (λ (c : Checkpoint). c.entered ≤ largest) same (at_small (codes "entered") t enters.0 enters.1.0),
-      subst (λ (c : Checkpoint). c.counted ≤ largest) same (at_small (codes "counted") t counts.0 counts.1.0))
+    let same : made ≡ s = same_ok made s last.1.1 in (
+      subst (λ (c : Checkpoint). c.entered ≤ largest) same (at_small (codes "entered") t enters.0 enters.1.0),
+      subst (λ (c : Checkpoint). c.counted ≤ largest) same (at_small (codes "counted") t counts.0 counts.1.0),
+    )
 
 of_version : (version : Version) (t : Tree) (s r : Checkpoint) → state_in version t ≡ Ok s → form_of version s ≡ form.Two r → (r.entered ≤ largest) × (r.counted ≤ largest)
 of_version One t s r is same = absurd (subst (λ (f : Form). IsOne f) same tt)

@@ -100,9 +100,11 @@ id_gives s = by (list_all is_lower_digit s)
     sized : (b : Bool) → (length s / 2 == 20) ≡ b → Gives IsHandle (result_ok (if b then decode_pairs 0 s else Err InvalidStringLength))
     sized true half = of_decoded (length s) (decode_pairs 0 s) (eqb-true (length s / 2) 20 half) (decoded 0 s)
     sized false half = tt
+
     even : (b : Bool) → Gives IsHandle (result_ok (if b then Err OddLength else (if length s / 2 == 20 then decode_pairs 0 s else Err InvalidStringLength)))
     even true = tt
     even false = sized (length s / 2 == 20) refl
+
     by : (b : Bool) → Gives IsHandle (if b then result_ok (decode_sized s 20) else None)
     by true = even (length s % 2 == 1)
     by false = tt
@@ -160,6 +162,7 @@ ack_given before m all = by (is_ack m.kind)
         let it = handle_given m.contents handle h in
         let is = found_among IsMessage (λ s. s.number == number) (unanswered before) summarize found (waits_all IsMessage before all) in
         record { size = it.0; bytes = it.1; number = small_count summarize.reference is.reference.most })))
+
     by : (b : Bool) → Gives IsAck (if b then acknowledged before m else None)
     by true = made
     by false = tt

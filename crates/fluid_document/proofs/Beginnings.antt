@@ -148,7 +148,6 @@ begins_with back l content number s m said resumed kept =
     (λ (one : answer said.text ≡ Ok (One (length says.before))). absurd (never_one s (length says.before) (answer said.text) said.said one))
     says.says
 
-
 seq-none : (l : Ledger) → seq (take 0 l) ≡ 0
 unfolding seq order
 seq-none l = refl

@@ -97,6 +97,14 @@ in_form back l legal loggable few texts =
       changes = scribed.changes;
       pending = scribed.pending;
       acks = scribed.acks;
-      shallow = omega (arith, acks_shallow (state_of l).scribe.acks, scribed.shallow, messages_shallow (state_of l).scribe.behind scribed.behind.each, clients_shallow (entries rows), moments_shallow (moments_of rows),
-          changes_shallow (state_of l).scribe.minima, messages_shallow (state_of l).scribe.pending scribed.pending.each);
+      shallow = omega (
+        arith,
+        acks_shallow (state_of l).scribe.acks,
+        scribed.shallow,
+        messages_shallow (state_of l).scribe.behind scribed.behind.each,
+        clients_shallow (entries rows),
+        moments_shallow (moments_of rows),
+        changes_shallow (state_of l).scribe.minima,
+        messages_shallow (state_of l).scribe.pending scribed.pending.each,
+      );
     }

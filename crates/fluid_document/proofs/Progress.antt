@@ -160,7 +160,7 @@ pub has_folded_more : (old mid new : Keeping) (first now next : InMemory) (place
     → HasRead 1 mid.reads new.reads → PutsDeltas mid new → next.messages.before ≤ new.deltas → IsTaken place mid new now next → HasFolded old new first next (place + 1)
 has_folded_more old mid new first now next place has few lt sized later reads puts reached taken =
     let is = log_before old mid (λ log. (text : List ℕ) × ((slice_get log place ≡ Some text) × (record_in text ≡ Some taken.raw))) has.puts
-        (tells_from mid.content _ _ (λ c one. (one.text, (one.kept, one.decodes))) taken.is) in
+    (tells_from mid.content _ _ (λ c one. (one.text, (one.kept, one.decodes))) taken.is) in
     record {
       later = omega (arith, has.later, later);
       puts = puts_both old mid new has.puts puts;
@@ -186,7 +186,7 @@ has_folded_bad old mid first now place (DeltaFailed note) has few is = tells_eac
 has_folded_bad old mid first now place NoMemory has few is = tells_each old.content _ (λ c. tt)
 has_folded_bad old mid first now place (BadRecord bad) has few is =
     let one = log_before old mid (λ log. (bad ≡ place) × ((text : List ℕ) × ((slice_get log place ≡ Some text) × (record_in text ≡ None)))) has.puts
-        (tells_from mid.content _ _ (λ c found. (found.0, (found.1.text, (found.1.kept, found.1.decodes)))) is) in
+    (tells_from mid.content _ _ (λ c found. (found.0, (found.1.text, (found.1.kept, found.1.decodes)))) is) in
     tells_both old.content _ _ (λ c. log_folded first.entries (drop first.entries.entered c.log) ≡ Err (BadRecord bad))
     (λ c so_far found. bad_step first.entries now.entries place c has.entered few so_far (record { text = found.1.0; kept = found.1.1.0; decodes = found.1.1.1 }) ∙ ap (λ n. Err (BadRecord n)) (sym found.0))
     has.folds one

@@ -116,6 +116,7 @@ all_changes minimum (m ∷ ms) all = by (m.minimum == minimum) (all_changes m.mi
   where
     its : IsMessage m
     its = All-head IsMessage m ms all
+
     by : (b : Bool) → All IsChange (changes m.minimum ms) → All IsChange ((if b then [] else (m.number, m.minimum) ∷ []) ++ changes m.minimum ms)
     by true rest = rest
     by false rest = All-cons IsChange (m.number, m.minimum) (changes m.minimum ms) (record { number = its.number; minimum = its.minimum }) rest

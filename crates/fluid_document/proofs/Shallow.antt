@@ -61,10 +61,17 @@ name_shallow (Some id) = omega arith
 message_shallow : (m : Message) → IsMessage m → depth (message_tree m) ≤ 100
 unfolding message_rows
 message_shallow m is =
-    let h = members_shallow (message_rows m)
-    (name_shallow m.client, (omega arith, (is.contents.shallow,
-      append_shallow (row_if_any _ (option_map text m.system)) _ (text_shallow _ m.system)
-      (append_shallow (row_if_any _ m.metadata) _ (any_shallow _ m.metadata is.metadata) (omega arith, (omega arith, (omega arith, (omega arith, (omega arith, tt))))))))) in
+    let h = members_shallow (message_rows m) (
+      name_shallow m.client,
+      (
+        omega arith,
+        (
+          is.contents.shallow,
+          append_shallow (row_if_any _ (option_map text m.system)) _ (text_shallow _ m.system)
+              (append_shallow (row_if_any _ m.metadata) _ (any_shallow _ m.metadata is.metadata) (omega arith, (omega arith, (omega arith, (omega arith, (omega arith, tt)))))),
+        ),
+      ),
+    ) in
     omega (arith, h)
 
 pub messages_shallow : (ms : List Message) → All IsMessage ms → trees_depth (trees (map message_tree ms)) ≤ 100

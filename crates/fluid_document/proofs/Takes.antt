@@ -78,7 +78,7 @@ takes_entry l place mid new now next lt sized puts taken stands = by mid.content
         let legal = place-legal l place at stand.kept.legal in
         let stands_in = taken.stands (order l) entry.next (tells_along (Some c) mid.content (StandIn now.messages (order l)) (sym some) stand.stand) in
         let kept = told_more false l mid new puts (tells_along (Some c) mid.content (IsKept false l) (sym some) stand.kept)
-            (tells_from new.content (StandIn next.messages (order l)) (λ d. AreDeltasOf (order l) d.deltas) (λ d s. s.deltas) stands_in) in
+        (tells_from new.content (StandIn next.messages (order l)) (λ d. AreDeltasOf (order l) d.deltas) (λ d s. s.deltas) stands_in) in
         let same : (at.entry.0, verdict (take place l) at.entry.0) ≡ at.entry = ap (λ v. (at.entry.0, v)) (sym legal.1) in
         let entries : next.entries ≡ entries_of (take (place + 1) l) =
         taken.entries

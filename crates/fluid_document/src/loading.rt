@@ -15,9 +15,9 @@ ghost use Rattle.fluid_document.specs.Kept.{IsKept};
 ghost use Rattle.fluid_document.specs.Taking.{TakesNext, StandOn, StandsAt, ReadsKept, IsOutside, IsResumed, IsInRange, unread};
 ghost use Rattle.fluid_deltas.specs.Pushed.{pushed};
 
-use crate::fault::{EnterFault, LoadFault};
 use crate::document::Document;
 use crate::entry::make_room;
+use crate::fault::{EnterFault, LoadFault};
 use fluid_checkpoint::{CheckpointFault, Form, State};
 use fluid_codec::{print_raw, read_raw};
 use fluid_io::FaultNote;
@@ -203,11 +203,7 @@ fn fold_behind<K: Keeper>(
 // ---- checkpoints
 
 // What the checkpoint of this number says.
-fn read_checkpoint<K: Keeper>(
-    alloc: Global,
-    keeper: &mut K,
-    number: u64,
-) -> Result<Form, LoadFault>
+fn read_checkpoint<K: Keeper>(alloc: Global, keeper: &mut K, number: u64) -> Result<Form, LoadFault>
     requires { number < (K.seen keeper.old).checkpoints }
     ensures later { (K.seen keeper.old).faults ≤ (K.seen keeper.new).faults }
     ensures cause { IfErr result (IsLoadFault (K.seen keeper.old).records (K.seen keeper.old).faults (K.seen keeper.new).faults) }
@@ -254,12 +250,7 @@ fn begin_at<K: Keeper>(alloc: Global, keeper: &mut K, number: u64) -> Result<Doc
 }
 
 // Where a reading from this state begins, over so many deltas.
-fn begin_with(
-    alloc: Global,
-    state: State,
-    deltas: u64,
-    number: u64,
-) -> Result<Document, LoadFault>
+fn begin_with(alloc: Global, state: State, deltas: u64, number: u64) -> Result<Document, LoadFault>
     requires { IsInRange (Form.Two state) }
     ensures refused { IfErr result (λ fault. (fault ≡ LoadFault.NoMemory) ⊎ (fault ≡ LoadFault.BadCheckpoint number (CheckpointFault.BadField (codes "sequence")))) }
     ensures begun { IsLoaded (λ d. d.entries) result (begun_from number deltas state) }
@@ -313,11 +304,7 @@ pub fn load<K: Keeper>(
     Ok(document)
 }
 
-fn begin<K: Keeper>(
-    alloc: Global,
-    keeper: &mut K,
-    from: Option<u64>,
-) -> Result<Document, LoadFault>
+fn begin<K: Keeper>(alloc: Global, keeper: &mut K, from: Option<u64>) -> Result<Document, LoadFault>
     requires { IfSome from (λ number. number < (K.seen keeper.old).checkpoints) }
     ensures later { (K.seen keeper.old).faults ≤ (K.seen keeper.new).faults }
     ensures cause { IfErr result (IsLoadFault (K.seen keeper.old).records (K.seen keeper.old).faults (K.seen keeper.new).faults) }

@@ -199,7 +199,7 @@ starts moment old mid new limits m now opened opens has none found reads =
     let all : run m.entries.state (leaves moment m.entries.state) ≡ has.done = has.splits ∙ ap (λ more. has.done ++ more) (nobody_leaves moment now none) ∙ append-nil has.done in
     let stands : (l : Ledger) → Tells old.content (IsKept false l) → Tells old.content (λ _. LaneStands (begun new now limits opened) (steps (opening moment l))) =
     λ l kept. told_too new.content old.content (LaneStands (begun new now limits opened) (steps (opening moment l))) (sym told)
-        (begun_stands (begun new now limits opened) (opening moment l) refl refl refl points (opened_told moment old mid new m now l opens has none kept)) in
+    (begun_stands (begun new now limits opened) (opening moment l) refl refl refl points (opened_told moment old mid new m now l opens has none kept)) in
     record {
       stands = stands;
       some = some_list moment old.content (begun new now limits opened) told refl refl stands;
@@ -265,8 +265,10 @@ left_stopped limits moment old mid new m now l fault opens stopped kept = by fau
   where
     here : InMemory
     here = stopped.here
+
     has : HasLeft moment mid stopped.mid m here
     has = stopped.has
+
     before : Tells stopped.mid.content (IsFor false here.entries here.messages (l ++ has.done))
     before = has.stands l (for_opened old mid m l opens kept)
 
@@ -283,6 +285,7 @@ left_stopped limits moment old mid new m now l fault opens stopped kept = by fau
       where
         raw : Raw
         raw = Leave next.id moment
+
         torn : KeepsSame (roomed here.messages stopped.mid) new ⊎ KeepsSame (with_record (raw_printed raw) (roomed here.messages stopped.mid)) new → Tells new.content (LeftSome moment l)
         torn (inl same) = put (for_room here.messages stopped.mid.deltas) same next.enters.does.0 next.enters.stands
         torn (inr same) =
@@ -317,13 +320,16 @@ stopped_grew moment old mid new m now fault opens stopped = by fault stopped.nex
   where
     front : List (List ℕ)
     front = records stopped.has.done
+
     so_far : Grew front mid stopped.mid
     so_far = stopped.has.grew
+
     by : (f : EnterFault) → LeavesFirst moment stopped.mid new stopped.here now (Err f) → (more : List (List ℕ)) × Grew more old new
     by (entering.LogFailed note) next = torn next.enters.does.1.left
       where
         bytes : List ℕ
         bytes = raw_printed (Leave next.id moment)
+
         torn : KeepsSame (roomed stopped.here.messages stopped.mid) new ⊎ KeepsSame (with_record bytes (roomed stopped.here.messages stopped.mid)) new → (more : List (List ℕ)) × Grew more old new
         torn (inl same) = (front, grew_behind front old mid new opens.puts (grew_put front (for_room stopped.here.messages stopped.mid.deltas) mid stopped.mid new so_far same))
         torn (inr same) = (front ++ bytes ∷ [], grew_behind (front ++ bytes ∷ []) old mid new opens.puts (grew_roomed front (for_room stopped.here.messages stopped.mid.deltas) bytes mid stopped.mid new so_far same))

@@ -141,10 +141,12 @@ enters_on {A = A} raw old mid new (Err fault) same entries messages reads later 
   where
     some : PutsSome (for_room mid.messages mid.keeping.deltas) mid.keeping new.keeping → PutsSome (for_room old.messages (settled old).deltas) (settled old) new.keeping
     some puts = puts_on old.messages (settled old) mid.keeping new.keeping same (subst (λ d. PutsSome (for_room d mid.keeping.deltas) mid.keeping new.keeping) messages puts)
+
     torn : KeepsSame (roomed mid.messages mid.keeping) new.keeping ⊎ KeepsSame (with_record (raw_printed raw) (roomed mid.messages mid.keeping)) new.keeping
         → KeepsSame (roomed old.messages (settled old)) new.keeping ⊎ KeepsSame (with_record (raw_printed raw) (roomed old.messages (settled old))) new.keeping
     torn (inl left) = inl (rooms_on old.messages (settled old) mid.keeping new.keeping same (subst (λ d. KeepsSame (roomed d mid.keeping) new.keeping) messages left))
     torn (inr left) = inr (record_on old.messages (raw_printed raw) (settled old) mid.keeping new.keeping same (subst (λ d. KeepsSame (with_record (raw_printed raw) (roomed d mid.keeping)) new.keeping) messages left))
+
     by : (f : LaneFault) → IsOutside f → AddKept {A = A} raw mid mid.keeping new.keeping (Err f) → EnterKept {A = A} raw old new (Err f)
     by (LogFailed note) out is = inr (torn is)
     by (Full n) out is = absurd out
@@ -288,6 +290,7 @@ stores_on old mid new text (Err fault) is short flush kept next there fails caus
   where
     whole : KeepsSame (flushed old) new.keeping
     whole = same_twice (flushed old) mid.keeping new.keeping flush kept
+
     by : (f : LaneFault) → IsOutsideLog f → IsCausedBy mid.keeping.faults new.keeping.faults f → Stores old new (Err f)
     by (LogFailed note) out caused =
         record { same = same; settled_by = tt; cause = caused_earlier old.keeping.faults mid.keeping.faults new.keeping.faults (LogFailed note) later caused; reads = reads; kept = inr (level, whole); stored = tt }
@@ -367,6 +370,7 @@ restarts_bad {A = A} number old mid new fault read kept puts entries same level 
   where
     put : PutsDeltas (settled old) new.keeping
     put = deltas_on (settled old) mid.keeping new.keeping kept puts
+
     settles : (f : LaneFault) → SettledBy {A = A} new (Err f)
     settles (LogFailed note) = tt
     settles (Full n) = level
@@ -379,6 +383,7 @@ restarts_bad {A = A} number old mid new fault read kept puts entries same level 
     settles (BadCheckpoint bad why) = level
     settles (TooLarge bytes) = level
     settles Worn = tt
+
     by : (f : LaneFault) → IsReadFault f → RestartKept {A = A} old new (Err f)
     by (LogFailed note) is = inr (level, put)
     by (Full n) is = absurd is

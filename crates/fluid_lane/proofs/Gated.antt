@@ -64,6 +64,7 @@ gated_on {A = A} old new rules may result worn none ok = record {
     passed : (r : Result A LaneFault) → OnOk r ((is_worn old ≡ false) × (first_refusal rules ≡ None))
     passed (Ok a) = (worn, none)
     passed (Err fault) = tt
+
     caused : (r : Result A LaneFault) → IfErr r may → IfErr r (IsCause old new may (first_refusal rules))
     caused (Ok a) may_be = tt
     caused (Err fault) may_be = subst (λ o. IsCause old new may o fault) (sym none) may_be

@@ -235,9 +235,10 @@ left_by moment old mid new before here now turns (LogFailed note) so_far lt late
 left_by moment old mid new before here now turns (DeltaFailed note) so_far lt later reads does = record { mid = mid; here = here; has = so_far.has; next = does }
 left_by moment old mid new before here now turns NoMemory so_far lt later reads (inl waits) = inl (has_left_same moment old mid new before here now so_far.has waits later reads)
 left_by moment old mid new before here now turns NoMemory so_far lt later reads (inr next) = inr (record { mid = mid; here = here; has = so_far.has; next = next })
-left_by moment old mid new before here now turns Worn so_far lt later reads does =
-    (has_left_same moment old mid new before here now so_far.has does.0 later reads,
-      (omega (arith, so_far.turns_are, lt, does.1), omega (arith, does.1, ap (λ m. m.entries.entered) does.0.stays)))
+left_by moment old mid new before here now turns Worn so_far lt later reads does = (
+  has_left_same moment old mid new before here now so_far.has does.0 later reads,
+  (omega (arith, so_far.turns_are, lt, does.1), omega (arith, does.1, ap (λ m. m.entries.entered) does.0.stays)),
+)
 left_by moment old mid new before here now turns (Full entries) so_far lt later reads does = absurd does
 left_by moment old mid new before here now turns (BadRecord place) so_far lt later reads does = absurd does
 left_by moment old mid new before here now turns (NoCheckpoint asked stored) so_far lt later reads does = absurd does

@@ -38,6 +38,7 @@ any_at id (x ∷ ids) zero is = or_left _ _ (tied_back id x ∙ (bytes_eq-Decide
     value : List ℕ → Option (List ℕ) → List ℕ
     value d None = d
     value d (Some y) = y
+
     some_is : (y z : List ℕ) → Some y ≡ Some z → y ≡ z
     some_is y z same = ap (value y) same
 any_at id (x ∷ ids) (suc n) is = or_right _ _ (any_at id ids n is)
