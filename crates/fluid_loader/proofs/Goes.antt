@@ -1,5 +1,5 @@
 -- A container that follows an order, message after message.
-use Rattle.std.proofs.Common.{◌≡◌, ℕ, zero, suc, ◌+◌, ◌-◌, ◌≤◌, List, [], ◌∷◌, ◌++◌, length, take, drop, refl, sym, ap, subst, ◌∙◌, arith, length-append, length-drop}
+use Rattle.std.proofs.Common.{◌≡◌, ℕ, zero, suc, ◌+◌, List, [], ◌∷◌, ◌++◌, length, take, drop, refl, sym, ap, subst, ◌∙◌, arith, length-append, length-drop}
 use Rattle.std.proofs.lemmas.List.{take-append-drop, take-append-le, take_all}
 use Rattle.fluid_types.specs.Order.{AreNumberedFrom, AreFirst}
 use Rattle.fluid_types.specs.Quorum.{quorum_of}
@@ -7,7 +7,7 @@ use Rattle.fluid_types.specs.declared.messages.Message.{Message}
 use Rattle.fluid_quorum.specs.Laws.{GoesOn}
 use Rattle.fluid_edits.specs.Replay.{no_channels, replay}
 use Rattle.fluid_edits.proofs.Replays.{replayed_on_law}
-use Rattle.fluid_loader.specs.Container.{AContainer, empty, taken_by, behind}
+use Rattle.fluid_loader.specs.Container.{AContainer, taken_by, behind}
 use Rattle.fluid_loader.specs.Laws.{IsOrder, Follows, GoOnFollowing}
 use Rattle.fluid_loader.proofs.Replayed.{behind_channels, behind_quorum}
 
