@@ -89,12 +89,12 @@ def run(program, source, written):
     return Run(float(user) + float(system), int(kilobytes) * 1024)
 
 
-def peak(program, clients, operations, contents, behind):
+def peak(program, clients, operations, contents, behind, trees=False):
     """The most memory, in bytes, that a program holds over records that come by a pipe, since they may be many."""
     figures = OUT / "figures"
     OUT.mkdir(exist_ok=True)
     words = [TOP / "bench" / "records", "--clients", str(clients), "--operations", str(operations), "--contents", str(contents),
-             "--behind", str(behind)]
+             "--behind", str(behind), *(["--trees"] if trees else [])]
     with subprocess.Popen(words, stdout=subprocess.PIPE) as source:
         subprocess.run(["/usr/bin/time", "-f", "%M", "-o", figures, *program.words], stdin=source.stdout,
                        stdout=subprocess.DEVNULL, check=True)
