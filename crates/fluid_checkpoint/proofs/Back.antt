@@ -4,7 +4,7 @@ use Rattle.std.specs.Prelude.{slice_index}
 use Rattle.std.specs.List.{list_all}
 use Rattle.std.specs.Result.{result_ok}
 use Rattle.std.specs.Ordering.{nat_cmp, is_lt}
-use Rattle.std.specs.FinMap.{entries, from_entries, is_sorted, entries_sorted}
+use Rattle.std.specs.FinMap.{entries, values, from_entries, is_sorted, entries_sorted}
 use Rattle.std.specs.FinMap.Entries.{below_all}
 use Rattle.std.proofs.lemmas.Bool.{and_parts, cases_lt}
 use Rattle.std.proofs.Common.{inl, inr}
@@ -13,31 +13,36 @@ use Rattle.hex.specs.Hex.{IsBytes, encode_with, encode_lower, lower_digits}
 use Rattle.hex.proofs.HexLemmas.{decode_sized-encode_lower}
 use Rattle.fluid_table.specs.Table.{byte_order}
 use Rattle.fluid_table.proofs.Places.{is_true}
-use Rattle.fluid_json.specs.Tree.{Tree, trees, members, depth, members_depth, IsCanonical}
+use Rattle.fluid_json.specs.Tree.{Tree, list, trees, members, depth, members_depth, IsCanonical}
 use Rattle.fluid_json.specs.Printed.{printed}
 use Rattle.fluid_json.specs.Spelled.{answer_stored}
 use Rattle.fluid_json.proofs.ReadBack.{answers_itself}
 use Rattle.fluid_types.specs.Forms.{largest}
-use Rattle.fluid_types.specs.Blobs.{blobs_of, blob_text, list_tree}
+use Rattle.fluid_types.specs.Blobs.{blobs_of, blob_text, blob_tree, list_tree, member_tree, proposal_tree, value_tree}
+use Rattle.fluid_types.specs.Texts.{name_of}
+use Rattle.fluid_types.specs.declared.fault.Field.{Field}
+use Rattle.fluid_types.specs.declared.quorum.QuorumBlob.{QuorumBlob}
+use Rattle.fluid_types.specs.declared.quorum.QuorumBlob.TheVariants as blob
 use Rattle.fluid_types.specs.Printed.{Row as Pair, message_tree, scopes_tree}
 use Rattle.fluid_types.specs.Quorum.{Quorum}
 use Rattle.fluid_types.specs.declared.messages.Kind.{Kind}
 use Rattle.fluid_types.specs.declared.messages.Message.{Message}
-use Rattle.fluid_types.specs.Forms as forms
 use Rattle.fluid_tree.specs.Ids.{is_lower_digit, id_read}
 use Rattle.fluid_tree.specs.declared.id.SummaryRef.{SummaryRef}
 use Rattle.fluid_clients.specs.declared.table.Row.{Row}
 use Rattle.fluid_clients.specs.Table.{Rows}
 use Rattle.fluid_codec.proofs.ReadBack.{messages_are_read_back}
 use Rattle.fluid_codec.specs.Laws.{IsMessage}
-use Rattle.fluid_quorum.specs.Node.{node_of}
+use Rattle.fluid_quorum.specs.Node.{tree_of, node_of}
+use Rattle.fluid_quorum.specs.Reading as blobs
+use Rattle.fluid_types.specs.Words.{blob_word}
 use Rattle.fluid_checkpoint.specs.declared.state.State.{State}
 use Rattle.fluid_checkpoint.specs.declared.state.Form.{Form}
 use Rattle.fluid_checkpoint.specs.declared.state.Form.TheVariants as form
 use Rattle.fluid_checkpoint.specs.declared.version.Version.TheVariants.{One, Two}
 use Rattle.fluid_checkpoint.specs.Heard.{Moments, unheard, with_moments}
 use Rattle.fluid_checkpoint.specs.Text.{ack_tree, client_tree, moment_tree, change_tree, base_tree, state_members, state_tree, state_printed}
-use Rattle.fluid_checkpoint.specs.Reading.{at, each, ack, client, scopes, moment, change, message, base, messages, clients, moments, minima, ◌>>=◌, state_in, form_in, object_of, answer}
+use Rattle.fluid_checkpoint.specs.Reading.{at, each, fields_of, trimmed, each_trimmed, own, ack, client, scopes, moment, change, message, base, messages, clients, moments, minima, ◌>>=◌, state_in, form_in, object_of, answer}
 use Rattle.fluid_checkpoint.specs.Laws.{IsAck, IsClient, IsMoment, IsChange, IsBase, AreMessages, IsInForm, IsReadBack, FirstIsRead}
 use Rattle.fluid_checkpoint.proofs.Canonical.{first, second}
 
@@ -82,7 +87,6 @@ unfolding ack
 ack_back a h = rw (id_back a.handle h.bytes h.size, count_back a.number h.number) refl
 
 scopes_held : (a b c : Bool) → scopes (scopes_tree (record { read = a; write = b; summary = c })) ≡ Some (record { read = a; write = b; summary = c })
-unfolding forms.texts
 scopes_held true true true = refl
 scopes_held true true false = refl
 scopes_held true false true = refl
@@ -153,9 +157,34 @@ minima_back : (cs : List (ℕ × ℕ)) → All IsChange cs → is_sorted nat_cmp
 unfolding minima
 minima_back cs h sorted = rw (same_back change change_tree IsChange cs change_back h, sorted) refl
 
+-- a blob's own value has no other members
+own_items : {A : Type 0} (fields : List Field) (tree : A → Tree) (xs : List A) → ((a : A) → trimmed fields (tree a) ≡ tree a) → each_trimmed fields (trees (map tree xs)) ≡ trees (map tree xs)
+own_items fields tree [] one = refl
+own_items fields tree (x ∷ xs) one = rw (one x, own_items fields tree xs one) refl
+
+own_value : (q : Quorum) (b : QuorumBlob) → own b (blob_tree q b) ≡ blob_tree q b
+unfolding name_of
+own_value q blob.Attributes = refl
+own_value q blob.Members = ap list (own_items (fields_of blob.Members) member_tree (values q.members) (λ m. refl))
+own_value q blob.Proposals = ap list (own_items (fields_of blob.Proposals) proposal_tree q.pending (λ p. refl))
+own_value q blob.Values = ap list (own_items (fields_of blob.Values) value_tree (entries q.values) (λ v. refl))
+
+-- the quorum that these values say
+abbrev said_by : (attributes members proposals values : Tree) → Option Quorum
+said_by attributes members proposals values =
+    result_ok
+    (blobs.answer
+    (tree_of
+    ((blob_word blob.Attributes, printed attributes)
+    ∷ (blob_word blob.Members, printed members)
+    ∷ (blob_word blob.Proposals, printed proposals)
+    ∷ (blob_word blob.Values, printed values)
+    ∷ [])))
+
 base_back : (q : Quorum) → IsBase q → base (base_tree q) ≡ Some q
 unfolding base blob_text node_of blobs_of
-base_back q h = rw h.read_back refl
+base_back q h =
+    (λ i. said_by (own_value q blob.Attributes i) (own_value q blob.Members i) (own_value q blob.Proposals i) (own_value q blob.Values i)) ∙ ap result_ok h.read_back
 
 -- ---- the state
 

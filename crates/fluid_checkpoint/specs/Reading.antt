@@ -1,22 +1,24 @@
 -- What the text of a checkpoint says, or its first fault: bad text, then the version, then the other members in byte order of
 -- their names. Members that no form names are passed over.
-use Rattle.std.specs.Prelude.{ℕ, ℤ, pos, negsuc, ◌==◌, nat_le, List, [], ◌∷◌, map, Bool, true, false, Option, Some, None, option_and_then, Result, Ok, Err, if◌then◌else◌, codes}
+use Rattle.std.specs.Prelude.{ℕ, ℤ, pos, negsuc, ◌==◌, nat_le, List, [], ◌∷◌, ◌++◌, map, Bool, true, false, Option, Some, None, option_and_then, Result, Ok, Err, is_some, bytes_eq, if◌then◌else◌, codes}
 use Rattle.std.specs.Option.{ok_or}
 use Rattle.std.specs.Result.{result_ok}
 use Rattle.std.specs.Ordering.{nat_cmp}
 use Rattle.std.specs.Str.{is_utf8}
 use Rattle.std.specs.FinMap.{from_entries, is_sorted}
 use Rattle.fluid_table.specs.Table.{byte_order}
-use Rattle.fluid_json.specs.Tree.{Tree, Trees, no_trees, tree, find, as_boolean, as_whole, as_text, as_trees, as_members}
+use Rattle.fluid_json.specs.Tree.{Tree, list, object, Trees, no_trees, tree, members, find, as_boolean, as_whole, as_text, as_trees, as_members}
 use Rattle.fluid_json.specs.Printed.{printed}
 use Rattle.fluid_json.specs.Spelled.{answer_stored}
 use Rattle.fluid_json.specs.declared.fault.JsonFault.{JsonFault}
 use Rattle.fluid_types.specs.Forms.{largest}
 use Rattle.fluid_types.specs.Messages.{message_spelled}
 use Rattle.fluid_types.specs.Quorum.{Quorum, as_name}
-use Rattle.fluid_types.specs.Records.{held_scopes}
-use Rattle.fluid_types.specs.Words.{blob_word}
+use Rattle.fluid_types.specs.Printed.{Row as Pair, row_if_any}
+use Rattle.fluid_types.specs.Texts.{name_of}
+use Rattle.fluid_types.specs.Words.{blob_word, read_word, write_word, summary_word}
 use Rattle.fluid_types.specs.declared.entries.Scopes.{Scopes}
+use Rattle.fluid_types.specs.declared.fault.Field.{Field}
 use Rattle.fluid_types.specs.declared.fault.Field.TheVariants as field
 use Rattle.fluid_types.specs.declared.messages.Kind.{Kind}
 use Rattle.fluid_types.specs.declared.messages.Message.{Message}
@@ -81,9 +83,37 @@ ack t =
     member (codes "number") count t >>? λ number.
     Some (record { handle = handle; number = number })
 
--- the held scopes; texts that name none are passed over
+-- whether the first of these values is this word, and those that are left then
+abbrev pub is_word : List ℕ → Option (List ℕ) → Bool
+is_word word None = false
+is_word word (Some s) = bytes_eq s word
+
+abbrev pub led_by : List ℕ → Trees → Bool
+led_by word no_trees = false
+led_by word (tree t ts) = is_word word (as_text t)
+
+abbrev pub others : Trees → Trees
+others no_trees = no_trees
+others (tree t ts) = ts
+
+abbrev pub left : List ℕ → Trees → Trees
+left word ts = if led_by word ts then others ts else ts
+
+abbrev pub are_none : Trees → Bool
+are_none no_trees = true
+are_none (tree t ts) = false
+
+-- the held scopes, in their order and each once
+abbrev pub held : Trees → Option Scopes
+held ts =
+    let behind_read = left read_word ts in
+    let behind_write = left write_word behind_read in
+    if are_none (left summary_word behind_write)
+    then Some (record { read = led_by read_word ts; write = led_by write_word behind_read; summary = led_by summary_word behind_write })
+    else None
+
 abbrev pub scopes : Tree → Option Scopes
-scopes t = result_ok (held_scopes field.Scopes t)
+scopes t = as_trees t >>? held
 
 -- nothing is said yet of when it was heard
 unfoldable pub client : Tree → Option (List ℕ × Row)
@@ -122,9 +152,41 @@ message is_such t =
 abbrev pub acks : Tree → Option (List SummaryRef)
 acks = listed ack
 
--- the value of a blob, as the blob with its text
+-- the members that the values of a blob have
+abbrev pub fields_of : QuorumBlob → List Field
+fields_of blob.Attributes = field.MinimumSequenceNumber ∷ field.SequenceNumber ∷ []
+fields_of blob.Members = field.ClientId ∷ field.Detail ∷ field.SequenceNumber ∷ []
+fields_of blob.Proposals = field.Key ∷ field.SequenceNumber ∷ field.Value ∷ []
+fields_of blob.Values = field.ApprovalSequenceNumber ∷ field.Key ∷ field.SequenceNumber ∷ field.Value ∷ []
+
+-- those of them that an object has
+abbrev pub those : List Field → Tree → List Pair
+those [] t = []
+those (f ∷ fs) t = row_if_any f (find (name_of f) t) ++ those fs t
+
+-- an object without its other members; another value as it is
+abbrev pub trimmed : List Field → Tree → Tree
+trimmed fields t = if is_some (as_members t) then object (members (those fields t)) else t
+
+abbrev pub each_trimmed : List Field → Trees → Trees
+each_trimmed fields no_trees = no_trees
+each_trimmed fields (tree t ts) = tree (trimmed fields t) (each_trimmed fields ts)
+
+-- so each item of a list
+abbrev pub items_trimmed : List Field → Option Trees → Tree → Tree
+items_trimmed fields None t = t
+items_trimmed fields (Some ts) t = list (each_trimmed fields ts)
+
+-- the value of a blob without members that it hasn't
+abbrev pub own : QuorumBlob → Tree → Tree
+own blob.Attributes t = trimmed (fields_of blob.Attributes) t
+own blob.Members t = items_trimmed (fields_of blob.Members) (as_trees t) t
+own blob.Proposals t = items_trimmed (fields_of blob.Proposals) (as_trees t) t
+own blob.Values t = items_trimmed (fields_of blob.Values) (as_trees t) t
+
+-- and so the blob with its text
 abbrev pub blob_of : QuorumBlob → Tree → Option (List ℕ × List ℕ)
-blob_of b t = member (blob_word b) (λ value. Some (blob_word b, printed value)) t
+blob_of b t = member (blob_word b) (λ value. Some (blob_word b, printed (own b value))) t
 
 unfoldable pub base : Tree → Option Quorum
 base t =

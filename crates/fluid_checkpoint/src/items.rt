@@ -1,14 +1,12 @@
 // The items of the lists in a checkpoint.
 ghost use Rattle.std.specs.Prelude.{◌≡◌, IfOk};
 ghost use Rattle.std.specs.Result.{result_ok};
-ghost use Rattle.fluid_json.specs.Tree.{trees};
+ghost use Rattle.fluid_json.specs.Tree.{trees, as_text};
 ghost use Rattle.fluid_json.specs.Printed.{printed};
 ghost use Rattle.fluid_types.specs.Messages.{message_spelled};
-ghost use Rattle.fluid_types.specs.declared.fault.Field.TheVariants as field;
-ghost use Rattle.fluid_codec.specs.Scopes.{and_scope, named_scopes};
 ghost use Rattle.fluid_rules.specs.Scribe.{is_summarize};
 ghost use Rattle.fluid_scribe.specs.State.{is_heard};
-ghost use Rattle.fluid_checkpoint.specs.Reading.{pair, scopes};
+ghost use Rattle.fluid_checkpoint.specs.Reading.{pair, held, is_word, led_by, left, are_none};
 
 use crate::forms::{Handle, Name, Number, Shape, Truth, count, member};
 use fluid_clients::Row;
@@ -80,7 +78,7 @@ impl Shape for Client {
     }
 }
 
-/// The scopes that a list of texts names; other texts are passed over.
+/// The scopes that a list of their words names, in their order and each once.
 #[derive(Drop)]
 pub(crate) struct Held;
 
@@ -93,34 +91,66 @@ impl Shape for Held {
 
     fn read(&self, _alloc: Global, value: &Json) -> Result<Option<Scopes>, NoMemory> {
         match value.as_list() {
-            Some(items) => Ok(named_scopes(items)),
+            Some(items) => Ok(scopes_of(items)),
             None => Ok(None),
         }
     }
 }
 
-fn named_scopes(items: &[Json]) -> Option<Scopes>
-    ensures { result ≡ result_ok (named_scopes field.Scopes (trees items.now)) }
+fn scopes_of(items: &[Json]) -> Option<Scopes>
+    ensures { result ≡ held (trees items.now) }
 {
-    let mut scopes = Scopes {
-        read: false,
-        write: false,
-        summary: false,
-    };
-    for item in items {
-        let word = item.as_text()?;
-        scopes = and_scope(scopes, word);
+    let read = led_by(items, Scopes::READ);
+    let behind_read = left(items, Scopes::READ);
+    let write = led_by(behind_read, Scopes::WRITE);
+    let behind_write = left(behind_read, Scopes::WRITE);
+    let summary = led_by(behind_write, Scopes::SUMMARY);
+    if are_none(left(behind_write, Scopes::SUMMARY)) {
+        Some(Scopes {
+            read,
+            write,
+            summary,
+        })
+    } else {
+        None
     }
-    Some(scopes)
 }
 
-fn and_scope(scopes: Scopes, word: &str) -> Scopes
-    ensures { result ≡ and_scope scopes word.now }
+fn is_word(value: &Json, word: &str) -> bool
+    ensures { result ≡ is_word word.now (as_text value.now) }
 {
-    Scopes {
-        read: scopes.read || Scopes::READ == word,
-        write: scopes.write || Scopes::WRITE == word,
-        summary: scopes.summary || Scopes::SUMMARY == word,
+    match value.as_text() {
+        Some(text) => text == word,
+        None => false,
+    }
+}
+
+// Whether the first item is this word.
+fn led_by(items: &[Json], word: &str) -> bool
+    ensures { result ≡ led_by word.now (trees items.now) }
+{
+    match items.split_first() {
+        Some((first, _)) => is_word(first, word),
+        None => false,
+    }
+}
+
+// The items behind this word, where the first is it; all where it isn't.
+fn left<'a>(items: &'a [Json], word: &str) -> &'a [Json]
+    ensures { trees result.now ≡ left word.now (trees items.now) }
+{
+    match items.split_first() {
+        Some((first, rest)) => { if is_word(first, word) { rest } else { items } }
+        None => items,
+    }
+}
+
+fn are_none(items: &[Json]) -> bool
+    ensures { result ≡ are_none (trees items.now) }
+{
+    match items.split_first() {
+        Some(_) => false,
+        None => true,
     }
 }
 

@@ -4,7 +4,7 @@
 //!   heard last.
 //! - `printing`: the text of a state, and `texts` those of what stands in its lists.
 //! - `reading`: what a text says. `members`, `items` and `forms`: the forms of its members, of the items of lists, and of single
-//!   values.
+//!   values. `trimming`: the values of a base without members that they haven't.
 //! - `fault`: why a text is refused. `version`: the versions of the text. `laws`: what is printed is read back.
 #![tactic(auto)]
 
@@ -18,6 +18,7 @@ mod printing;
 mod reading;
 mod state;
 mod texts;
+mod trimming;
 mod version;
 
 pub use fault::CheckpointFault;

@@ -14,8 +14,9 @@ ghost use Rattle.fluid_checkpoint.specs.Reading.{are_numbered, only_if, blob_of}
 use crate::forms::{Shape, listed};
 use crate::heard::Moments;
 use crate::items::{Ack, Change, Client, Heard, Moment, Summarize};
+use crate::trimming::own_text;
 use fluid_clients::Row;
-use fluid_json::{Bytes, Json, NoMemory, Text, print};
+use fluid_json::{Bytes, Json, NoMemory, Text};
 use fluid_quorum::{Acks, Minima, Quorum};
 use fluid_tree::{Entries, Node, SummaryRef};
 use fluid_types::{BlobFault, ClientId, Message, Messages, QuorumBlob, Word};
@@ -249,7 +250,7 @@ fn blob_of(alloc: Global, value: &Json, blob: QuorumBlob) -> Result<Option<(Text
         return Ok(None);
     };
     let name = Text::copied(alloc, blob.word())?;
-    let text = print(alloc, value)?;
+    let text = own_text(alloc, value, blob)?;
     Ok(Some((name, text)))
 }
 
