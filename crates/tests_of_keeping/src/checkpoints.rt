@@ -164,7 +164,7 @@ const INSIDE: &[(&str, &str)] = &[
     ),
     (
         "base",
-        r#"{"attributes":{"minimumSequenceNumber":9,"sequenceNumber":9007199254740991},"other":[],"quorumMembers":[{"clientId":"b","detail":[1],"sequenceNumber":4}],"quorumProposals":[{"key":"k","sequenceNumber":3,"value":null}],"quorumValues":[{"approvalSequenceNumber":8,"key":"code","sequenceNumber":7,"value":"v"}]}"#,
+        r#"{"attributes":{"minimumSequenceNumber":9,"other":1,"sequenceNumber":9007199254740991},"other":[],"quorumMembers":[{"clientId":"b","detail":[1],"key":2,"sequenceNumber":4}],"quorumProposals":[{"detail":1,"key":"k","sequenceNumber":3,"value":null}],"quorumValues":[{"approvalSequenceNumber":8,"key":"code","other":{},"sequenceNumber":7,"value":"v"}]}"#,
     ),
     ("behind", "[]"),
     (
@@ -174,7 +174,7 @@ const INSIDE: &[(&str, &str)] = &[
     ("clients", "[]"),
     (
         "clients",
-        r#"[{"id":"a","last":9007199254740991,"nacked":true,"reference":77,"scopes":["doc:admin","summary:write","summary:write"]},{"id":"c0","last":0,"nacked":false,"reference":0,"scopes":[]}]"#,
+        r#"[{"id":"a","last":9007199254740991,"nacked":true,"other":1,"reference":77,"scopes":["doc:read","summary:write"]},{"id":"c0","last":0,"nacked":false,"reference":0,"scopes":[]}]"#,
     ),
     ("counted", "9007199254740991"),
     ("entered", "0"),
@@ -238,7 +238,23 @@ const OUTSIDE: &[(&str, &str)] = &[
     ),
     (
         "base",
+        r#"{"attributes":{"minimumSequenceNumber":0,"sequenceNumber":9},"quorumMembers":[],"quorumProposals":[{"key":"k","sequenceNumber":3,"value":null},{"key":"k","sequenceNumber":2,"value":null}],"quorumValues":[]}"#,
+    ),
+    (
+        "base",
+        r#"{"attributes":{"minimumSequenceNumber":0,"sequenceNumber":9},"quorumMembers":[],"quorumProposals":[],"quorumValues":[{"approvalSequenceNumber":8,"key":"k","sequenceNumber":7,"value":1},{"approvalSequenceNumber":8,"key":"a","sequenceNumber":7,"value":1}]}"#,
+    ),
+    (
+        "base",
         r#"{"attributes":{"minimumSequenceNumber":0,"sequenceNumber":9},"quorumMembers":[],"quorumProposals":[],"quorumValues":"[]"}"#,
+    ),
+    (
+        "base",
+        r#"{"attributes":[],"quorumMembers":[],"quorumProposals":[],"quorumValues":[]}"#,
+    ),
+    (
+        "base",
+        r#"{"attributes":{"minimumSequenceNumber":0,"sequenceNumber":9},"quorumMembers":[1],"quorumProposals":[],"quorumValues":[]}"#,
     ),
     ("behind", "{}"),
     ("behind", "[null]"),
@@ -283,6 +299,18 @@ const OUTSIDE: &[(&str, &str)] = &[
     (
         "clients",
         r#"[{"id":"c0","last":0,"nacked":false,"reference":0,"scopes":["doc:write",1]}]"#,
+    ),
+    (
+        "clients",
+        r#"[{"id":"c0","last":0,"nacked":false,"reference":0,"scopes":["doc:admin"]}]"#,
+    ),
+    (
+        "clients",
+        r#"[{"id":"c0","last":0,"nacked":false,"reference":0,"scopes":["doc:write","doc:read"]}]"#,
+    ),
+    (
+        "clients",
+        r#"[{"id":"c0","last":0,"nacked":false,"reference":0,"scopes":["doc:write","doc:write"]}]"#,
     ),
     (
         "clients",
