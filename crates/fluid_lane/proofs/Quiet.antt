@@ -1,5 +1,5 @@
 -- The first of the joined clients that is silent, place by place.
-use Rattle.std.proofs.Common.{◌≡◌, is_some, ℕ, zero, suc, ◌+◌, ◌-◌, ◌<◌, ◌≤◌, Bool, true, false, List, [], ◌∷◌, length, drop, slice_get, bytes_eq, Option, Some, None, refl, sym, ap, subst, ◌∙◌, arith}
+use Rattle.std.proofs.Common.{◌≡◌, is_some, ℕ, zero, suc, ◌+◌, ◌<◌, ◌≤◌, Bool, true, false, List, [], ◌∷◌, length, drop, slice_get, Option, Some, None, refl, sym, ap, ◌∙◌, arith}
 use Rattle.std.specs.Prelude.{IsSome, nat_lt, if◌then◌else◌}
 use Rattle.std.specs.List.{list_any}
 use Rattle.std.specs.Ordering.{eq_by_cmp}
@@ -38,6 +38,7 @@ any_at id (x ∷ ids) zero is = or_left _ _ (tied_back id x ∙ (bytes_eq-Decide
     value : List ℕ → Option (List ℕ) → List ℕ
     value d None = d
     value d (Some y) = y
+
     some_is : (y z : List ℕ) → Some y ≡ Some z → y ≡ z
     some_is y z same = ap (value y) same
 any_at id (x ∷ ids) (suc n) is = or_right _ _ (any_at id ids n is)

@@ -111,7 +111,11 @@ fn dismiss_first<K: Keeper>(
 }
 
 // The joined id in this place once more.
-pub(crate) fn joined_id(alloc: Global, document: &Document, place: u64) -> Result<ClientId, NoMemory>
+pub(crate) fn joined_id(
+    alloc: Global,
+    document: &Document,
+    place: u64,
+) -> Result<ClientId, NoMemory>
     requires { place < len document.now.entries.state.sequencer.rows }
     ensures name { IfOk result IsName }
     ensures there { IfOk result (λ id. slice_get (keys document.now.entries.state.sequencer.rows) place ≡ Some id) }
