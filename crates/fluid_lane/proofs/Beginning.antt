@@ -1,21 +1,20 @@
 -- What a lane that was started stands for, and what a keeper has where the start was cut short.
-use Rattle.std.proofs.Common.{◌≡◌, ◌⊎◌, ℕ, zero, suc, ◌+◌, ◌<◌, ◌≤◌, false, List, [], ◌∷◌, ◌++◌, length, map, Option, Some, None, is_some, Result, Ok, Err, refl, sym, ap, subst, ◌∙◌, arith, inl, inr, append-nil, append_assoc, length-append}
+use Rattle.std.proofs.Common.{◌≡◌, ◌⊎◌, ℕ, zero, suc, ◌<◌, ◌≤◌, false, List, [], ◌∷◌, ◌++◌, length, map, Option, Some, None, is_some, Result, Ok, Err, refl, sym, ap, subst, ◌∙◌, arith, inl, inr, append-nil, append_assoc, length-append}
 use Rattle.std.proofs.lemmas.List.{map-append}
 use Rattle.std.specs.Option.{option_map}
-use Rattle.std.specs.FinMap.{keys, len}
+use Rattle.std.specs.FinMap.{keys}
 use Rattle.std.proofs.lemmas.Bool.{lt-leb, false≢true}
 use Rattle.fluid_io.specs.Causes.{Tells}
 use Rattle.fluid_types.specs.declared.entries.Raw.{Raw}
 use Rattle.fluid_types.specs.declared.entries.Raw.TheVariants.{Leave}
 use Rattle.fluid_types.specs.declared.messages.Message.{Message}
-use Rattle.fluid_types.specs.declared.verdicts.Verdict.{Verdict}
 use Rattle.fluid_types.specs.declared.verdicts.Verdict.TheVariants.{Dropped}
 use Rattle.fluid_types.specs.Ledger.{Ledger, order, messages_of}
 use Rattle.fluid_types.specs.Printed.{raw_printed, message_printed}
 use Rattle.fluid_types.proofs.Ledgers.{order-push}
 use Rattle.fluid_rules.specs.Rules.{verdict}
 use Rattle.fluid_rules.specs.declared.limits.Limits.{Limits}
-use Rattle.fluid_log.specs.Keeping.{Content, Keeping, HasLengths, IsSized, IsText}
+use Rattle.fluid_log.specs.Keeping.{Content, Keeping, HasLengths, IsSized}
 use Rattle.fluid_log.specs.Calls.{KeepsSame, with_record, add_record, add_records}
 use Rattle.fluid_deltas.specs.Pushed.{AreDeltasOf, StandFor}
 use Rattle.fluid_deltas.specs.Flushes.{put_behind, with_deltas}
@@ -27,7 +26,6 @@ use Rattle.fluid_document.specs.declared.fault.LoadFault.TheVariants as loading
 use Rattle.fluid_document.specs.declared.fault.EnterFault.{EnterFault}
 use Rattle.fluid_document.specs.declared.fault.EnterFault.TheVariants as entering
 use Rattle.fluid_document.specs.Entries.{Entries, InMemory, most, entries_of}
-use Rattle.fluid_document.specs.Entry.{PutsSome, IsTorn}
 use Rattle.fluid_document.specs.Rooms.{for_room, roomed}
 use Rattle.fluid_document.specs.Loading.{loaded, newest, ReadsBehind, PutsDeltas, IsBadAs, IsLoadFault}
 use Rattle.fluid_document.specs.Taking.{ReadsKept}
@@ -42,8 +40,7 @@ use Rattle.fluid_lane.specs.Faults.{of_loading, IsCausedBy}
 use Rattle.fluid_lane.specs.Steps.{ledger, last_side, stored, AreNoted, steps}
 use Rattle.fluid_lane.specs.Standing.{Standing, IsFor, IsTold, LaneStands}
 use Rattle.fluid_lane.specs.Restarts.{IsNotBad}
-use Rattle.fluid_lane.specs.Starting.{run, leaves, takes, opening, Grew, LeavesFirst, HasLeft, HasStopped, LeavesAll, LeftSome, StartsBad, Starts, IsOpened}
-use Rattle.fluid_lane.proofs.Recorded.{length-records}
+use Rattle.fluid_lane.specs.Starting.{run, leaves, takes, opening, Grew, LeavesFirst, HasLeft, HasStopped, LeavesAll, LeftSome, StartsBad, Starts}
 use Rattle.fluid_lane.proofs.Restarting.{same_ok, never_err}
 use Rattle.fluid_lane.proofs.Leaving.{standing, grew_same, grew_put, grew_roomed, grew_told}
 use Rattle.fluid_lane.proofs.Stands.{Was, told_too, for_put, still_nothing}
@@ -132,6 +129,7 @@ begun_stands t l sides last owed points is =
       number = omega (arith, ap (λ e. e.entered) one.entries, entered-entries_of l, sides, length-steps l);
       last = last ∙ sym (last-steps l);
       noted = noted-steps t.keeping.faults l;
+      owes = λ on. absurd (false≢true (sym owed ∙ on));
       told = tells_from t.keeping.content (IsFor false t.entries t.messages l) (IsTold t (steps l))
           (λ d for. record {
             stands = subst (λ m. IsFor t.owed t.entries t.messages m d) (sym (ledger-steps l)) (subst (λ o. IsFor o t.entries t.messages l d) (sym owed) for);
@@ -153,18 +151,19 @@ untold : {A : Type 0} (o : Option A) (P : A → Type 0) → is_some o ≡ false 
 untold None P is = tt
 untold (Some a) P is = absurd (false≢true (sym is))
 
-some_list : (moment : ℕ) (before : Option Content) (t : Standing) → is_some t.keeping.content ≡ is_some before → t.sides ≡ 0 → t.last ≡ None
+some_list : (moment : ℕ) (before : Option Content) (t : Standing) → is_some t.keeping.content ≡ is_some before → t.sides ≡ 0 → t.last ≡ None → t.owed ≡ false
     → ((l : Ledger) → Tells before (IsKept false l) → Tells before (λ _. LaneStands t (steps (opening moment l)))) → Tells before (λ c. (l : Ledger) × IsKept false l c) → (l : Ledger) × LaneStands t (steps l)
-some_list moment None t told sides last stands kept = (
+some_list moment None t told sides last owed stands kept = (
   any_ledger t.entries.entered,
   record {
     number = omega (arith, sides, length-steps (any_ledger t.entries.entered), length-any t.entries.entered);
     last = last ∙ sym (last-steps (any_ledger t.entries.entered));
     noted = noted-steps t.keeping.faults (any_ledger t.entries.entered);
+    owes = λ on. absurd (false≢true (sym owed ∙ on));
     told = untold t.keeping.content (IsTold t (steps (any_ledger t.entries.entered))) told;
   },
 )
-some_list moment (Some c) t told sides last stands kept = (opening moment kept.0, stands kept.0 kept.1)
+some_list moment (Some c) t told sides last owed stands kept = (opening moment kept.0, stands kept.0 kept.1)
 
 -- ---- what was added to the keeper
 
@@ -202,7 +201,7 @@ starts moment old mid new limits m now opened opens has none found reads =
     (begun_stands (begun new now limits opened) (opening moment l) refl refl refl points (opened_told moment old mid new m now l opens has none kept)) in
     record {
       stands = stands;
-      some = some_list moment old.content (begun new now limits opened) told refl refl stands;
+      some = some_list moment old.content (begun new now limits opened) told refl refl refl stands;
       loads = record {
         entries = m.entries;
         is = opens.loads;

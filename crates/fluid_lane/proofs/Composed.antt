@@ -1,5 +1,5 @@
 -- What calls do that first make the cut that is owed.
-use Rattle.std.proofs.Common.{◌≡◌, ◌⊎◌, ℕ, zero, suc, ◌+◌, ◌≤◌, true, false, Bool, List, [], ◌∷◌, ◌++◌, length, take, Option, Some, None, Result, Ok, Err, inl, inr, refl, sym, ap, ap₂, subst, ◌∙◌, append-nil, arith}
+use Rattle.std.proofs.Common.{◌≡◌, ◌⊎◌, ℕ, ◌+◌, ◌≤◌, true, false, Bool, List, [], ◌∷◌, ◌++◌, length, take, Option, Some, None, Result, Ok, Err, inl, inr, refl, sym, ap, ap₂, subst, ◌∙◌, append-nil, arith}
 use Rattle.std.specs.Prelude.{IfOk, IfErr, MatchResult, if◌then◌else◌}
 use Rattle.std.specs.Option.{option_map, option_or}
 use Rattle.std.specs.FinMap.{keys}
@@ -7,14 +7,14 @@ use Rattle.fluid_io.specs.Causes.{Tells}
 use Rattle.fluid_types.specs.declared.entries.Raw.{Raw}
 use Rattle.fluid_types.specs.declared.messages.Message.{Message}
 use Rattle.fluid_types.specs.Ledger.{order}
-use Rattle.fluid_types.specs.Printed.{raw_printed, message_printed}
+use Rattle.fluid_types.specs.Printed.{raw_printed}
 use Rattle.fluid_log.specs.Keeping.{Content, Keeping}
 use Rattle.fluid_log.specs.Calls.{KeepsSame, add_record, with_record, cut_to, with_checkpoint, add_checkpoint}
 use Rattle.fluid_log.proofs.Sameness.{same_itself, same_twice}
 use Rattle.fluid_deltas.specs.Pushed.{Pushed}
 use Rattle.fluid_deltas.proofs.Telling.{tells_each, tells_along, tells_both}
 use Rattle.fluid_deltas.specs.Flushes.{put_behind, with_deltas, lacking, AreAll}
-use Rattle.fluid_document.specs.Entries.{Entries, taken_up}
+use Rattle.fluid_document.specs.Entries.{taken_up}
 use Rattle.fluid_document.specs.Kept.{checkpoint_text}
 use Rattle.fluid_document.specs.Rooms.{for_room, roomed}
 use Rattle.fluid_document.specs.Entry.{PutsSome}
@@ -26,7 +26,7 @@ use Rattle.fluid_lane.specs.Steps.{ledger, last_side}
 use Rattle.fluid_lane.specs.Faults.{IsCausedBy, IsLogFailed, IsOutside, IsReadFault}
 use Rattle.fluid_lane.specs.Standing.{Standing, LaneStands, Goes}
 use Rattle.fluid_lane.specs.Refusals.{IsCutFailed}
-use Rattle.fluid_lane.specs.Calls.{settled, TakesUp, OwesBy, AddKept, EnterKept, Enters, IsFlushFault, IsOutsideLog, FlushKept, IsBeside, missing, flushed, HasCheckpoint, IsStoreFault, SettledBy, StoreKept, IsStored, Stores}
+use Rattle.fluid_lane.specs.Calls.{settled, TakesUp, OwesBy, AddKept, EnterKept, Enters, IsFlushFault, IsOutsideLog, IsBeside, missing, flushed, HasCheckpoint, SettledBy, Stores}
 use Rattle.fluid_lane.specs.Restarts.{RefusesRestart, IsRestarted, RestartKept, Restarts}
 use Rattle.fluid_lane.proofs.Caused.{caused_earlier}
 
@@ -293,7 +293,7 @@ stores_on old mid new text (Err fault) is short flush kept next there fails caus
 
     by : (f : LaneFault) → IsOutsideLog f → IsCausedBy mid.keeping.faults new.keeping.faults f → Stores old new (Err f)
     by (LogFailed note) out caused =
-        record { same = same; settled_by = tt; cause = caused_earlier old.keeping.faults mid.keeping.faults new.keeping.faults (LogFailed note) later caused; reads = reads; kept = inr (level, whole); stored = tt }
+        record { same = same; settled_by = tt; cause = caused_earlier old.keeping.faults mid.keeping.faults new.keeping.faults (LogFailed note) later caused; reads = reads; kept = inr (subst (λ t. length t ≤ old.limits.bytes) is short, (level, whole)); stored = tt }
     by (Full n) out caused = absurd out
     by (BadRecord place) out caused = absurd out
     by (NoCheckpoint asked stored) out caused = absurd out

@@ -1,5 +1,5 @@
 -- What a lane's messages stand for behind a flush.
-use Rattle.std.proofs.Common.{◌≡◌, ℕ, ◌-◌, ◌≤◌, false, List, ◌++◌, length, map, is_some, Option, Some, None, Result, Ok, Err, refl, sym, ap, subst, ◌∙◌, length-append, arith}
+use Rattle.std.proofs.Common.{◌≡◌, ℕ, ◌-◌, ◌≤◌, false, List, length, map, is_some, Option, Some, None, Result, Ok, Err, refl, sym, ap, subst, ◌∙◌, length-append, arith}
 use Rattle.std.specs.Option.{option_map}
 use Rattle.fluid_io.specs.Causes.{Tells}
 use Rattle.fluid_types.specs.declared.messages.Message.{Message}
@@ -21,7 +21,7 @@ use Rattle.fluid_lane.specs.declared.steps.Step.{Step}
 use Rattle.fluid_lane.specs.Steps.{ledger}
 use Rattle.fluid_lane.specs.Standing.{Standing, IsFor, IsTold, LaneStands, Goes}
 use Rattle.fluid_lane.specs.Ranges.{Ranges}
-use Rattle.fluid_lane.proofs.Stands.{Was, StillStand, StillFor, Ends, ends, goes_put, still_whole}
+use Rattle.fluid_lane.proofs.Stands.{Was, StillStand, StillFor, Ends, ends, goes_put, still_whole, owes_still}
 
 same_told : {A : Type 0} (change : A → A) (told : Option A) → is_some (option_map change told) ≡ is_some told
 same_told change None = refl
@@ -73,7 +73,7 @@ for_read s t puts level owed entries messages kept l is =
 pub goes_read : (s t : Standing) (more : List Step) → Ends s t more → PutsDeltas s.keeping t.keeping → s.keeping.faults ≤ t.keeping.faults → s.owed ≡ false → t.owed ≡ s.owed → t.entries ≡ s.entries → t.messages ≡ s.messages → t.opened ≡ s.opened → t.limits ≡ s.limits
     → ((l : Ledger) → Tells s.keeping.content (IsKept false l) → Tells t.keeping.content (IsKept false l)) → Goes s t more
 goes_read s t more end puts faults level owed entries messages opened limits kept =
-    ends s t more end (ap is_some puts.kept.content ∙ same_told (put_behind puts.messages) s.keeping.content) puts.kept.checkpoints faults (ap (λ e. e.entered) entries) opened limits (for_read s t puts level owed entries messages kept)
+    ends s t more end (ap is_some puts.kept.content ∙ same_told (put_behind puts.messages) s.keeping.content) puts.kept.checkpoints faults (ap (λ e. e.entered) entries) opened limits (owes_still s t more end owed) (for_read s t puts level owed entries messages kept)
 
 -- what the keeper is kept for
 pub kept_for : (s : Standing) (l : List Step) → s.owed ≡ false → LaneStands s l → Tells s.keeping.content (IsKept false (ledger l))

@@ -1,12 +1,13 @@
 -- Which rule refuses a call: how each way out of a call answers to its gate.
-use Rattle.std.proofs.Common.{◌≡◌, ◌⊎◌, ℕ, true, false, Bool, List, [], ◌∷◌, Option, Some, None, Result, Ok, Err, inl, inr, refl, sym, ap, subst, ◌∙◌}
+use Rattle.std.proofs.Common.{◌≡◌, true, false, Bool, List, [], ◌∷◌, Option, Some, None, Result, Ok, Err, inl, inr, refl, sym, ap, subst, ◌∙◌}
 use Rattle.std.specs.Prelude.{IfErr, OnOk, IsSome}
 use Rattle.std.proofs.lemmas.Bool.{false≢true}
-use Rattle.fluid_io.specs.declared.faults.FaultNote.{FaultNote}
+use Rattle.std.proofs.lemmas.Option.{none-some, same_Some}
 use Rattle.fluid_lane.specs.declared.fault.LaneFault.{LaneFault}
-use Rattle.fluid_lane.specs.declared.fault.LaneFault.TheVariants.{LogFailed, Full, BadRecord, NoCheckpoint, CheckpointsFull, TooManyClients, DeltaFailed, NoMemory, BadCheckpoint, TooLarge, Worn}
+use Rattle.fluid_lane.specs.declared.fault.LaneFault.TheVariants.{Worn}
 use Rattle.fluid_lane.specs.Faults.{IsLogFailed}
 use Rattle.fluid_lane.specs.Standing.{Standing, is_worn}
+use Rattle.fluid_lane.specs.Laws.{RefusalsFire}
 use Rattle.fluid_lane.specs.Refusals.{IsCutFailed, first_refusal, IsCause, IsGated}
 
 -- ---- rules
@@ -16,6 +17,11 @@ refuses b fault rules is = ap (λ x. first_refusal ((x, fault) ∷ rules)) is
 
 pub passes : (b : Bool) (fault : LaneFault) (rules : List (Bool × LaneFault)) → b ≡ false → first_refusal ((b, fault) ∷ rules) ≡ first_refusal rules
 passes b fault rules is = ap (λ x. first_refusal ((x, fault) ∷ rules)) is
+
+pub fires : RefusalsFire
+fires [] fault is = absurd (none-some _ is)
+fires ((true, own) ∷ rules) fault is = inl (refl, sym (same_Some _ _ is))
+fires ((false, own) ∷ rules) fault is = inr (refl, fires rules fault is)
 
 -- ---- the ways out
 

@@ -1,5 +1,5 @@
 -- Leave by leave: what has left, and with one leave more.
-use Rattle.std.proofs.Common.{◌≡◌, ◌⊎◌, ℕ, ◌+◌, ◌<◌, ◌≤◌, false, List, [], ◌∷◌, ◌++◌, length, map, slice_get, Option, Some, None, is_some, Result, Ok, Err, inl, inr, refl, sym, ap, subst, ◌∙◌, arith, append_assoc, append-nil, length-append}
+use Rattle.std.proofs.Common.{◌≡◌, ℕ, ◌+◌, ◌<◌, ◌≤◌, false, List, [], ◌∷◌, ◌++◌, length, map, slice_get, Option, Some, None, is_some, Ok, Err, inl, inr, refl, sym, ap, subst, ◌∙◌, arith, append_assoc, append-nil, length-append}
 use Rattle.std.proofs.lemmas.List.{map-append}
 use Rattle.std.specs.Option.{option_map}
 use Rattle.std.specs.FinMap.{keys, len}
@@ -7,25 +7,20 @@ use Rattle.fluid_io.specs.Causes.{Tells}
 use Rattle.fluid_types.specs.declared.entries.Raw.{Raw}
 use Rattle.fluid_types.specs.declared.entries.Raw.TheVariants.{Leave}
 use Rattle.fluid_types.specs.declared.messages.Message.{Message}
-use Rattle.fluid_types.specs.declared.verdicts.Verdict.{Verdict}
-use Rattle.fluid_types.specs.Ledger.{Ledger}
 use Rattle.fluid_types.specs.Printed.{raw_printed, message_printed}
 use Rattle.fluid_log.specs.Keeping.{Content, Keeping}
-use Rattle.fluid_log.specs.Calls.{KeepsSame, add_record, add_records, with_record, with_records}
+use Rattle.fluid_log.specs.Calls.{KeepsSame, add_record, add_records, with_record}
 use Rattle.fluid_deltas.specs.Flushes.{put_behind, with_deltas}
 use Rattle.fluid_deltas.proofs.Telling.{tells_from}
 use Rattle.fluid_core.specs.Entering.{verdict_in, after}
-use Rattle.fluid_document.specs.declared.fault.EnterFault.{EnterFault}
-use Rattle.fluid_document.specs.declared.fault.EnterFault.TheVariants as entering
 use Rattle.fluid_document.specs.Entries.{Entries, InMemory, most, taken_up}
-use Rattle.fluid_document.specs.Entry.{PutsSome, EntersBy}
-use Rattle.fluid_document.specs.Rooms.{for_room, roomed}
+use Rattle.fluid_document.specs.Rooms.{for_room}
 use Rattle.fluid_document.specs.Kept.{records}
 use Rattle.fluid_rules.specs.declared.limits.Limits.{Limits}
 use Rattle.fluid_lane.specs.declared.fault.LaneFault.{LaneFault}
 use Rattle.fluid_lane.specs.declared.fault.LaneFault.TheVariants.{LogFailed, Full, BadRecord, NoCheckpoint, CheckpointsFull, TooManyClients, DeltaFailed, NoMemory, BadCheckpoint, TooLarge, Worn}
 use Rattle.fluid_lane.specs.Standing.{Standing, IsFor}
-use Rattle.fluid_lane.specs.Starting.{run, leaves, takes, Grew, IsFirst, LeavesFirst, Waits, LeaveDoes, HasLeft, HasStopped, LeavesAll}
+use Rattle.fluid_lane.specs.Starting.{run, leaves, takes, Grew, IsFirst, LeavesFirst, Waits, LeaveDoes, HasLeft, LeavesAll}
 use Rattle.fluid_readback.proofs.Fitting.{leaves_fit}
 use Rattle.fluid_types.specs.Names.{IsName}
 use Rattle.fluid_lane.proofs.Ids.{length-keys, first_and_rest}

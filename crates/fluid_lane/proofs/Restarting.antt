@@ -1,11 +1,9 @@
 -- A restart over a keeper that is kept for the lane's ledger comes back to what the lane had, and refuses nothing.
-use Rattle.std.proofs.Common.{◌≡◌, ◌⊎◌, ℕ, ◌<◌, false, List, length, Option, Some, Result, Ok, Err, refl, sym, ap, subst, ◌∙◌, arith, ⊎_elim}
+use Rattle.std.proofs.Common.{◌≡◌, ℕ, ◌<◌, false, List, Some, Result, Ok, Err, sym, ap, subst, ◌∙◌, arith, ⊎_elim}
 use Rattle.std.specs.FinMap.{keys}
 use Rattle.fluid_io.specs.Causes.{Tells}
-use Rattle.fluid_types.specs.Ledger.{Ledger, order}
 use Rattle.fluid_log.specs.Keeping.{Content, HasLengths, IsSized}
-use Rattle.fluid_deltas.specs.Pushed.{Pushed, StandFor}
-use Rattle.fluid_deltas.proofs.Telling.{tells_from, tells_both}
+use Rattle.fluid_deltas.proofs.Telling.{tells_both}
 use Rattle.fluid_document.specs.declared.fault.LoadFault.{LoadFault}
 use Rattle.fluid_document.specs.declared.fault.LoadFault.TheVariants as loading
 use Rattle.fluid_document.specs.Entries.{Entries, entries_of}

@@ -1,5 +1,5 @@
 -- What a lane says of the ledger for which it stands.
-use Rattle.std.proofs.Common.{◌≡◌, ◌⊎◌, ℕ, ◌+◌, true, false, Bool, List, [], ◌∷◌, map, is_some, Option, Some, None, Result, Ok, Err, inl, inr, refl, sym, ap, subst, ◌∙◌, ⊎_elim}
+use Rattle.std.proofs.Common.{◌≡◌, ℕ, ◌+◌, true, false, Bool, List, [], ◌∷◌, map, Option, Some, None, refl, sym, ap, ◌∙◌}
 use Rattle.std.specs.Prelude.{IsSome, nat_lt, if◌then◌else◌}
 use Rattle.std.specs.List.{list_any}
 use Rattle.std.specs.Ordering.{eq_by_cmp}
@@ -15,9 +15,9 @@ use Rattle.fluid_types.specs.declared.verdicts.Verdict.{Verdict}
 use Rattle.fluid_types.specs.Ledger.{Ledger}
 use Rattle.fluid_rules.specs.Past as past
 use Rattle.fluid_rules.specs.Past.{Client}
-use Rattle.fluid_rules.specs.Rules.{IsLegal, joined, heard, client}
+use Rattle.fluid_rules.specs.Rules.{heard, client}
 use Rattle.fluid_clients.specs.declared.table.Row.{Row}
-use Rattle.fluid_clients.specs.Table.{Rows, byte_order}
+use Rattle.fluid_clients.specs.Table.{byte_order}
 use Rattle.fluid_ticket.specs.State as ticket
 use Rattle.fluid_ticket.specs.Ledger as tickets
 use Rattle.fluid_ticket.proofs.Ledgers.{rowed, get-state_of, tied_back, number_of, minimum_of}
@@ -26,10 +26,9 @@ use Rattle.fluid_core.specs.Entering.{State, StandsFor, verdict_in, after, state
 use Rattle.fluid_core.proofs.Entered.{verdict-stands, stands-sequencer, stands-acks}
 use Rattle.fluid_core.proofs.Jobs.{stands-job}
 use Rattle.fluid_deltas.proofs.Telling.{tells_from}
-use Rattle.fluid_document.proofs.Foldings.{state-entries_of, entered-entries_of}
-use Rattle.fluid_lane.specs.declared.steps.Step.{Step}
+use Rattle.fluid_document.proofs.Foldings.{state-entries_of, entered-entries_of, counted-entries_of}
 use Rattle.fluid_lane.specs.Steps.{ledger}
-use Rattle.fluid_lane.specs.Standing.{Standing, IsFor, IsTold, LaneStands}
+use Rattle.fluid_lane.specs.Standing.{IsTold}
 use Rattle.fluid_lane.specs.Starting.{run, leaves}
 use Rattle.fluid_lane.specs.Sweeps.{is_silent, first_by, first_silent}
 use Rattle.fluid_lane.specs.Laws.{first_silent_in, SaysOf, LaneSays, OpeningLeaves}
@@ -80,6 +79,7 @@ lane_says s l stands =
     record {
       legal = is.kept.legal;
       entered = ap (λ e. e.entered) is.entries ∙ entered-entries_of (ledger l);
+      counted = ap (λ e. e.counted) is.entries ∙ counted-entries_of (ledger l);
       seq = number_of s.entries.state.sequencer (ledger l) ticket_stands;
       min = minimum_of s.entries.state.sequencer (ledger l) ticket_stands;
       clients = rows.ids;

@@ -23,14 +23,13 @@ use Rattle.fluid_core.proofs.Entered.{verdict-state_of}
 use Rattle.fluid_document.specs.Entries.{Entries, most, taken_up, entries_of}
 use Rattle.fluid_document.specs.Entry.{PutsSome, IsTorn}
 use Rattle.fluid_document.specs.Kept.{IsLoggable, IsKept, IsPrinted}
-use Rattle.fluid_document.proofs.Keeps.{kept_owed, kept_cut, kept_torn, kept_entered, kept_more}
+use Rattle.fluid_document.proofs.Keeps.{kept_whole, kept_owed, kept_cut, kept_torn, kept_entered, kept_more}
 use Rattle.fluid_document.proofs.Foldings.{taken-entries_of, state-entries_of, entered-entries_of}
-use Rattle.fluid_lane.specs.declared.steps.Side.{Side}
 use Rattle.fluid_lane.specs.declared.steps.Side.TheVariants.{Failed, Stored, Restarted}
 use Rattle.fluid_lane.specs.declared.steps.Step.{Step}
 use Rattle.fluid_lane.specs.declared.steps.Step.TheVariants.{Entered, Aside}
 use Rattle.fluid_lane.specs.Steps.{ledger, last_side, stored, asides, AreNoted}
-use Rattle.fluid_lane.specs.Standing.{Standing, IsFor, IsTold, LaneStands, Goes}
+use Rattle.fluid_lane.specs.Standing.{Standing, IsFor, IsTold, IsLeftFor, LaneStands, Goes}
 use Rattle.fluid_lane.specs.Calls.{IsBeside}
 use Rattle.fluid_lane.proofs.Listed.{ledger-append, stored-append, last-append, noted_more, noted-append}
 use Rattle.fluid_lane.proofs.Storing.{kept_stored}
@@ -94,9 +93,13 @@ goes_on s t u more first then = record {
 abbrev pub StillFor : (s t : Standing) → Type 0
 StillFor s t = (l : Ledger) → Tells s.keeping.content (IsFor s.owed s.entries s.messages l) → Tells t.keeping.content (IsFor t.owed t.entries t.messages l)
 
+-- who owes a cut still has a side step
+abbrev pub StillOwes : (s t : Standing) → Type 0
+StillOwes s t = (s.owed ≡ true → 0 < s.sides) → t.owed ≡ true → 0 < t.sides
+
 pub rests : (s t : Standing) (more : List Step) → IsBeside s t more → AreNoted t.keeping.faults more → ledger more ≡ [] → t.keeping.checkpoints ≡ s.keeping.checkpoints + stored more
-    → t.entries.entered + asides more ≡ s.entries.entered + length more → StillFor s t → Goes s t more
-rests s t more beside noted none points number still = record {
+    → t.entries.entered + asides more ≡ s.entries.entered + length more → StillOwes s t → StillFor s t → Goes s t more
+rests s t more beside noted none points number owes still = record {
   limits = beside.limits;
   opened = beside.opened;
   told = beside.told;
@@ -108,6 +111,7 @@ rests s t more beside noted none points number still = record {
     number = omega (arith, number, beside.sides, stands.number, length-append l more);
     last = beside.last ∙ ap (option_or (last_side more)) stands.last ∙ sym (last-append l more);
     noted = noted-append t.keeping.faults l more (noted_more s.keeping.faults t.keeping.faults l beside.later stands.noted) noted;
+    owes = owes stands.owes;
     told = tells_both t.keeping.content (IsFor t.owed t.entries t.messages (ledger l)) (λ _. s.keeping.checkpoints ≡ s.opened + stored l) (IsTold t (l ++ more))
         (λ c is count. record {
           stands = subst (λ m. IsFor t.owed t.entries t.messages m c) (sym (ledger-append l more ∙ ap (λ m. ledger l ++ m) none ∙ append-nil (ledger l))) is;
@@ -254,6 +258,7 @@ enters s t ms raw v same faults said entries level owed loggable few sides last 
         number = omega (arith, ap (λ e. e.entered) entries, taken-entered s.entries raw, sides, is.number, length-append l more);
         last = last ∙ is.last ∙ sym (last-append l more);
         noted = noted-append t.keeping.faults l more (noted_more s.keeping.faults t.keeping.faults l faults is.noted) tt;
+        owes = λ on. absurd (false≢true (sym owed ∙ on));
         told = tells_both t.keeping.content (IsFor t.owed t.entries t.messages (ledger l ++ (raw, v) ∷ [])) (λ _. s.keeping.checkpoints ≡ s.opened + stored l) (IsTold t (l ++ more))
             (λ c one count. record {
               stands = subst (λ m. IsFor t.owed t.entries t.messages m c) (sym (ledger-append l more)) one;
@@ -294,36 +299,46 @@ map_told change None = refl
 map_told change (Some a) = refl
 
 pub ends : (s t : Standing) (more : List Step) → Ends s t more → is_some t.keeping.content ≡ is_some s.keeping.content → t.keeping.checkpoints ≡ s.keeping.checkpoints → s.keeping.faults ≤ t.keeping.faults → t.entries.entered ≡ s.entries.entered
-    → t.opened ≡ s.opened → t.limits ≡ s.limits → StillFor s t → Goes s t more
-ends s t more end told points faults entered opened limits still =
-    rests s t more (record { limits = limits; opened = opened; told = told; later = faults; entered = omega (arith, entered, ap length end.none); sides = end.sides; last = end.last }) end.noted end.none (omega (arith, points, end.unstored)) (omega (arith, entered, end.size)) still
+    → t.opened ≡ s.opened → t.limits ≡ s.limits → StillOwes s t → StillFor s t → Goes s t more
+ends s t more end told points faults entered opened limits owes still =
+    rests s t more (record { limits = limits; opened = opened; told = told; later = faults; entered = omega (arith, entered, ap length end.none); sides = end.sides; last = end.last }) end.noted end.none (omega (arith, points, end.unstored)) (omega (arith, entered, end.size)) owes still
+
+pub owes_still : (s t : Standing) (more : List Step) → Ends s t more → t.owed ≡ s.owed → StillOwes s t
+owes_still s t more end owed was on = omega (arith, end.sides, was (sym owed ∙ on))
+
+pub owes_nothing : (s t : Standing) → t.owed ≡ false → StillOwes s t
+owes_nothing s t owed was on = absurd (false≢true (sym owed ∙ on))
+
+-- from now on: the step says so
+owes_now : (s t : Standing) (more : List Step) → Ends s t more → 0 < asides more → StillOwes s t
+owes_now s t more end some was on = omega (arith, end.sides, some)
 
 pub goes_same : (s t : Standing) (more : List Step) → Ends s t more → KeepsSame s.keeping t.keeping → s.keeping.faults ≤ t.keeping.faults → t.entries ≡ s.entries → t.messages ≡ s.messages → t.owed ≡ s.owed → t.opened ≡ s.opened → t.limits ≡ s.limits → Goes s t more
 goes_same s t more end same faults entries messages owed opened limits =
-    ends s t more end (ap is_some same.content) same.checkpoints faults (ap (λ e. e.entered) entries) opened limits (for_same s t same entries messages owed)
+    ends s t more end (ap is_some same.content) same.checkpoints faults (ap (λ e. e.entered) entries) opened limits (owes_still s t more end owed) (for_same s t same entries messages owed)
 
 pub goes_cut : (s t : Standing) (more : List Step) (n : ℕ) → Ends s t more → n ≡ s.entries.entered → KeepsSame (cut_to n s.keeping) t.keeping → s.keeping.faults ≤ t.keeping.faults → t.entries ≡ s.entries → t.messages ≡ s.messages → t.owed ≡ false
     → t.opened ≡ s.opened → t.limits ≡ s.limits → Goes s t more
 goes_cut s t more n end count same faults entries messages owed opened limits =
-    ends s t more end (ap is_some same.content ∙ map_told (keep_records n) s.keeping.content) same.checkpoints faults (ap (λ e. e.entered) entries) opened limits (for_cut s t n count same entries messages owed)
+    ends s t more end (ap is_some same.content ∙ map_told (keep_records n) s.keeping.content) same.checkpoints faults (ap (λ e. e.entered) entries) opened limits (owes_nothing s t owed) (for_cut s t n count same entries messages owed)
 
 pub goes_put : (s t : Standing) (more : List Step) (ms : List Message) → Ends s t more → KeepsSame (with_deltas ms s.keeping) t.keeping → s.keeping.faults ≤ t.keeping.faults → t.entries ≡ s.entries → t.owed ≡ s.owed → t.opened ≡ s.opened → t.limits ≡ s.limits
     → StillStand s t → Goes s t more
 goes_put s t more ms end same faults entries owed opened limits still =
-    ends s t more end (ap is_some same.content ∙ map_told (put_behind ms) s.keeping.content) same.checkpoints faults (ap (λ e. e.entered) entries) opened limits (for_put s t ms same entries owed still)
+    ends s t more end (ap is_some same.content ∙ map_told (put_behind ms) s.keeping.content) same.checkpoints faults (ap (λ e. e.entered) entries) opened limits (owes_still s t more end owed) (for_put s t ms same entries owed still)
 
-pub goes_owed : (s t : Standing) (more : List Step) (ms : List Message) → Ends s t more → KeepsSame (with_deltas ms s.keeping) t.keeping → s.keeping.faults ≤ t.keeping.faults → t.entries ≡ s.entries → t.owed ≡ true → t.opened ≡ s.opened → t.limits ≡ s.limits
+pub goes_owed : (s t : Standing) (more : List Step) (ms : List Message) → Ends s t more → 0 < asides more → KeepsSame (with_deltas ms s.keeping) t.keeping → s.keeping.faults ≤ t.keeping.faults → t.entries ≡ s.entries → t.owed ≡ true → t.opened ≡ s.opened → t.limits ≡ s.limits
     → StillStand s t → Goes s t more
-goes_owed s t more ms end same faults entries owed opened limits still =
-    ends s t more end (ap is_some same.content ∙ map_told (put_behind ms) s.keeping.content) same.checkpoints faults (ap (λ e. e.entered) entries) opened limits (for_owed s t ms same entries owed still)
+goes_owed s t more ms end some same faults entries owed opened limits still =
+    ends s t more end (ap is_some same.content ∙ map_told (put_behind ms) s.keeping.content) same.checkpoints faults (ap (λ e. e.entered) entries) opened limits (owes_now s t more end some) (for_owed s t ms same entries owed still)
 
-pub goes_torn : (s t : Standing) (more : List Step) (ms : List Message) (raw : Raw) → Ends s t more → Fits raw → IsText (raw_printed raw)
+pub goes_torn : (s t : Standing) (more : List Step) (ms : List Message) (raw : Raw) → Ends s t more → 0 < asides more → Fits raw → IsText (raw_printed raw)
     → KeepsSame (with_deltas ms s.keeping) t.keeping ⊎ KeepsSame (with_record (raw_printed raw) (with_deltas ms s.keeping)) t.keeping → s.keeping.faults ≤ t.keeping.faults → t.entries ≡ s.entries → s.owed ≡ false → t.owed ≡ true
     → t.opened ≡ s.opened → t.limits ≡ s.limits → StillStand s t → Goes s t more
-goes_torn s t more ms raw end fits text (inl same) faults entries level owed opened limits still = goes_owed s t more ms end same faults entries owed opened limits still
-goes_torn s t more ms raw end fits text (inr same) faults entries level owed opened limits still =
+goes_torn s t more ms raw end some fits text (inl same) faults entries level owed opened limits still = goes_owed s t more ms end some same faults entries owed opened limits still
+goes_torn s t more ms raw end some fits text (inr same) faults entries level owed opened limits still =
     ends s t more end (ap is_some same.content ∙ map_told (add_record (raw_printed raw)) (option_map (put_behind ms) s.keeping.content) ∙ map_told (put_behind ms) s.keeping.content) same.checkpoints faults (ap (λ e. e.entered) entries) opened limits
-    (for_torn s t ms raw fits text same entries level owed still)
+    (owes_now s t more end some) (for_torn s t ms raw fits text same entries level owed still)
 
 -- what stands for the order and no message more
 pub still_nothing : (s t : Standing) → ((o : List Message) → Tells s.keeping.content (StandFor s.messages o) → Tells t.keeping.content (StandFor t.messages (o ++ []))) → StillStand s t
@@ -335,9 +350,9 @@ pub goes_some : (s t : Standing) (more : List Step) (ms : List Message) → Ends
 goes_some s t more ms end puts faults entries owed opened limits still = goes_put s t more (take puts.count ms) end puts.kept faults entries owed opened limits (still_nothing s t still)
 
 -- an append failed behind them
-pub goes_broken : (s t : Standing) (more : List Step) (ms : List Message) (raw : Raw) → Ends s t more → Fits raw → IsTorn (raw_printed raw) (with_deltas ms s.keeping) t.keeping → s.keeping.faults ≤ t.keeping.faults → t.entries ≡ s.entries → s.owed ≡ false → t.owed ≡ true
+pub goes_broken : (s t : Standing) (more : List Step) (ms : List Message) (raw : Raw) → Ends s t more → 0 < asides more → Fits raw → IsTorn (raw_printed raw) (with_deltas ms s.keeping) t.keeping → s.keeping.faults ≤ t.keeping.faults → t.entries ≡ s.entries → s.owed ≡ false → t.owed ≡ true
     → t.opened ≡ s.opened → t.limits ≡ s.limits → ((o : List Message) → Tells s.keeping.content (StandFor s.messages o) → Tells t.keeping.content (StandFor t.messages (o ++ []))) → Goes s t more
-goes_broken s t more ms raw end fits torn faults entries level owed opened limits still = goes_torn s t more ms raw end fits torn.is_text torn.left faults entries level owed opened limits (still_nothing s t still)
+goes_broken s t more ms raw end some fits torn faults entries level owed opened limits still = goes_torn s t more ms raw end some fits torn.is_text torn.left faults entries level owed opened limits (still_nothing s t still)
 
 -- ---- side steps
 
@@ -368,6 +383,7 @@ stored_list s t number text l beside printed same entries messages owed all stan
       number = omega (arith, ap (λ e. e.entered) entries, beside.sides, stands.number, length-append l more);
       last = beside.last ∙ sym (last-append l more);
       noted = noted-append t.keeping.faults l more (noted_more s.keeping.faults t.keeping.faults l beside.later stands.noted) (tt, tt);
+      owes = λ on. omega (arith, beside.sides, stands.owes (sym owed ∙ on));
       told = tells_both t.keeping.content (IsFor t.owed t.entries t.messages (ledger l)) (λ _. s.keeping.checkpoints ≡ s.opened + stored l) (IsTold t (l ++ more))
           (λ c is count. record {
             stands = subst (λ m. IsFor t.owed t.entries t.messages m c) (sym (ledger-append l more ∙ append-nil (ledger l))) is;
@@ -387,6 +403,7 @@ restarted_list s t number l keeping entered owed sides last opened entries messa
       number = omega (arith, entered, sides, stands.number, length-append l more);
       last = last ∙ sym (last-append l more);
       noted = noted-append t.keeping.faults l more (noted_more s.keeping.faults t.keeping.faults l (omega (arith, ap (λ k. k.faults) keeping)) stands.noted) (tt, tt);
+      owes = λ on. omega (arith, sides);
       told = tells_along _ _ (IsTold t (l ++ more)) (sym (ap (λ k. k.content) keeping))
           (tells_both s.keeping.content (IsTold s l) (λ c. (t.entries ≡ entries_of (ledger l)) × StandFor t.messages (order (ledger l)) c) (IsTold t (l ++ more))
           (λ c told new. record {
@@ -415,3 +432,13 @@ goes_restarted s r t number goes keeping entered owed sides last opened limits e
 
 pub nothing_less : (s : Standing) (l : List Step) → LaneStands s (l ++ []) → LaneStands s l
 nothing_less s l stands = subst (LaneStands s) (append-nil l) stands
+
+-- ---- what the keeper is left as
+
+left_by : (s : Standing) (l : List Step) (c : Content) (owed : Bool) → s.entries.entered + s.sides ≤ most → LaneStands s l → IsTold s l c → s.owed ≡ owed → IsLeftFor owed (ledger l) c
+left_by s l c false few stands told is = subst (λ o. IsKept o (ledger l) c) is told.stands.kept
+left_by s l c true few stands told is =
+    kept_whole (ledger l) c (subst (λ o. IsKept o (ledger l) c) is told.stands.kept) (omega (arith, few, stands.owes is, ap (λ e. e.entered) told.stands.entries, entered-entries_of (ledger l)))
+
+pub left_for : (s : Standing) (l : List Step) → s.entries.entered + s.sides ≤ most → LaneStands s l → Tells s.keeping.content (IsLeftFor s.owed (ledger l))
+left_for s l few stands = tells_from s.keeping.content (IsTold s l) (IsLeftFor s.owed (ledger l)) (λ c told. left_by s l c s.owed few stands told refl) stands.told

@@ -1,16 +1,14 @@
 -- A keeper that is kept stays so behind a checkpoint that was stored.
-use Rattle.std.proofs.Common.{◌≡◌, ℕ, ◌≤◌, arith, Bool, List, [], ◌∷◌, ◌++◌, length, map, Some, slice_get, inl, refl, sym, ap, ◌∙◌, append-nil, length-append}
+use Rattle.std.proofs.Common.{◌≡◌, ℕ, arith, Bool, List, [], ◌∷◌, ◌++◌, length, Some, slice_get, inl, refl, sym, ap, ◌∙◌, append-nil}
 use Rattle.std.proofs.lemmas.List.{length-map}
-use Rattle.std.proofs.lemmas.List.Elements.{All-push, All-weaker}
+use Rattle.std.proofs.lemmas.List.Elements.{All-push}
 use Rattle.fluid_io.specs.Causes.{Tells}
-use Rattle.fluid_types.specs.declared.messages.Message.{Message}
 use Rattle.fluid_types.specs.Printed.{message_printed}
 use Rattle.fluid_types.specs.Ledger.{Ledger, order, seq}
 use Rattle.fluid_log.specs.Keeping.{Content, Keeping, HasLengths, IsSized}
 use Rattle.fluid_log.specs.Calls.{KeepsSame, add_checkpoint, with_checkpoint}
 use Rattle.fluid_deltas.proofs.Telling.{tells_along, tells_becomes}
-use Rattle.fluid_deltas.specs.Pushed.{AreDeltasOf}
-use Rattle.fluid_deltas.specs.Flushes.{put_behind, AreAll}
+use Rattle.fluid_deltas.specs.Flushes.{AreAll}
 use Rattle.fluid_lane.specs.Calls.{HasCheckpoint}
 use Rattle.fluid_document.specs.Entries.{entries_of}
 use Rattle.fluid_document.specs.Kept.{IsCheckpointOf, IsPrinted, IsKept}

@@ -1,5 +1,5 @@
 -- What a sweep makes of a lane where somebody is silent.
-use Rattle.std.proofs.Common.{◌≡◌, ℕ, ◌<◌, true, false, List, [], slice_get, Option, Some, Err, refl, sym, subst, ◌∙◌, arith}
+use Rattle.std.proofs.Common.{◌≡◌, ℕ, ◌<◌, true, false, List, [], slice_get, Some, Err, refl, sym, subst, ◌∙◌, arith}
 use Rattle.std.specs.FinMap.{keys, len}
 use Rattle.fluid_types.specs.declared.entries.Raw.TheVariants.{Leave}
 use Rattle.fluid_clients.specs.Table.{Rows}
@@ -10,7 +10,7 @@ use Rattle.fluid_lane.specs.Faults.{IsCausedBy, IsLogFailed, IsOutside}
 use Rattle.fluid_lane.specs.Standing.{Standing, is_worn}
 use Rattle.fluid_lane.specs.Refusals.{IsCutFailed}
 use Rattle.fluid_lane.specs.Calls.{settled}
-use Rattle.fluid_lane.specs.Sweeps.{first_silent, Sweeps, SweepsBy}
+use Rattle.fluid_lane.specs.Sweeps.{first_silent, SweepsBy}
 use Rattle.fluid_lane.proofs.Ids.{length-keys}
 use Rattle.fluid_lane.proofs.Quiet.{at_place}
 use Rattle.fluid_lane.proofs.Gated.{gated_worn, gated_cut, gated_on}

@@ -120,7 +120,7 @@ SettledBy new (Err other) = new.owed ≡ false
 
 abbrev pub StoreKept : {A : Type 0} → Standing → Standing → Result A LaneFault → Type 0
 StoreKept old new (Ok number) = KeepsSame (with_checkpoint (checkpoint_text old.entries) (flushed old)) new.keeping
-StoreKept old new (Err (LogFailed note)) = IsCutFailed old new ⊎ ((new.owed ≡ false) × KeepsSame (flushed old) new.keeping)
+StoreKept old new (Err (LogFailed note)) = IsCutFailed old new ⊎ ((length (checkpoint_text old.entries) ≤ old.limits.bytes) × ((new.owed ≡ false) × KeepsSame (flushed old) new.keeping))
 StoreKept old new (Err CheckpointsFull) = KeepsSame (settled old) new.keeping
 StoreKept old new (Err (TooLarge bytes)) = KeepsSame (flushed old) new.keeping
 StoreKept old new (Err Worn) = KeepsSame old.keeping new.keeping

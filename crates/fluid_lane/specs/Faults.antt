@@ -1,5 +1,5 @@
 -- The faults of a lane: which are the keeper's, and what a note of them tells.
-use Rattle.std.specs.Prelude.{◌≡◌, ⊤, ℕ}
+use Rattle.std.specs.Prelude.{⊤, ℕ}
 use Rattle.fluid_deltas.specs.Ranges.{IsNoted}
 use Rattle.fluid_document.specs.declared.fault.LoadFault.{LoadFault}
 use Rattle.fluid_document.specs.declared.fault.LoadFault.TheVariants as loading

@@ -1,5 +1,5 @@
 -- What a lane says of the ledger for which it stands, in the words of the rules, and what an opening adds.
-use Rattle.std.specs.Prelude.{◌≡◌, ℕ, ◌+◌, nat_lt, List, length, map, Option}
+use Rattle.std.specs.Prelude.{◌≡◌, ◌⊎◌, ℕ, ◌+◌, nat_lt, Bool, true, false, List, [], ◌∷◌, length, map, Option, Some}
 use Rattle.std.specs.FinMap.{keys, len}
 use Rattle.fluid_io.specs.Causes.{Tells}
 use Rattle.fluid_types.specs.Ledger.{Ledger, order, seq}
@@ -9,13 +9,16 @@ use Rattle.fluid_types.specs.declared.verdicts.Verdict.{Verdict}
 use Rattle.fluid_rules.specs.Rules as rules
 use Rattle.fluid_rules.specs.Rules.{IsLegal, joined, heard}
 use Rattle.fluid_rules.specs.Scribe.{acks}
+use Rattle.fluid_rules.specs.Counted.{counted}
 use Rattle.fluid_scribe.specs.Jobs.{job}
 use Rattle.fluid_ticket.specs.State as ticket
 use Rattle.fluid_core.specs.Entering.{verdict_in, job_of, state_of}
+use Rattle.fluid_lane.specs.declared.fault.LaneFault.{LaneFault}
 use Rattle.fluid_lane.specs.declared.steps.Step.{Step}
 use Rattle.fluid_lane.specs.Steps.{ledger, steps}
 use Rattle.fluid_lane.specs.Standing.{Standing, LaneStands}
 use Rattle.fluid_lane.specs.Starting.{run, leaves}
+use Rattle.fluid_lane.specs.Refusals.{first_refusal}
 use Rattle.fluid_lane.specs.Sweeps.{first_by, first_silent}
 
 -- ---- the ledger
@@ -27,6 +30,7 @@ first_silent_in moment silence l = first_by (λ id. nat_lt (heard l id + silence
 pub record SaysOf (s : Standing) (l : Ledger) : Type 0 where
   pub legal : IsLegal l
   pub entered : s.entries.entered ≡ length l
+  pub counted : s.entries.counted ≡ counted l
   pub seq : s.entries.state.sequencer.sequence ≡ seq l
   pub min : ticket.minimum s.entries.state.sequencer ≡ rules.minimum l
   -- the joined clients, in byte order of ids, and as many
@@ -48,3 +52,14 @@ LedgerOfSteps = (l : Ledger) → ledger (steps l) ≡ l
 -- an opening enters a leave of each joined client, in byte order of ids
 abbrev pub OpeningLeaves : Type 0
 OpeningLeaves = (moment : ℕ) (l : Ledger) → IsLegal l → map (λ (entry : Raw × Verdict). entry.0) (run (state_of l) (leaves moment (state_of l))) ≡ map (λ id. Leave id moment) (joined l)
+
+-- ---- rules that refuse
+
+-- this rule refuses, with this fault, and none before it does
+abbrev pub Fires : List (Bool × LaneFault) → LaneFault → Type 0
+Fires [] fault = ⊥
+Fires ((refuses, own) ∷ rules) fault = ((refuses ≡ true) × (fault ≡ own)) ⊎ ((refuses ≡ false) × Fires rules fault)
+
+-- the first refusal is that of a rule that refuses
+abbrev pub RefusalsFire : Type 0
+RefusalsFire = (rules : List (Bool × LaneFault)) (fault : LaneFault) → first_refusal rules ≡ Some fault → Fires rules fault

@@ -1,5 +1,5 @@
 -- Why a call of a lane is refused: the rules that refuse it, in their order, and the faults that may come where none does.
-use Rattle.std.specs.Prelude.{◌≡◌, ℕ, nat_le, Bool, true, false, ◌&&◌, ◌⊎◌, List, [], ◌∷◌, Option, Some, None, IsSome, Result, Ok, Err, IfErr, OnOk}
+use Rattle.std.specs.Prelude.{◌≡◌, ℕ, nat_le, Bool, true, false, ◌&&◌, ◌⊎◌, List, [], ◌∷◌, Option, Some, None, IsSome, Result, Err, IfErr, OnOk}
 use Rattle.std.specs.FinMap.{len}
 use Rattle.fluid_types.specs.declared.entries.Raw.{Raw}
 use Rattle.fluid_rules.specs.Counted.{is_counted}

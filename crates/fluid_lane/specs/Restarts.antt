@@ -1,16 +1,15 @@
 -- What a restart makes of a lane, by its answer.
-use Rattle.std.specs.Prelude.{◌≡◌, ◌≢◌, ℕ, ⊤, false, ◌⊎◌, codes, Some, Result, Ok, Err, IfErr, OnErr}
+use Rattle.std.specs.Prelude.{◌≡◌, ◌≢◌, ℕ, ⊤, false, ◌⊎◌, codes, Some, Result, Ok, Err, IfErr}
 use Rattle.std.specs.FinMap.{keys}
 use Rattle.fluid_io.specs.Causes.{Tells}
-use Rattle.fluid_log.specs.Keeping.{Content, Keeping}
+use Rattle.fluid_log.specs.Keeping.{Content}
 use Rattle.fluid_log.specs.Calls.{KeepsSame}
 use Rattle.fluid_checkpoint.specs.declared.fault.CheckpointFault.TheVariants.{BadField}
 use Rattle.fluid_document.specs.Entries.{Entries, InMemory}
 use Rattle.fluid_document.specs.Loading.{loaded, ReadsBehind, PutsDeltas}
-use Rattle.fluid_document.specs.declared.fault.LoadFault.{LoadFault}
 use Rattle.fluid_document.specs.declared.fault.LoadFault.TheVariants as loading
 use Rattle.fluid_lane.specs.declared.fault.LaneFault.{LaneFault}
-use Rattle.fluid_lane.specs.declared.fault.LaneFault.TheVariants.{LogFailed, BadRecord, NoCheckpoint, DeltaFailed, NoMemory, BadCheckpoint, Worn}
+use Rattle.fluid_lane.specs.declared.fault.LaneFault.TheVariants.{LogFailed, BadRecord, NoCheckpoint, BadCheckpoint, Worn}
 use Rattle.fluid_lane.specs.Faults.{IsCausedBy}
 use Rattle.fluid_lane.specs.Standing.{Standing}
 use Rattle.fluid_lane.specs.Refusals.{IsCutFailed}

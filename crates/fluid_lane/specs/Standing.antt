@@ -1,17 +1,18 @@
 -- A lane, and the list of steps for which it stands.
-use Rattle.std.specs.Prelude.{◌≡◌, ℕ, ◌+◌, ◌<◌, ◌≤◌, nat_le, Bool, false, ⊤, List, ◌++◌, length, Option, is_some, IsSome}
+use Rattle.std.specs.Prelude.{◌≡◌, ◌⊎◌, ℕ, ◌+◌, ◌<◌, ◌≤◌, nat_le, Bool, true, false, ⊤, List, [], ◌∷◌, ◌++◌, length, Option, is_some, IsSome}
 use Rattle.std.specs.Option.{option_or}
 use Rattle.std.specs.FinMap.{get}
 use Rattle.fluid_io.specs.Causes.{Tells}
 use Rattle.fluid_types.specs.Names.{entry_name}
 use Rattle.fluid_types.specs.Ledger.{Ledger, order}
 use Rattle.fluid_types.specs.declared.entries.Raw.{Raw}
-use Rattle.fluid_types.specs.declared.entries.Raw.TheVariants.{Join, Leave, Submit, Report}
+use Rattle.fluid_types.specs.declared.entries.Raw.TheVariants.{Join, Leave, Submit}
+use Rattle.fluid_rules.specs.Rules.{verdict}
 use Rattle.fluid_clients.specs.Table.{Rows}
 use Rattle.fluid_log.specs.Keeping.{Content, Keeping}
 use Rattle.fluid_log.specs.declared.keeper.TheConstants.{LONGEST_KEPT}
 use Rattle.fluid_deltas.specs.Pushed.{Pushed, StandFor}
-use Rattle.fluid_document.specs.Entries.{Entries, IsLevelled, most, entries_of}
+use Rattle.fluid_document.specs.Entries.{Entries, most, entries_of}
 use Rattle.fluid_document.specs.Kept.{IsKept}
 use Rattle.fluid_rules.specs.declared.limits.Limits.{Limits}
 use Rattle.fluid_lane.specs.declared.steps.Side.{Side}
@@ -71,7 +72,14 @@ pub record LaneStands (s : Standing) (l : List Step) : Type 0 where
   pub number : s.entries.entered + s.sides ≡ length l
   pub last : s.last ≡ last_side l
   pub noted : AreNoted s.keeping.faults l
+  -- who owes a cut has the step of the append that failed
+  pub owes : s.owed ≡ true → 0 < s.sides
   pub told : Tells s.keeping.content (IsTold s l)
+
+-- what a keeper is left as: kept for the ledger. Where a cut is owed perhaps for it with the entry whose record stands behind it
+abbrev pub IsLeftFor : Bool → Ledger → Content → Type 0
+IsLeftFor false l content = IsKept false l content
+IsLeftFor true l content = IsKept false l content ⊎ ((raw : Raw) × IsKept false (l ++ (raw, verdict l raw) ∷ []) content)
 
 -- as many entries and side steps as there can be
 abbrev pub is_worn : Standing → Bool

@@ -1,5 +1,5 @@
 -- How a lane begins: behind what is kept comes a leave of each client that is joined.
-use Rattle.std.specs.Prelude.{◌≡◌, ℕ, ◌+◌, ◌<◌, ◌≤◌, ⊤, ◌⊎◌, false, List, [], ◌∷◌, ◌++◌, length, map, Option, None, is_some, Result, Ok, Err, IfErr}
+use Rattle.std.specs.Prelude.{◌≡◌, ℕ, ◌+◌, ◌<◌, ◌≤◌, ⊤, ◌⊎◌, false, List, [], ◌∷◌, ◌++◌, length, map, Option, None, is_some, Result, Ok, Err}
 use Rattle.std.specs.FinMap.{keys, len}
 use Rattle.fluid_io.specs.Causes.{Tells}
 use Rattle.fluid_types.specs.Fits.{Fits}

@@ -19,7 +19,7 @@ ghost use Rattle.fluid_document.specs.Loading.{loaded, ReadsBehind, PutsDeltas};
 ghost use Rattle.fluid_lane.specs.declared.steps.Step.{Step as AStep};
 ghost use Rattle.fluid_lane.specs.Faults.{IsCausedBy, IsLogFailed, IsOutside, IsReadFault};
 ghost use Rattle.fluid_lane.specs.Steps.{ledger, steps_of, range_steps, entered_by, joined_by, stored_by, restarted_by, nothing_by, swept_by};
-ghost use Rattle.fluid_lane.specs.Standing.{LaneStands, IsSafe, Goes, IsOwn, IsLeaveOrSubmission, is_worn};
+ghost use Rattle.fluid_lane.specs.Standing.{LaneStands, IsSafe, IsLeftFor, Goes, IsOwn, IsLeaveOrSubmission, is_worn};
 ghost use Rattle.fluid_lane.specs.Refusals.{IsGated, IsCutFailed, is_full, is_full_for, has_too_many, has_checkpoints, has_no_checkpoint};
 ghost use Rattle.fluid_lane.specs.Calls.{Enters, AddKept, OwesBy, TakesUp, Stores, IsStoreFault, IsFlushFault, IsOutsideLog, FlushKept, IsBeside, HasCheckpoint, missing, settled};
 ghost use Rattle.fluid_lane.specs.Restarts.{Restarts, Reloads, IsNotBad};
@@ -93,6 +93,7 @@ impl<K: Keeper> Lane<K> {
     pub fn seq(&self) -> u64
         ensures is { result ≡ self.now.entries.state.sequencer.sequence }
         ensures few { result ≤ self.now.entries.entered }
+        ensures bound { result ≤ most }
     {
         let _entered = self.document.entered();
         self.document.seq()
@@ -107,7 +108,8 @@ impl<K: Keeper> Lane<K> {
 
     /// How many raw entries are entered. Takes no memory.
     pub fn entered(&self) -> u64
-        ensures { result ≡ self.now.entries.entered }
+        ensures is { result ≡ self.now.entries.entered }
+        ensures few { result ≤ most }
     {
         self.document.entered()
     }
@@ -118,6 +120,14 @@ impl<K: Keeper> Lane<K> {
         ensures few { result ≤ most }
     {
         self.document.entered() + self.sides
+    }
+
+    /// How many side steps were taken. Takes no memory.
+    pub fn sides(&self) -> u64
+        ensures is { result ≡ self.now.sides }
+        ensures few { result ≤ most }
+    {
+        self.sides
     }
 
     /// The last side step. Takes no memory.
@@ -165,10 +175,11 @@ impl<K: Keeper> Lane<K> {
     }
 
     /// Gives the keeper. Where it tells its content and the lane stands for a list, it is kept for its ledger, but for a cut that
-    /// is owed.
+    /// is owed: a lane can be started over it in any case, for that ledger or for it with the entry whose append failed.
     pub fn close(self) -> K
         ensures keeper { K.seen result ≡ self.keeping }
         ensures kept { (l : List AStep) → LaneStands self l → Tells (K.seen result).content (IsKept self.owed (ledger l)) }
+        ensures left { (l : List AStep) → LaneStands self l → Tells (K.seen result).content (IsLeftFor self.owed (ledger l)) }
     {
         let Lane { keeper, .. } = self;
         keeper

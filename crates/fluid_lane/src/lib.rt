@@ -19,5 +19,5 @@ pub use fault::LaneFault;
 pub use fluid_core::{Core, CoreReady};
 pub use fluid_rules::Limits;
 pub use lane::Lane;
-pub use laws::{lanes_say_their_ledgers, openings_leave};
+pub use laws::{lanes_say_their_ledgers, openings_leave, refusals_fire};
 pub use steps::{Side, Step};

@@ -1,4 +1,4 @@
-use Rattle.std.proofs.Common.{refl, inl, inr, arith}
+use Rattle.std.proofs.Common.{inr, arith}
 use Rattle.fluid_readback.proofs.Fitting.{leaves_fit}
 use Rattle.fluid_lane.proofs.Leaving.{is_first}
 use Rattle.fluid_lane.proofs.start.dismiss_first.Goals as goal

@@ -1,8 +1,6 @@
-use Rattle.std.proofs.Common.{◌≡◌, false, refl, sym, ap, subst, ◌∙◌, rules, arith}
+use Rattle.std.proofs.Common.{refl, sym, ap, subst, ◌∙◌, arith}
 use Rattle.fluid_types.specs.Printed.{raw_printed}
-use Rattle.fluid_document.specs.Rooms.{for_room}
 use Rattle.fluid_lane.specs.Standing.{IsOwn, is_worn}
-use Rattle.fluid_lane.specs.Calls.{AddKept}
 use Rattle.fluid_lane.proofs.Stands.{goes_from, goes_to, goes_some, goes_broken, enters, quietly, failed}
 use Rattle.fluid_lane.proofs.Safe.{safe_beside, safe_entered, safe_torn, not_worn}
 use Rattle.fluid_lane.proofs.lane.Lane.add.Goals as goal
@@ -44,7 +42,7 @@ returns-in-Err-LogFailed-clause-goes g c =
     let level = ap (λ s. s.owed) c.self.view_is ∙ c.requires.level in
     goes_to _ _ _ _ c.failed.ensures
     (goes_from _ _ _ _ c.self.view_is
-    (goes_broken _ _ _ _ c.args.raw.now (failed _ _ c.in-Err-LogFailed.note refl refl e.cause.last) c.requires.fits e.does.1 e.later e.does.0 level refl refl refl e.stands))
+    (goes_broken _ _ _ _ c.args.raw.now (failed _ _ c.in-Err-LogFailed.note refl refl e.cause.last) (omega arith) c.requires.fits e.does.1 e.later e.does.0 level refl refl refl e.stands))
 
 pub returns-in-Err-DeltaFailed-clause-goes : goal.returns-in-Err-DeltaFailed-clause-goes
 returns-in-Err-DeltaFailed-clause-goes g c =

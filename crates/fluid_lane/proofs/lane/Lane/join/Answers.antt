@@ -6,7 +6,6 @@ use Rattle.fluid_types.specs.Names.{entry_name}
 use Rattle.fluid_rules.specs.Past.{is_sequenced}
 use Rattle.fluid_lane.specs.Standing.{AreNamed}
 use Rattle.fluid_lane.proofs.Named.{join_is_sequenced}
-use Rattle.fluid_lane.proofs.Stands.{goes_nowhere, goes_on}
 use Rattle.fluid_lane.proofs.lane.Lane.join.Goals as goal
 
 pub sequenced-requires : goal.sequenced-requires

@@ -1,8 +1,7 @@
-use Rattle.std.proofs.Common.{refl, ap, sym, subst, ◌∙◌}
+use Rattle.std.proofs.Common.{refl, ap}
 use Rattle.fluid_types.specs.Ledger.{order}
-use Rattle.fluid_deltas.specs.Ranges.{AreHeld}
 use Rattle.fluid_lane.specs.Steps.{ledger}
-use Rattle.fluid_lane.proofs.Stands.{goes_from, goes_to, goes_nowhere, goes_same, quietly, failed}
+use Rattle.fluid_lane.proofs.Stands.{goes_from, goes_to, goes_same, quietly, failed}
 use Rattle.fluid_lane.proofs.Flushing.{sliced, same_parts, ranges_of}
 use Rattle.fluid_lane.proofs.Safe.{safe_same}
 use Rattle.fluid_lane.proofs.lane.Lane.range.Goals as goal

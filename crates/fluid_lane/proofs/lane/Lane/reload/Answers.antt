@@ -1,4 +1,4 @@
-use Rattle.std.proofs.Common.{false, Ok, Err, refl, sym, ap, subst, ◌∙◌, arith}
+use Rattle.std.proofs.Common.{Ok, Err, refl, sym, ap, subst, ◌∙◌, arith}
 use Rattle.std.proofs.lemmas.Bool.{false≢true}
 use Rattle.std.specs.FinMap.{keys}
 use Rattle.fluid_io.specs.Causes.{Tells}

@@ -1,7 +1,6 @@
 use Rattle.std.proofs.Common.{◌+◌, Some, ap, refl, sym, subst, arith, ◌∙◌, ◌≡◌, false}
 use Rattle.std.specs.FinMap.{keys}
 use Rattle.fluid_log.specs.Keeping.{IsSized}
-use Rattle.fluid_deltas.proofs.Telling.{tells_each}
 use Rattle.fluid_document.specs.Entries.{entries_of}
 use Rattle.fluid_document.specs.Loading.{ReadsBehind, PutsDeltas}
 use Rattle.fluid_io.specs.Causes.{Tells}

@@ -1,4 +1,4 @@
-use Rattle.std.proofs.Common.{◌≡◌, refl, sym, ap, subst, ◌∙◌, arith, inl, inr, Ok, Err}
+use Rattle.std.proofs.Common.{◌≡◌, sym, ap, subst, ◌∙◌, arith, Ok, Err}
 use Rattle.fluid_io.specs.Causes.{Tells}
 use Rattle.fluid_deltas.proofs.Telling.{tells_each}
 use Rattle.fluid_document.specs.Loading.{newest, loaded, ReadsBehind, IsBadAs}

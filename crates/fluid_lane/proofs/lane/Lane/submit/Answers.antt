@@ -1,1 +1,0 @@
-use Rattle.fluid_lane.proofs.lane.Lane.submit.Goals as goal
