@@ -13,9 +13,9 @@ use Rattle.fluid_rules.specs.declared.limits.Limits.{Limits}
 use Rattle.fluid_codec.specs.declared.replies.Reply.TheVariants.{Nacked}
 use Rattle.fluid_store.specs.Held.{Held}
 use Rattle.fluid_voice.specs.declared.states.VoiceState.TheVariants.{Writing}
-use Rattle.fluid_voice.specs.Heard.{entries}
-use Rattle.fluid_voice.specs.Answered.{verdict_replies}
-use Rattle.fluid_voice.specs.Refusals.{front}
+use Rattle.fluid_voice.specs.Heard.{submission_acts}
+use Rattle.fluid_voice.specs.Replies.{verdict_replies}
+use Rattle.fluid_voice.specs.Refusals.{front_nack}
 use Rattle.fluid_transcript.specs.World.{Document, World}
 use Rattle.fluid_transcript.specs.Lines.{reply_line}
 use Rattle.fluid_transcript.specs.Connections.{Hearing, hear}
@@ -48,7 +48,7 @@ abbrev pub verdict_lines : (c name : List ℕ) → Verdict → List (List ℕ)
 verdict_lines c name v = map (reply_line c) (verdict_replies (Some name) v)
 
 abbrev pub full_line : (c name : List ℕ) → List ℕ
-full_line c name = reply_line c (Nacked (Some name) (front Full))
+full_line c name = reply_line c (Nacked (Some name) (front_nack Full))
 
 -- of these entries, so many are entered, each with its verdict over all before it, and the others are refused as full
 abbrev pub submission_lines : (c name : List ℕ) → Ledger → List Raw → (most : ℕ) → List (List ℕ)
@@ -72,6 +72,7 @@ behind_all limits c d name id next store before lines raws =
 -- the acts of a text that are submissions are one row
 abbrev pub SubmissionsAreOneRow : Type 0
 SubmissionsAreOneRow =
-    (limits : Limits) (c : List ℕ) (d : Document) (name id : List ℕ) (next : ℕ) (store : Held) (moment : ℕ) (submissions : List Submission) (before : List Raw)
-    (lines : List (List ℕ)) → hear limits c d (writing name id next store before lines) (entries moment id submissions)
+    (limits : Limits) (opened : List (List ℕ)) (c : List ℕ) (d : Document) (name id : List ℕ) (next : ℕ) (store : Held) (moment : ℕ)
+    (submissions : List Submission) (before : List Raw) (lines : List (List ℕ))
+    → hear limits opened c d (writing name id next store before lines) (submission_acts moment id submissions)
     ≡ behind_all limits c d name id next store before lines (raws_of moment id submissions)
