@@ -13,12 +13,14 @@ use Rattle.fluid_rules.specs.declared.limits.Limits.{Limits}
 use Rattle.fluid_codec.specs.declared.replies.Reply.TheVariants.{Nacked}
 use Rattle.fluid_store.specs.Held.{Held}
 use Rattle.fluid_voice.specs.declared.states.VoiceState.TheVariants.{Writing}
+use Rattle.fluid_voice.specs.declared.actions.Act.{Act}
 use Rattle.fluid_voice.specs.Heard.{submission_acts}
+use Rattle.fluid_voice.specs.Ends.{found_behind}
 use Rattle.fluid_voice.specs.Replies.{verdict_replies}
 use Rattle.fluid_voice.specs.Refusals.{front_nack}
 use Rattle.fluid_transcript.specs.World.{Document, World}
 use Rattle.fluid_transcript.specs.Lines.{reply_line}
-use Rattle.fluid_transcript.specs.Connections.{Hearing, hear}
+use Rattle.fluid_transcript.specs.Connections.{Hearing, found_by, hear}
 use Rattle.fluid_transcript.specs.Transcript.{taken, behind, lines_of, written, transcript}
 
 -- ---- one line more at the end
@@ -36,6 +38,14 @@ abbrev pub TranscriptGrows : Type 0
 TranscriptGrows =
     (limits : Limits) (w : World) (lines : List (List ℕ)) (line : List ℕ)
     → transcript limits w (lines ++ line ∷ []) ≡ transcript limits w lines ++ written (taken limits (behind limits w lines) line).lines
+
+-- ---- acts one after another
+
+-- what is found behind a hearing is what its acts leave, where nobody else comes between
+abbrev pub LeavesWhatActsLeave : Type 0
+LeavesWhatActsLeave =
+    (limits : Limits) (opened : List (List ℕ)) (c : List ℕ) (d : Document) (h : Hearing) (acts : List Act)
+    → found_by limits opened d (hear limits opened c d h acts) ≡ found_behind (found_by limits opened d h) acts
 
 -- ---- a whole text of submissions
 
