@@ -2,3 +2,4 @@ mod Computed
 mod LinesComputed
 mod Growing
 mod Rowed
+mod Leaving

@@ -15,27 +15,27 @@ use Rattle.fluid_rules.proofs.Counted.{counted-push}
 use Rattle.fluid_rules.proofs.Legal.{ledger-push}
 use Rattle.fluid_store.specs.Held.{Held}
 use Rattle.fluid_voice.specs.declared.actions.Act.TheVariants as act
-use Rattle.fluid_voice.specs.Heard.{entries}
+use Rattle.fluid_voice.specs.Heard.{submission_acts}
 use Rattle.fluid_transcript.specs.World.{Document}
 use Rattle.fluid_transcript.specs.Connections.{hear, hear_act}
 use Rattle.fluid_transcript.specs.Laws.{raws_of, verdict_lines, full_line, submission_lines, writing, ledger_with, behind_all, SubmissionsAreOneRow}
 
-module _ (limits : Limits) (c : List ℕ) (d : Document) (name id : List ℕ) (next : ℕ) (store : Held) (moment : ℕ) where
+module _ (limits : Limits) (opened : List (List ℕ)) (c : List ℕ) (d : Document) (name id : List ℕ) (next : ℕ) (store : Held) (moment : ℕ) where
   one_full : (s : Submission) (before : List Raw) (lines : List (List ℕ)) → nat_le limits.entries (counted (ledger_with d before)) ≡ true
-      → hear_act limits c d (writing name id next store before lines) (act.Enter (Submit id s moment)) ≡ writing name id next store before (lines ++ full_line c name ∷ [])
+      → hear_act limits opened c d (writing name id next store before lines) (act.Enter (Submit id s moment)) ≡ writing name id next store before (lines ++ full_line c name ∷ [])
   one_full s before lines is = rw is (ap (λ raws. writing name id next store raws (lines ++ full_line c name ∷ [])) (append-nil before))
 
   one_entered : (s : Submission) (before : List Raw) (lines : List (List ℕ)) → nat_le limits.entries (counted (ledger_with d before)) ≡ false
-      → hear_act limits c d (writing name id next store before lines) (act.Enter (Submit id s moment))
+      → hear_act limits opened c d (writing name id next store before lines) (act.Enter (Submit id s moment))
       ≡ writing name id next store (before ++ Submit id s moment ∷ []) (lines ++ verdict_lines c name (verdict (ledger_with d before) (Submit id s moment)))
   one_entered s before lines is = rw is refl
 
   all_full : (submissions : List Submission) (before : List Raw) (lines : List (List ℕ)) → nat_le limits.entries (counted (ledger_with d before)) ≡ true
-      → hear limits c d (writing name id next store before lines) (entries moment id submissions)
+      → hear limits opened c d (writing name id next store before lines) (submission_acts moment id submissions)
       ≡ writing name id next store before (lines ++ map (λ raw. full_line c name) (raws_of moment id submissions))
   all_full [] before lines is = ap (writing name id next store before) (sym (append-nil lines))
   all_full (s ∷ rest) before lines is =
-      ap (λ h. hear limits c d h (entries moment id rest)) (one_full s before lines is)
+      ap (λ h. hear limits opened c d h (submission_acts moment id rest)) (one_full s before lines is)
       ∙ all_full rest before (lines ++ full_line c name ∷ []) is
       ∙ ap (writing name id next store before) (append_assoc lines (full_line c name ∷ []) (map (λ raw. full_line c name) (raws_of moment id rest)))
 
@@ -72,16 +72,16 @@ module _ (limits : Limits) (c : List ℕ) (d : Document) (name id : List ℕ) (n
 
   -- the first of several, by whether the document is full
   rowed_by : (s : Submission) (rest : List Submission) (before : List Raw) (lines : List (List ℕ)) (full : Bool) → nat_le limits.entries (counted (ledger_with d before)) ≡ full
-      → hear limits c d (writing name id next store (before ++ Submit id s moment ∷ []) (lines ++ verdict_lines c name (verdict (ledger_with d before) (Submit id s moment)))) (entries moment id rest)
+      → hear limits opened c d (writing name id next store (before ++ Submit id s moment ∷ []) (lines ++ verdict_lines c name (verdict (ledger_with d before) (Submit id s moment)))) (submission_acts moment id rest)
       ≡ behind_all limits c d name id next store (before ++ Submit id s moment ∷ []) (lines ++ verdict_lines c name (verdict (ledger_with d before) (Submit id s moment))) (raws_of moment id rest)
-      → hear limits c d (writing name id next store before lines) (entries moment id (s ∷ rest)) ≡ behind_all limits c d name id next store before lines (raws_of moment id (s ∷ rest))
+      → hear limits opened c d (writing name id next store before lines) (submission_acts moment id (s ∷ rest)) ≡ behind_all limits c d name id next store before lines (raws_of moment id (s ∷ rest))
   rowed_by s rest before lines true is others =
       all_full (s ∷ rest) before lines is
       ∙ ap (λ raws. writing name id next store raws (lines ++ submission_lines c name (ledger_with d before) (raws_of moment id (s ∷ rest)) 0)) (sym (append-nil before))
       ∙ ap (λ most. writing name id next store (before ++ take most (raws_of moment id (s ∷ rest))) (lines ++ submission_lines c name (ledger_with d before) (raws_of moment id (s ∷ rest)) most))
       (sym (no_room limits.entries (counted (ledger_with d before)) is))
   rowed_by s rest before lines false is others =
-      ap (λ h. hear limits c d h (entries moment id rest)) (one_entered s before lines is)
+      ap (λ h. hear limits opened c d h (submission_acts moment id rest)) (one_entered s before lines is)
       ∙ others
       ∙ first_then (Submit id s moment) (verdict (ledger_with d before) (Submit id s moment)) (raws_of moment id rest) before lines
       (room limits.entries (ledger_with d (before ++ Submit id s moment ∷ []))) (ledger_with d before) (ledger_with d (before ++ Submit id s moment ∷ [])) refl
@@ -90,11 +90,11 @@ module _ (limits : Limits) (c : List ℕ) (d : Document) (name id : List ℕ) (n
       (sym (less_room limits.entries (counted (ledger_with d before)) (counted (ledger_with d (before ++ Submit id s moment ∷ []))) is (counted_more s before)))
 
   rowed : (submissions : List Submission) (before : List Raw) (lines : List (List ℕ))
-      → hear limits c d (writing name id next store before lines) (entries moment id submissions) ≡ behind_all limits c d name id next store before lines (raws_of moment id submissions)
+      → hear limits opened c d (writing name id next store before lines) (submission_acts moment id submissions) ≡ behind_all limits c d name id next store before lines (raws_of moment id submissions)
   rowed [] before lines = none_left (room limits.entries (ledger_with d before)) (ledger_with d before) before lines
   rowed (s ∷ rest) before lines =
       rowed_by s rest before lines (nat_le limits.entries (counted (ledger_with d before))) refl
       (rowed rest (before ++ Submit id s moment ∷ []) (lines ++ verdict_lines c name (verdict (ledger_with d before) (Submit id s moment))))
 
 pub one_row : SubmissionsAreOneRow
-one_row limits c d name id next store moment submissions before lines = rowed limits c d name id next store moment submissions before lines
+one_row limits opened c d name id next store moment submissions before lines = rowed limits opened c d name id next store moment submissions before lines

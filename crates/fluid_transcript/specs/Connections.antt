@@ -1,12 +1,10 @@
 -- The steps of a connection: `send`, `collect` and `close`.
-use Rattle.std.specs.Prelude.{ℕ, ◌+◌, ◌-◌, List, [], ◌∷◌, ◌++◌, map, drop, fold, Option, Some, None, if◌then◌else◌}
+use Rattle.std.specs.Prelude.{ℕ, List, [], ◌∷◌, ◌++◌, map, fold, slice_get, Option, Some, None}
 use Rattle.std.specs.List.{filter_map}
 use Rattle.std.specs.Option.{option_or, option_to_list}
-use Rattle.std.specs.Prelude.{slice_get}
-use Rattle.std.specs.FinMap.{get, insert}
-use Rattle.sha1.specs.Sha1.{sha1}
+use Rattle.std.specs.FinMap.{get}
 use Rattle.fluid_types.specs.declared.entries.Raw.{Raw}
-use Rattle.fluid_types.specs.Ledger.{Ledger, order, seq}
+use Rattle.fluid_types.specs.Ledger.{Ledger, order}
 use Rattle.fluid_rules.specs.Rules.{ledger}
 use Rattle.fluid_rules.specs.declared.limits.Limits.{Limits}
 use Rattle.fluid_store.specs.Held.{Held}
@@ -14,16 +12,15 @@ use Rattle.fluid_voice.specs.declared.states.VoiceState.{VoiceState}
 use Rattle.fluid_voice.specs.declared.states.VoiceState.TheVariants.{Fresh, Used}
 use Rattle.fluid_voice.specs.declared.actions.Act.{Act}
 use Rattle.fluid_voice.specs.declared.actions.Act.TheVariants as act
-use Rattle.fluid_voice.specs.declared.ends.ActEnd.{ActEnd}
-use Rattle.fluid_voice.specs.declared.ends.ActEnd.TheVariants.{Said}
-use Rattle.fluid_voice.specs.declared.refusals.Refusal.TheVariants.{TooManyDocuments}
+use Rattle.fluid_voice.specs.declared.refusals.ConnectRefusal.TheVariants.{TooManyDocuments}
 use Rattle.fluid_voice.specs.States as states
 use Rattle.fluid_voice.specs.Heard.{acts_of}
-use Rattle.fluid_voice.specs.Asked.{document_end, entry_asked, adds_to, store_end}
-use Rattle.fluid_voice.specs.Answered.{replies_to, state_after}
+use Rattle.fluid_voice.specs.Ends.{Found, Outcome, outcome, held_behind}
+use Rattle.fluid_voice.specs.Ends.Outcome.{ends, clashes}
+use Rattle.fluid_voice.specs.Replies.{replies_to, state_after}
 use Rattle.fluid_voice.specs.Refusals.{refused}
-use Rattle.fluid_voice.specs.Feed.{events}
-use Rattle.fluid_transcript.specs.World.{Document, Name, connection, container, used_up, World, ledger_of, Effect, says}
+use Rattle.fluid_voice.specs.Feed as feed
+use Rattle.fluid_transcript.specs.World.{Document, Name, connection, container, used_up, World, ledger_of, raws_added, Effect, says}
 use Rattle.fluid_transcript.specs.Lines.{reply_line, clash_line, closed_line}
 
 -- where the connection of a name stands; a new name's is a fresh one
@@ -46,47 +43,29 @@ pub record Hearing : Type 0 where
   pub voice : VoiceState
   pub lines : List (List ℕ)
 
--- the end of an act over a document's ledger and what is held; none where it puts an object and other bytes are held
-abbrev pub said_end : Act → Option ActEnd
-said_end (act.Say reply) = Some Said
-said_end act = None
+-- what the next act finds, where these documents are open: the ledger and the store that those before it leave
+abbrev pub found_by : Limits → (opened : List (List ℕ)) → Document → Hearing → Found
+found_by limits opened d h = record { opened = opened; limits = limits; ledger = ledger (d.raws ++ h.entries); held = h.store }
 
-abbrev pub end_of : Limits → Ledger → Held → Act → Option ActEnd
-end_of limits l held act = option_or (said_end act) (option_or (document_end limits l act) (store_end held act))
-
--- the entry of an act that ended so
-abbrev pub entry_added : Ledger → Act → ActEnd → List Raw
-entry_added l act end = if adds_to end then option_to_list (entry_asked l act) else []
-
--- an object that is put stands under its id
-abbrev pub store_after : Act → Held → Held
-store_after (act.PutObject bytes) held = insert held (sha1 bytes) bytes
-store_after act held = held
-
--- the id of the object that an act puts
-abbrev pub id_put : Act → List ℕ
-id_put (act.PutObject bytes) = sha1 bytes
-id_put act = []
-
--- behind an act that ended so, or that clashed
-abbrev pub behind_act : List ℕ → Ledger → Act → Hearing → Option ActEnd → Hearing
-behind_act c l act h None = record h { lines = h.lines ++ clash_line c (id_put act) ∷ [] }
-behind_act c l act h (Some end) = record {
-  entries = h.entries ++ entry_added l act end;
-  store = store_after act h.store;
+-- behind an act that found this and came out so; of a clash nothing comes but its line
+abbrev pub behind_act : (c : List ℕ) → Found → Act → Hearing → Outcome → Hearing
+behind_act c f act h (clashes id kept new) = record h { lines = h.lines ++ clash_line c id ∷ [] }
+behind_act c f act h (ends end) = record {
+  entries = h.entries ++ raws_added f.ledger act (ends end);
+  store = held_behind h.store act;
   voice = state_after h.voice act end;
   lines = h.lines ++ map (reply_line c) (replies_to h.voice act end);
 }
 
--- each act is done over the ledger, the store and the state that those before it leave
-abbrev pub act_done : List ℕ → Ledger → Limits → Act → Hearing → Hearing
-act_done c l limits act h = behind_act c l act h (end_of limits l h.store act)
+abbrev pub act_done : (c : List ℕ) → Found → Act → Hearing → Hearing
+act_done c f act h = behind_act c f act h (outcome f act)
 
-abbrev pub hear_act : Limits → List ℕ → Document → Hearing → Act → Hearing
-hear_act limits c d h act = act_done c (ledger (d.raws ++ h.entries)) limits act h
+abbrev pub hear_act : Limits → (opened : List (List ℕ)) → (c : List ℕ) → Document → Hearing → Act → Hearing
+hear_act limits opened c d h act = act_done c (found_by limits opened d h) act h
 
-abbrev pub hear : Limits → List ℕ → Document → Hearing → List Act → Hearing
-hear limits c d h acts = fold (hear_act limits c d) h acts
+-- acts one after another
+abbrev pub hear : Limits → (opened : List (List ℕ)) → (c : List ℕ) → Document → Hearing → List Act → Hearing
+hear limits opened c d h acts = fold (hear_act limits opened c d) h acts
 
 -- a connection hears something: none of it is done yet
 abbrev pub hearing : World → List ℕ → Hearing
@@ -100,7 +79,7 @@ effect_of c h = record { entries = h.entries; checkpoints = []; store = h.store;
 
 -- a connection hears a text
 abbrev pub heard : Limits → World → Document → (c text : List ℕ) → Effect
-heard limits w d c text = effect_of c (hear limits c d (hearing w c) (acts_for w c text))
+heard limits w d c text = effect_of c (hear limits w.opened c d (hearing w c) (acts_for w c text))
 
 -- the document that an act connects to
 abbrev pub connects : Act → Option (List ℕ)
@@ -109,7 +88,7 @@ connects act = None
 
 -- a text reaches the document that it connects to, or else that of its connection
 abbrev pub heard_of : World → (c text : List ℕ) → Option (List ℕ)
-heard_of w c text = option_or (slice_get (filter_map connects (acts_for w c text)) 0) (states.document (voice_of w c))
+heard_of w c text = option_or (slice_get (filter_map connects (acts_for w c text)) 0) (states.document_name (voice_of w c))
 
 -- as many documents as may be are open: the connection stays as it is
 abbrev pub heard_beyond : World → (c : List ℕ) → Effect
@@ -117,19 +96,13 @@ heard_beyond w c = record (says w (reply_line c (refused TooManyDocuments) ∷ [
 
 -- ---- collect
 
--- all messages from this number on
-abbrev pub messages_from : ℕ → Ledger → List ℕ → List ℕ → List (List ℕ)
-messages_from next l c name = map (reply_line c) (events name (drop (next - 1) (order l)))
+-- the connection is given the messages from its next one to the last; one without a document is given none
+abbrev pub brought : World → Ledger → (c : List ℕ) → VoiceState → Effect
+brought w l c voice =
+    record (says w (map (reply_line c) (feed.collected (order l) voice))) { name = Some (c, connection (feed.collected_state (order l) voice)) }
 
--- the connection of this document is given the messages from the next one to the last
-abbrev pub brought : World → Ledger → (c : List ℕ) → VoiceState → Option (List ℕ) → Effect
-brought w l c voice None = says w []
-brought w l c voice (Some name) =
-    record (says w (messages_from (states.next_number voice) l c name)) { name = Some (c, connection (states.with_next (seq l + 1) voice)) }
-
--- on a connection without a document nothing is written
 abbrev pub collected : World → Document → (c : List ℕ) → Effect
-collected w d c = brought w (ledger_of d) c (voice_of w c) (states.document (voice_of w c))
+collected w d c = brought w (ledger_of d) c (voice_of w c)
 
 -- ---- close
 

@@ -1,5 +1,5 @@
 -- The steps of a container: `load`, `pump`, `edit`, `beat`, `summarize` and `show`.
-use Rattle.std.specs.Prelude.{ℕ, ◌+◌, ◌-◌, Bool, true, false, ◌&&◌, List, [], ◌∷◌, ◌++◌, take, drop, length, count_by, Option, Some, None, option_map, bytes_eq, Result, Ok, Err, if◌then◌else◌}
+use Rattle.std.specs.Prelude.{ℕ, ◌+◌, ◌-◌, Bool, true, false, ◌&&◌, List, [], ◌∷◌, ◌++◌, take, drop, length, count_by, Option, Some, None, is_some, option_map, bytes_eq, Result, Ok, Err, if◌then◌else◌}
 use Rattle.sha1.specs.Sha1.{sha1}
 use Rattle.fluid_json.specs.Tree.{Tree, null}
 use Rattle.fluid_types.specs.declared.entries.Raw.{Raw}
@@ -35,10 +35,12 @@ use Rattle.fluid_steps.specs.declared.steps.Pick.{Pick}
 use Rattle.fluid_steps.specs.declared.steps.Pick.TheVariants.{Empty, Latest, Handle}
 use Rattle.fluid_voice.specs.declared.ends.ActEnd.{ActEnd}
 use Rattle.fluid_voice.specs.declared.ends.ActEnd.TheVariants.{Entered, FullNow, TooMany}
-use Rattle.fluid_voice.specs.declared.refusals.Refusal.{Refusal}
-use Rattle.fluid_voice.specs.declared.refusals.Refusal.TheVariants.{DocumentFull, TooManyClients, TooManyDocuments}
-use Rattle.fluid_voice.specs.Asked.{join_of, join_end, entry_end, adds_to}
-use Rattle.fluid_transcript.specs.World.{Document, Container, Name, container, used_up, World, ledger_of, with_entries, Effect, says}
+use Rattle.fluid_voice.specs.declared.refusals.ConnectRefusal.{ConnectRefusal}
+use Rattle.fluid_voice.specs.declared.refusals.ConnectRefusal.TheVariants.{DocumentFull, TooManyClients, TooManyDocuments}
+use Rattle.fluid_voice.specs.declared.actions.Act.TheVariants as act
+use Rattle.fluid_voice.specs.Ends.{join_of, join_end, entry_end}
+use Rattle.fluid_voice.specs.Ends.Outcome.{ends}
+use Rattle.fluid_transcript.specs.World.{Document, Container, Name, container, used_up, World, ledger_of, raws_added, with_entries, Effect, says}
 use Rattle.fluid_transcript.specs.Lines.{refused_line, turned_away_line, clash_line, loaded_line, no_summary_line, bad_summary_line, pumped_line, edited_line, edit_fault_line, beat_line, summarized_line, shown_line}
 
 -- ---- what a container has
@@ -81,8 +83,8 @@ refusal_in FullNow = Some Full
 refusal_in (Entered (Nacked nack)) = Some nack.rule
 refusal_in end = None
 
-abbrev pub submitted_as : Raw → ActEnd → Submitted
-submitted_as raw end = record { entries = if adds_to end then raw ∷ [] else []; refused = refusal_in end }
+abbrev pub submitted_as : Ledger → Raw → ActEnd → Submitted
+submitted_as l raw end = record { entries = raws_added l (act.Enter raw) (ends end); refused = refusal_in end }
 
 -- a submission with the next client number, at the container's number
 abbrev pub submission_of : Ledger → Container → Offered → Tree → Submission
@@ -90,7 +92,7 @@ submission_of l k kind contents = numbered (last l k + 1) k.number kind contents
 
 abbrev pub submitting : Limits → World → Ledger → Container → Offered → Tree → Submitted
 submitting limits w l k kind contents =
-    submitted_as (Submit k.id (submission_of l k kind contents) w.moment) (entry_end limits l (Submit k.id (submission_of l k kind contents) w.moment))
+    submitted_as l (Submit k.id (submission_of l k kind contents) w.moment) (entry_end limits l (Submit k.id (submission_of l k kind contents) w.moment))
 
 -- what is written, by why it was refused, if it was
 abbrev pub line_for : (p line : List ℕ) → Option NackRule → List ℕ
@@ -110,7 +112,7 @@ submitted w p before after line s =
 -- what became of a load: the join was refused, there is no such summary, the object at a path of it isn't held or is outside its
 -- form, or a container
 pub data Loading : Type 0 where
-  turned_away : Refusal → Loading
+  turned_away : ConnectRefusal → Loading
   no_summary : Loading
   bad_summary : (path : List ℕ) → Loading
   loaded : Container → Loading
@@ -125,7 +127,7 @@ join_for w l = join_of l all_scopes null w.moment
 abbrev pub joining : Limits → World → Ledger → ActEnd
 joining limits w l = join_end limits l (join_for w l)
 
-abbrev pub join_refusal : ActEnd → Option Refusal
+abbrev pub join_refusal : ActEnd → Option ConnectRefusal
 join_refusal FullNow = Some DocumentFull
 join_refusal TooMany = Some TooManyClients
 join_refusal end = None
@@ -149,7 +151,7 @@ begun_at held name id l Empty = begun name id l no_channels 0
 begun_at held name id l Latest = begun_from held name id l (picked loader.Latest (order l))
 begun_at held name id l (Handle handle) = begun_from held name id l (picked (loader.Handle handle) (order l))
 
-abbrev pub loading_by : World → Document → (name : List ℕ) → Pick → Option Refusal → Loading
+abbrev pub loading_by : World → Document → (name : List ℕ) → Pick → Option ConnectRefusal → Loading
 loading_by w d name pick (Some refusal) = turned_away refusal
 loading_by w d name pick None =
     begun_at w.store name (entry_name (length d.raws)) (ledger_of (with_entries (join_for w (ledger_of d) ∷ []) d)) pick
@@ -158,9 +160,9 @@ loading_by w d name pick None =
 abbrev pub loading : Limits → World → Document → (name : List ℕ) → Pick → Loading
 loading limits w d name pick = loading_by w d name pick (join_refusal (joining limits w (ledger_of d)))
 
--- the join, where it is entered
+-- the join, unless it is refused
 abbrev pub joined_for : Limits → World → Document → List Raw
-joined_for limits w d = if adds_to (joining limits w (ledger_of d)) then join_for w (ledger_of d) ∷ [] else []
+joined_for limits w d = if is_some (join_refusal (joining limits w (ledger_of d))) then [] else join_for w (ledger_of d) ∷ []
 
 -- the container has the name from then on; that of one that wasn't loaded is used up
 abbrev pub name_for : Loading → Name

@@ -13,12 +13,14 @@ use Rattle.fluid_rules.specs.declared.limits.Limits.{Limits}
 use Rattle.fluid_codec.specs.declared.replies.Reply.TheVariants.{Nacked}
 use Rattle.fluid_store.specs.Held.{Held}
 use Rattle.fluid_voice.specs.declared.states.VoiceState.TheVariants.{Writing}
-use Rattle.fluid_voice.specs.Heard.{entries}
-use Rattle.fluid_voice.specs.Answered.{verdict_replies}
-use Rattle.fluid_voice.specs.Refusals.{front}
+use Rattle.fluid_voice.specs.declared.actions.Act.{Act}
+use Rattle.fluid_voice.specs.Heard.{submission_acts}
+use Rattle.fluid_voice.specs.Ends.{found_behind}
+use Rattle.fluid_voice.specs.Replies.{verdict_replies}
+use Rattle.fluid_voice.specs.Refusals.{front_nack}
 use Rattle.fluid_transcript.specs.World.{Document, World}
 use Rattle.fluid_transcript.specs.Lines.{reply_line}
-use Rattle.fluid_transcript.specs.Connections.{Hearing, hear}
+use Rattle.fluid_transcript.specs.Connections.{Hearing, found_by, hear}
 use Rattle.fluid_transcript.specs.Transcript.{taken, behind, lines_of, written, transcript}
 
 -- ---- one line more at the end
@@ -37,6 +39,14 @@ TranscriptGrows =
     (limits : Limits) (w : World) (lines : List (List ℕ)) (line : List ℕ)
     → transcript limits w (lines ++ line ∷ []) ≡ transcript limits w lines ++ written (taken limits (behind limits w lines) line).lines
 
+-- ---- acts one after another
+
+-- what is found behind a hearing is what its acts leave, where nobody else comes between
+abbrev pub LeavesWhatActsLeave : Type 0
+LeavesWhatActsLeave =
+    (limits : Limits) (opened : List (List ℕ)) (c : List ℕ) (d : Document) (h : Hearing) (acts : List Act)
+    → found_by limits opened d (hear limits opened c d h acts) ≡ found_behind (found_by limits opened d h) acts
+
 -- ---- a whole text of submissions
 
 -- the raw entries of submissions
@@ -48,7 +58,7 @@ abbrev pub verdict_lines : (c name : List ℕ) → Verdict → List (List ℕ)
 verdict_lines c name v = map (reply_line c) (verdict_replies (Some name) v)
 
 abbrev pub full_line : (c name : List ℕ) → List ℕ
-full_line c name = reply_line c (Nacked (Some name) (front Full))
+full_line c name = reply_line c (Nacked (Some name) (front_nack Full))
 
 -- of these entries, so many are entered, each with its verdict over all before it, and the others are refused as full
 abbrev pub submission_lines : (c name : List ℕ) → Ledger → List Raw → (most : ℕ) → List (List ℕ)
@@ -72,6 +82,7 @@ behind_all limits c d name id next store before lines raws =
 -- the acts of a text that are submissions are one row
 abbrev pub SubmissionsAreOneRow : Type 0
 SubmissionsAreOneRow =
-    (limits : Limits) (c : List ℕ) (d : Document) (name id : List ℕ) (next : ℕ) (store : Held) (moment : ℕ) (submissions : List Submission) (before : List Raw)
-    (lines : List (List ℕ)) → hear limits c d (writing name id next store before lines) (entries moment id submissions)
+    (limits : Limits) (opened : List (List ℕ)) (c : List ℕ) (d : Document) (name id : List ℕ) (next : ℕ) (store : Held) (moment : ℕ)
+    (submissions : List Submission) (before : List Raw) (lines : List (List ℕ))
+    → hear limits opened c d (writing name id next store before lines) (submission_acts moment id submissions)
     ≡ behind_all limits c d name id next store before lines (raws_of moment id submissions)

@@ -58,17 +58,17 @@ one_joined = record { raws = Join (codes "c0") (record { read = true; write = tr
 
 pub record Hears : Type 0 where
   pub connects :
-      (hear few (codes "c") new_document fresh (act.Connect d true all_scopes null 20 ∷ [])).lines
+      (hear few [] (codes "c") new_document fresh (act.Connect d true all_scopes null 20 ∷ [])).lines
       ≡ codes "c < [\"connect_document_success\",{\"checkpointSequenceNumber\":0,\"clientId\":\"c0\",\"maxMessageSize\":1048576,\"mode\":\"write\",\"version\":\"1\"}]" ∷ []
-  pub joins : (hear few (codes "c") new_document fresh (act.Connect d true all_scopes null 20 ∷ [])).entries ≡ Join (codes "c0") all_scopes null 20 ∷ []
-  pub feed_begins : (hear few (codes "c") new_document fresh (act.Connect d true all_scopes null 20 ∷ [])).voice ≡ Writing d (codes "c0") 1
-  pub reads : (hear few (codes "c") two_clients fresh (act.Connect d false all_scopes null 20 ∷ [])).voice ≡ Reading d 7
+  pub joins : (hear few [] (codes "c") new_document fresh (act.Connect d true all_scopes null 20 ∷ [])).entries ≡ Join (codes "c0") all_scopes null 20 ∷ []
+  pub feed_begins : (hear few [] (codes "c") new_document fresh (act.Connect d true all_scopes null 20 ∷ [])).voice ≡ Writing d (codes "c0") 1
+  pub reads : (hear few [] (codes "c") two_clients fresh (act.Connect d false all_scopes null 20 ∷ [])).voice ≡ Reading d 7
   pub too_many :
-      (hear few (codes "c") two_clients fresh (act.Connect d true all_scopes null 20 ∷ [])).lines
+      (hear few [] (codes "c") two_clients fresh (act.Connect d true all_scopes null 20 ∷ [])).lines
       ≡ codes "c < [\"connect_document_error\",{\"code\":429,\"message\":\"too many clients\"}]" ∷ []
   -- one submission is entered and refused by its rule, and the next finds the document full
   pub gap_and_full :
-      (hear (record few { entries = 2 }) (codes "c") one_joined writer
+      (hear (record few { entries = 2 }) [] (codes "c") one_joined writer
       (act.Enter (Submit (codes "c0") (numbered 2 1 Op null) 20) ∷ act.Enter (Submit (codes "c0") (numbered 1 1 Op null) 20) ∷ [])).lines
       ≡ codes "c < [\"nack\",\"d\",[{\"content\":{\"code\":400,\"message\":\"Gap in client sequence numbers\",\"type\":\"BadRequestError\"},\"operation\":{\"clientSequenceNumber\":2,\"contents\":null,\"referenceSequenceNumber\":1,\"type\":\"op\"},\"sequenceNumber\":0}]]"
       ∷ codes "c < [\"nack\",\"d\",[{\"content\":{\"code\":429,\"message\":\"document is full\",\"type\":\"LimitExceededError\"},\"operation\":null,\"sequenceNumber\":-1}]]"
@@ -76,11 +76,11 @@ pub record Hears : Type 0 where
 
 pub record Collects : Type 0 where
   pub join :
-      (brought nothing (ledger_of one_joined) (codes "c") (Writing d (codes "c0") 1) (Some d)).lines
+      (brought nothing (ledger_of one_joined) (codes "c") (Writing d (codes "c0") 1)).lines
       ≡ codes "c < [\"op\",\"d\",[{\"clientId\":null,\"clientSequenceNumber\":-1,\"contents\":null,\"data\":\"{\\\"clientId\\\":\\\"c0\\\",\\\"detail\\\":null}\",\"minimumSequenceNumber\":0,\"referenceSequenceNumber\":-1,\"sequenceNumber\":1,\"timestamp\":7,\"type\":\"join\"}]]" ∷ []
-  pub goes_on : (brought nothing (ledger_of one_joined) (codes "c") (Writing d (codes "c0") 1) (Some d)).name ≡ Some (codes "c", connection (Writing d (codes "c0") 2))
-  pub nothing_more : (brought nothing (ledger_of one_joined) (codes "c") (Writing d (codes "c0") 2) (Some d)).lines ≡ []
-  pub unconnected : (brought nothing [] (codes "c") Fresh None).lines ≡ []
+  pub goes_on : (brought nothing (ledger_of one_joined) (codes "c") (Writing d (codes "c0") 1)).name ≡ Some (codes "c", connection (Writing d (codes "c0") 2))
+  pub nothing_more : (brought nothing (ledger_of one_joined) (codes "c") (Writing d (codes "c0") 2)).lines ≡ []
+  pub unconnected : (brought nothing [] (codes "c") Fresh).lines ≡ []
   pub closes : (closed nothing (codes "c")).lines ≡ codes "c closed" ∷ []
 
 -- ---- edits

@@ -15,7 +15,7 @@ use Rattle.fluid_codec.specs.declared.replies.Reply.{Reply}
 use Rattle.fluid_runtime.specs.declared.fault.EditFault.{EditFault}
 use Rattle.fluid_runtime.specs.declared.fault.EditFault.TheVariants.{NoChannel, WrongKind, OutOfRange, Exists, NoMemory}
 use Rattle.fluid_voice.specs.Refusals.{refusal_code, refusal_text}
-use Rattle.fluid_voice.specs.declared.refusals.Refusal.{Refusal}
+use Rattle.fluid_voice.specs.declared.refusals.ConnectRefusal.{ConnectRefusal}
 
 -- ---- parts
 
@@ -36,7 +36,7 @@ abbrev pub refused_line : List ℕ → NackRule → List ℕ
 refused_line name rule = of_name name (refused_with (code_of (kind_of rule)) (rule_text rule))
 
 -- with those of a connect that is refused
-abbrev pub turned_away_line : List ℕ → Refusal → List ℕ
+abbrev pub turned_away_line : List ℕ → ConnectRefusal → List ℕ
 turned_away_line name refusal = of_name name (refused_with (refusal_code refusal) (refusal_text refusal))
 
 -- other bytes are held under this id

@@ -8,7 +8,7 @@ use Rattle.fluid_steps.specs.declared.steps.Step.{Step}
 use Rattle.fluid_steps.specs.declared.steps.Step.TheVariants.{Send, Collect, Close, Scribe, Checkpoint, Restart, Reopen, Sweep, Count, Load, Pump, Edit, Beat, Summarize, Show}
 use Rattle.fluid_steps.specs.declared.refusal.LineWhy.{LineWhy}
 use Rattle.fluid_steps.specs.declared.refusal.LineWhy.TheVariants.{NameInUse, UnknownName, Json}
-use Rattle.fluid_voice.specs.declared.refusals.Refusal.TheVariants.{TooManyDocuments}
+use Rattle.fluid_voice.specs.declared.refusals.ConnectRefusal.TheVariants.{TooManyDocuments}
 use Rattle.fluid_voice.specs.States as states
 use Rattle.fluid_transcript.specs.World.{Document, Container, Name, connection, container, used_up, World, Effect, says}
 use Rattle.fluid_transcript.specs.Lines.{turned_away_line}
@@ -86,8 +86,8 @@ container_document w p = option_and_then (λ k. Some k.document) (container_of w
 -- the document that a step reaches, which is open while the step is done
 abbrev pub about : World → Step → Option (List ℕ)
 about w (Send c text) = heard_of w c text
-about w (Collect c) = states.document (voice_of w c)
-about w (Close c) = states.document (voice_of w c)
+about w (Collect c) = states.document_name (voice_of w c)
+about w (Close c) = states.document_name (voice_of w c)
 about w (Scribe name) = Some name
 about w (Checkpoint name) = Some name
 about w (Restart name checkpoint) = Some name

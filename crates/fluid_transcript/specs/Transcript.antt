@@ -1,5 +1,5 @@
 -- What lines write, one after another.
-use Rattle.std.specs.Prelude.{ℕ, ◌+◌, ◌==◌, ◌&&◌, not, nat_le, Bool, List, [], ◌∷◌, ◌++◌, length, Option, Some, None, is_some, Result, Ok, Err, if◌then◌else◌, refl}
+use Rattle.std.specs.Prelude.{ℕ, ◌+◌, ◌==◌, List, [], ◌∷◌, ◌++◌, length, Option, Some, None, is_some, Result, Ok, Err, if◌then◌else◌, refl}
 use Rattle.std.specs.List.{flat_map}
 use Rattle.std.specs.FinMap.{insert}
 use Rattle.fluid_types.specs.Ledger.{order}
@@ -13,17 +13,14 @@ use Rattle.fluid_steps.specs.declared.steps.Step.{Step}
 use Rattle.fluid_steps.specs.declared.steps.Pick.{Pick}
 use Rattle.fluid_steps.specs.declared.steps.Pick.TheVariants.{Empty, Latest}
 use Rattle.fluid_steps.specs.declared.refusal.LineWhy.{LineWhy}
-use Rattle.fluid_voice.specs.declared.refusals.Refusal.TheVariants.{TooManyDocuments}
+use Rattle.fluid_voice.specs.declared.refusals.ConnectRefusal.TheVariants.{TooManyDocuments}
+use Rattle.fluid_voice.specs.Ends.{is_beyond}
 use Rattle.fluid_transcript.specs.World.{Document, World, document, with_entries, farewells, is_open, ledger_of, Effect, says, Told, does}
 use Rattle.fluid_transcript.specs.Lines.{turned_away_line, no_summary_line, bad_summary_line, shown_line}
 use Rattle.fluid_transcript.specs.Containers.{Loading, turned_away, no_summary, bad_summary, loaded, visible, loading, joined_for}
 use Rattle.fluid_transcript.specs.Steps.{refusal, about, effect, beyond}
 
 -- ---- first uses
-
--- the most documents that are open
-abbrev pub most_documents : ℕ
-most_documents = 1024
 
 -- a document that is used is open: at its first use all that are joined leave
 abbrev pub readied : World → List ℕ → World
@@ -34,10 +31,6 @@ readied w name =
       opened = w.opened ++ name ∷ [];
     }
 
--- it isn't open, and as many as may be are
-abbrev pub is_beyond : World → List ℕ → Bool
-is_beyond w name = not (is_open w name) && nat_le most_documents (length w.opened)
-
 -- ---- a step
 
 -- a step on a document that is open
@@ -47,7 +40,7 @@ done_in limits w name step = does (effect limits w (document w name) step) (Some
 abbrev pub done_on : Limits → World → Option (List ℕ) → Step → Told
 done_on limits w None step = does (effect limits w (record { raws = []; checkpoints = [] }) step) None w
 done_on limits w (Some name) step =
-    if is_beyond w name then does (beyond w name step) None w else done_in limits (readied w name) name step
+    if is_beyond w.opened name then does (beyond w name step) None w else done_in limits (readied w name) name step
 
 -- the world behind a step, and what it writes
 abbrev pub done : Limits → World → Step → Told
@@ -125,7 +118,7 @@ end_effect limits w name =
 -- behind the last line a container with a name of its own is loaded, at the moment behind that of the last line
 abbrev pub loaded_last_in : Limits → World → (name : List ℕ) → Told
 loaded_last_in limits w name =
-    if is_beyond w name then does (says w (turned_away_line name TooManyDocuments ∷ [])) None w
+    if is_beyond w.opened name then does (says w (turned_away_line name TooManyDocuments ∷ [])) None w
     else does (end_effect limits (readied w name) name) (Some name) (readied w name)
 
 abbrev pub loaded_last : Limits → World → (name : List ℕ) → Told

@@ -1,7 +1,6 @@
 -- The world of a script: what was entered and what was stored, and nothing that is made of it.
-use Rattle.std.specs.Prelude.{ℕ, List, [], ◌++◌, map, Bool, Option, Some, None, unwrap_or}
+use Rattle.std.specs.Prelude.{ℕ, List, [], ◌++◌, map, Bool, Option, Some, None, unwrap_or, bytes_eq}
 use Rattle.std.specs.List.{list_any}
-use Rattle.std.specs.Ordering.{is_eq}
 use Rattle.std.specs.FinMap.{FinMap, get, insert}
 use Rattle.fluid_table.specs.Table.{byte_order}
 use Rattle.fluid_types.specs.declared.entries.Raw.{Raw}
@@ -12,6 +11,8 @@ use Rattle.fluid_edits.specs.declared.edit.Edit.{Edit}
 use Rattle.fluid_edits.specs.Replay.{Channels}
 use Rattle.fluid_store.specs.Held.{Held}
 use Rattle.fluid_voice.specs.declared.states.VoiceState.{VoiceState}
+use Rattle.fluid_voice.specs.declared.actions.Act.{Act}
+use Rattle.fluid_voice.specs.Ends.{Outcome, added_by}
 
 -- a document: its raw entries, oldest first, and of each stored checkpoint how many of them it stands for
 pub record Document : Type 0 where
@@ -59,13 +60,17 @@ ledger_of d = ledger d.raws
 abbrev pub with_entries : List Raw → Document → Document
 with_entries raws d = record d { raws = d.raws ++ raws }
 
+-- the raw entries that an act with this outcome adds to a ledger
+abbrev pub raws_added : Ledger → Act → Outcome → List Raw
+raws_added l act outcome = map (λ entry. entry.0) (added_by l act outcome)
+
 -- a leave for each joined client, in byte order of their ids
 abbrev pub farewells : ℕ → Document → List Raw
 farewells moment d = map (λ id. Leave id moment) (joined (ledger_of d))
 
 -- a document is open
 abbrev pub is_open : World → List ℕ → Bool
-is_open w name = list_any (λ other. is_eq (byte_order name other)) w.opened
+is_open w name = list_any (bytes_eq name) w.opened
 
 -- ---- what a step does
 
