@@ -21,7 +21,7 @@ use Rattle.fluid_voice.specs.Refusals.{refused}
 use Rattle.fluid_voice.specs.Ends.{Found, join_of, joined_by, connect_end, put_under, added_by, held_with, found_after, found_behind}
 use Rattle.fluid_voice.specs.Ends.Outcome.{ends, clashes}
 use Rattle.fluid_transcript.specs.World.{Document}
-use Rattle.fluid_transcript.specs.Connections.{Hearing, found_by, behind_act, hear_act, hear}
+use Rattle.fluid_transcript.specs.Connections.{Hearing, found_by, behind_act, hear_act}
 use Rattle.fluid_transcript.specs.Laws.{LeavesWhatActsLeave}
 
 abbrev found_with : Limits → List (List ℕ) → Ledger → Held → Found
