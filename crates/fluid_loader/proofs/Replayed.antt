@@ -206,9 +206,9 @@ module _ (back : IsReadBack) (maps : map_laws.IsReadBack) (counters : counter_la
         let made : record { channels = two.0.0; quorum = two.0.1; base = id_named s.handle app_name one.0 } ≡ v = let k = two.1.1 in cc in
         record { channels = ap (λ (w : AVersion). w.channels) (sym made) ∙ read.0; quorum = ap (λ (w : AVersion). w.quorum) (sym made) ∙ read.1 }
 
-    behind_honest : (client : List ℕ) (ledger : Option Ledger) (v : AVersion) → IsHonest held order s → version_at held s ≡ Ok v
-        → HasReplayed (record { order = order; held = held; ledger = ledger }) (behind client (begun v.channels v.quorum s.number v.base) (drop s.number order))
-    behind_honest client ledger v stands h =
+    behind_honest : (client : List ℕ) (ledger : Option Ledger) (limit : ℕ) (v : AVersion) → IsHonest held order s → version_at held s ≡ Ok v
+        → HasReplayed (record { order = order; held = held; ledger = ledger; limit = limit }) (behind client (begun v.channels v.quorum s.number v.base) (drop s.number order))
+    behind_honest client ledger limit v stands h =
         let right = honest_version v stands h in
         let first = begun v.channels v.quorum s.number v.base in
         let later = drop s.number order in
@@ -276,7 +276,7 @@ module _ (back : IsReadBack) (maps : map_laws.IsReadBack) (counters : counter_la
       by_version (Err path) is k = cc
       by_version (Ok v) is k =
           let made : begun v.channels v.quorum s.number v.base ≡ first = cc in
-          subst (λ c. HasReplayed document (behind client c (drop c.number document.order))) made (behind_honest document.order is_order document.held s client document.ledger v (honest s refl) is)
+          subst (λ c. HasReplayed document (behind client c (drop c.number document.order))) made (behind_honest document.order is_order document.held s client document.ledger document.limit v (honest s refl) is)
 
   pub whole_replay : IsWholeReplay
   whole_replay client document Empty first is_order honest h =

@@ -75,8 +75,8 @@ grows_by_entry : (raw : Raw) (said : Verdict) (d e : Document) → e ≡ with_en
 grows_by_entry raw said d e is = record { more = messages_of said; order = ap (λ (x : Document). x.order) is; held = keeps_same d.held e.held (ap (λ (x : Document). x.held) is) }
 
 enters_grow : (raw : Raw) (answer : Given) (d e : Document) → Enters raw answer d e → Grows d e
-enters_grow raw answer d e (inl entered) = grows_by_entry raw entered.0 d e entered.1.1
-enters_grow raw answer d e (inr full) = grows_same d e full.1
+enters_grow raw answer d e (inl entered) = grows_by_entry raw entered.1.0 d e entered.1.1.1
+enters_grow raw answer d e (inr full) = grows_same d e full.1.1
 
 may_enter_grow : (raw : Raw) (d e : Document) → MayEnter raw d e → Grows d e
 may_enter_grow raw d e (inl same) = grows_same d e same

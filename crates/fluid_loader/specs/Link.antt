@@ -1,5 +1,5 @@
 -- What is known of a link, and what each call of it does.
-use Rattle.std.specs.Prelude.{◌≡◌, ◌⊎◌, ℕ, ◌+◌, ◌-◌, ◌^◌, ◌<◌, ◌≤◌, List, [], ◌∷◌, ◌++◌, length, map, drop, All, IfOk, IfSome, Option, Some, None, option_map, Result, Ok, Err, ⊤}
+use Rattle.std.specs.Prelude.{◌≡◌, ◌⊎◌, ℕ, ◌+◌, ◌-◌, ◌^◌, ◌<◌, ◌≤◌, List, [], ◌∷◌, ◌++◌, length, map, drop, All, IfOk, IfSome, Option, Some, None, option_map, Result, Ok, Err, ⊤, Bool, true, false}
 use Rattle.std.specs.FinMap.{get}
 use Rattle.fluid_io.specs.Causes.{Rose, Tells}
 use Rattle.fluid_types.specs.Fits as entries
@@ -15,6 +15,7 @@ use Rattle.fluid_types.specs.declared.verdicts.Verdict.TheVariants as verdict
 use Rattle.fluid_tree.specs.declared.id.SummaryRef.{SummaryRef}
 use Rattle.fluid_tree.specs.Summary.{Summary, blob, tree, handle, Children, no_children, child}
 use Rattle.fluid_readback.specs.Quorums.{IsReadAsItself}
+use Rattle.fluid_rules.specs.Counted.{is_full}
 use Rattle.fluid_rules.specs.Rules.{IsLegal}
 use Rattle.fluid_rules.specs.Scribe.{last_ack, number_of, reference_of}
 use Rattle.fluid_store.specs.Held.{Held, Keeps, IsShort}
@@ -32,11 +33,13 @@ use Rattle.fluid_loader.specs.declared.link.LinkFault.TheVariants.{Failed, Clash
 
 -- ---- what a link tells
 
--- the document's order, the objects that its store holds, and, of a link over a lane, the ledger whose order it is
+-- the document's order, the objects that its store holds, and, of a link over a lane, the ledger whose order it is, and the limit on its
+-- entries
 pub record Document : Type 0 where
   pub order : List Message
   pub held : Held
   pub ledger : Option Ledger
+  pub limit : ℕ
 
 -- messages are numbered one by one from 1, each is read back from its printed text as itself, and none refers to one behind it
 pub record IsOrder (messages : List Message) : Type 0 where
@@ -164,9 +167,14 @@ abbrev pub IsFull : Given → Type 0
 IsFull Taken = ⊥
 IsFull (Nacked nack) = nack.rule ≡ Full
 
--- the entry was added with a verdict, to which this is the answer; or the document is full, and nothing was added
+-- whether the document is full for the entry, where its ledger is told
+abbrev pub IsFullFor : Bool → Raw → Document → Type 0
+IsFullFor full raw d = IfSome d.ledger (λ ledger. is_full d.limit ledger raw ≡ full)
+
+-- the entry was added with a verdict, to which this is the answer; or the document is full for it, and nothing was added
 abbrev pub Enters : Raw → Given → Document → Document → Type 0
-Enters raw answer old new = ((said : Verdict) × ((answer ≡ given said) × (new ≡ with_entry raw said old))) ⊎ (IsFull answer × (new ≡ old))
+Enters raw answer old new =
+    (IsFullFor false raw old × ((said : Verdict) × ((answer ≡ given said) × (new ≡ with_entry raw said old)))) ⊎ (IsFullFor true raw old × (IsFull answer × (new ≡ old)))
 
 -- it was added, with whatever verdict, or it wasn't
 abbrev pub MayEnter : Raw → Document → Document → Type 0
