@@ -14,3 +14,4 @@ pub mod Whole
 pub mod Reread
 mod Resolving
 pub mod Short
+mod LeftOut
