@@ -1,13 +1,13 @@
 -- A keeper that was given, and what became of it.
-use Rattle.std.proofs.Common.{◌≡◌, inl, inr, ℕ, ◌≤◌, Bool, true, false, cond, List, Option, Some, None, Result, Ok, Err, OnErr, IfErr, bytes_eq, refl, sym, ap, ◌∙◌, arith}
-use Rattle.std.specs.FinMap.{FinMap, get, insert, remove}
+use Rattle.std.proofs.Common.{◌≡◌, inr, ℕ, ◌≤◌, Bool, true, false, cond, List, Option, None, Result, Ok, Err, OnErr, IfErr, bytes_eq, refl, sym, ap, ◌∙◌, arith}
+use Rattle.std.specs.FinMap.{FinMap, get, remove}
 use Rattle.fluid_io.specs.Causes.{Rose}
 use Rattle.fluid_io.specs.declared.faults.FaultNote.{FaultNote}
 use Rattle.fluid_table.specs.Table.{byte_order}
 use Rattle.fluid_table.proofs.Places.{get_own, get_removed, same_values, remove_inserted}
 use Rattle.std.proofs.lemmas.Slice.Eq.{bytes_eq-Decides}
 use Rattle.fluid_log.specs.Keeping.{Keeping}
-use Rattle.fluid_log.specs.Shelving.{Shelving, IsIn, GivesKeeper, PutsBack, StaysPut}
+use Rattle.fluid_log.specs.Shelving.{Shelving, IsIn, GivesKeeper, PutsBack}
 use Rattle.fluid_deltas.specs.Ranges.{IsNoted}
 use Rattle.fluid_rules.specs.declared.limits.Limits.{Limits}
 use Rattle.fluid_lane.specs.declared.fault.LaneFault.{LaneFault}
@@ -17,7 +17,7 @@ use Rattle.fluid_lane.specs.Standing.{Standing}
 use Rattle.fluid_opening.specs.declared.fault.DoorFault.{DoorFault}
 use Rattle.fluid_opening.specs.declared.fault.DoorFault.TheVariants.{ShelfFailed, Lane, TooManyDocuments, NoMemory}
 use Rattle.fluid_opening.specs.Faults.{of_starting}
-use Rattle.fluid_opening.specs.Opening.{ComesBack, StartDoes, Opens, StartFails, OpenDoes, IsRisenFor, IsRisen}
+use Rattle.fluid_opening.specs.Opening.{ComesBack, StartDoes, StartFails, OpenDoes, IsRisenFor, IsRisen}
 
 -- ---- over a keeper that was given
 
@@ -57,7 +57,7 @@ module _ (limits : Limits) (name : List ℕ) (moment : ℕ) (old between new : S
   fails fault back = record { keeper = keeper; between = between; gives = gives; comes_back = back }
 
   pub opened : (result : Result Standing DoorFault) → StartDoes limits name moment keeper between new result → OpenDoes limits name moment old new result
-  opened (Ok lane) (starts, same) = record { keeper = keeper; gives = rw (← same) gives; starts = starts }
+  opened (Ok lane) (starts, same) = record { keeper = keeper; gives = rw same gives; starts = starts }
   opened (Err (ShelfFailed note)) does = absurd does
   opened (Err (Lane fault)) does = fails fault does
   opened (Err (TooManyDocuments count)) does = absurd does

@@ -1,5 +1,5 @@
 -- What opening a document is: its keeper is taken from the shelves, and its lane started over it.
-use Rattle.std.specs.Prelude.{◌≡◌, ℕ, ◌≤◌, ⊤, ◌⊎◌, List, Result, Ok, Err}
+use Rattle.std.specs.Prelude.{◌≡◌, ℕ, ⊤, ◌⊎◌, List, Result, Ok, Err}
 use Rattle.fluid_io.specs.Causes.{Rose}
 use Rattle.fluid_log.specs.Keeping.{Keeping}
 use Rattle.fluid_log.specs.Shelving.{Shelving, GivesKeeper, PutsBack, StaysPut}
