@@ -23,17 +23,17 @@ use Rattle.fluid_opening.specs.Opening.{ComesBack, StartDoes, StartFails, OpenDo
 
 module _ (limits : Limits) (name : List ℕ) (moment : ℕ) (given : Keeping) (old new : Shelving) where
   pub came_back : (fault : LaneFault) → ComesBack name moment given old new fault → StartDoes limits name moment given old new (Err (of_starting fault))
-  came_back (lane.LogFailed note) back = back
-  came_back (lane.Full entries) back = back
-  came_back (lane.BadRecord place) back = back
-  came_back (lane.NoCheckpoint asked stored) back = back
-  came_back lane.CheckpointsFull back = back
-  came_back lane.TooManyClients back = back
-  came_back (lane.DeltaFailed note) back = back
+  came_back (lane.LogFailed note) back = (refl, back)
+  came_back (lane.Full entries) back = (refl, back)
+  came_back (lane.BadRecord place) back = (refl, back)
+  came_back (lane.NoCheckpoint asked stored) back = (refl, back)
+  came_back lane.CheckpointsFull back = (refl, back)
+  came_back lane.TooManyClients back = (refl, back)
+  came_back (lane.DeltaFailed note) back = (refl, back)
   came_back lane.NoMemory back = back
-  came_back (lane.BadCheckpoint number bad) back = back
-  came_back (lane.TooLarge bytes) back = back
-  came_back lane.Worn back = back
+  came_back (lane.BadCheckpoint number bad) back = (refl, back)
+  came_back (lane.TooLarge bytes) back = (refl, back)
+  came_back lane.Worn back = (refl, back)
 
 -- ---- from the shelves on
 
@@ -59,7 +59,7 @@ module _ (limits : Limits) (name : List ℕ) (moment : ℕ) (old between new : S
   pub opened : (result : Result Standing DoorFault) → StartDoes limits name moment keeper between new result → OpenDoes limits name moment old new result
   opened (Ok lane) (starts, same) = record { keeper = keeper; gives = rw same gives; starts = starts }
   opened (Err (ShelfFailed note)) does = absurd does
-  opened (Err (Lane fault)) does = fails fault does
+  opened (Err (Lane fault)) does = (does.0, fails fault does.1)
   opened (Err (TooManyDocuments count)) does = absurd does
   opened (Err NoMemory) does = inr (fails lane.NoMemory does)
 
@@ -70,32 +70,38 @@ module _ (limits : Limits) (name : List ℕ) (moment : ℕ) (old between new : S
   pub shelved : (result : Result Standing DoorFault) → IsIn old name → StartDoes limits name moment keeper between new result → OnErr result (new.out ≡ old.out)
   shelved (Ok lane) is_in does = tt
   shelved (Err (ShelfFailed note)) is_in does = absurd does
-  shelved (Err (Lane fault)) is_in does = out_back fault is_in does
+  shelved (Err (Lane fault)) is_in does = out_back fault is_in does.1
   shelved (Err (TooManyDocuments count)) is_in does = absurd does
   shelved (Err NoMemory) is_in does = out_back lane.NoMemory is_in does
 
   -- a keeper that failed came back with more faults
-  rose_back : (note : FaultNote) (left : Keeping) → old.faults ≤ between.faults → IsNoted keeper.faults left.faults note → PutsBack name between new left → Rose old.faults new.faults
+  rose_back : (note : FaultNote) (left : Keeping) → old.faults ≤ between.faults → IsNoted keeper.faults left.faults note → PutsBack name between new left
+      → Rose old.faults new.faults × (note.after ≤ new.faults)
   rose_back note left le noted back =
       let given = ap (λ out. get out name) gives.out ∙ get_own old.out name keeper.faults in
-      rose_later old.faults between.faults new.faults new.faults le ((back.counted keeper.faults given).more (noted_rose keeper.faults left.faults note noted)).0 (omega arith)
+      let more = (back.counted keeper.faults given).more (noted_rose keeper.faults left.faults note noted) in
+      (rose_later old.faults between.faults new.faults new.faults le more.0 (omega arith), omega (arith, noted.last, more.1))
 
-  risen_for : (fault : LaneFault) (left : Keeping) → old.faults ≤ between.faults → IsCausedBy keeper.faults left.faults fault → PutsBack name between new left → IsRisenFor old.faults new.faults fault
-  risen_for (lane.LogFailed note) left le cause back = rose_back note left le cause back
-  risen_for (lane.Full entries) left le cause back = tt
-  risen_for (lane.BadRecord place) left le cause back = tt
-  risen_for (lane.NoCheckpoint asked stored) left le cause back = tt
-  risen_for lane.CheckpointsFull left le cause back = tt
-  risen_for lane.TooManyClients left le cause back = tt
-  risen_for (lane.DeltaFailed note) left le cause back = rose_back note left le cause back
-  risen_for lane.NoMemory left le cause back = tt
-  risen_for (lane.BadCheckpoint number bad) left le cause back = tt
-  risen_for (lane.TooLarge bytes) left le cause back = tt
-  risen_for lane.Worn left le cause back = tt
+  memory : NoMemory ≡ Lane lane.NoMemory → ⊥
+  memory same = cc
+
+  risen_for : (fault : LaneFault) (left : Keeping) → of_starting fault ≡ Lane fault → old.faults ≤ between.faults → IsCausedBy keeper.faults left.faults fault → PutsBack name between new left
+      → IsRisenFor old.faults new.faults fault
+  risen_for (lane.LogFailed note) left own le cause back = rose_back note left le cause back
+  risen_for (lane.Full entries) left own le cause back = tt
+  risen_for (lane.BadRecord place) left own le cause back = tt
+  risen_for (lane.NoCheckpoint asked stored) left own le cause back = tt
+  risen_for lane.CheckpointsFull left own le cause back = tt
+  risen_for lane.TooManyClients left own le cause back = tt
+  risen_for (lane.DeltaFailed note) left own le cause back = rose_back note left le cause back
+  risen_for lane.NoMemory left own le cause back = absurd (memory own)
+  risen_for (lane.BadCheckpoint number bad) left own le cause back = tt
+  risen_for (lane.TooLarge bytes) left own le cause back = tt
+  risen_for lane.Worn left own le cause back = tt
 
   pub risen : (result : Result Standing DoorFault) → old.faults ≤ between.faults → StartDoes limits name moment keeper between new result → IfErr result (IsRisen old.faults new.faults)
   risen (Ok lane) le does = tt
   risen (Err (ShelfFailed note)) le does = absurd does
-  risen (Err (Lane fault)) le does = risen_for fault does.left le does.partly.cause does.back
+  risen (Err (Lane fault)) le does = risen_for fault does.1.left does.0 le does.1.partly.cause does.1.back
   risen (Err (TooManyDocuments count)) le does = absurd does
   risen (Err NoMemory) le does = tt

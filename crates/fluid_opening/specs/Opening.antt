@@ -1,5 +1,5 @@
 -- What opening a document is: its keeper is taken from the shelves, and its lane started over it.
-use Rattle.std.specs.Prelude.{◌≡◌, ℕ, ⊤, ◌⊎◌, List, Result, Ok, Err}
+use Rattle.std.specs.Prelude.{◌≡◌, ℕ, ◌≤◌, ⊤, ◌⊎◌, List, Result, Ok, Err}
 use Rattle.fluid_io.specs.Causes.{Rose}
 use Rattle.fluid_log.specs.Keeping.{Keeping}
 use Rattle.fluid_log.specs.Shelving.{Shelving, GivesKeeper, PutsBack, StaysPut}
@@ -9,6 +9,7 @@ use Rattle.fluid_lane.specs.declared.fault.LaneFault.{LaneFault}
 use Rattle.fluid_lane.specs.declared.fault.LaneFault.TheVariants as lane
 use Rattle.fluid_lane.specs.Standing.{Standing}
 use Rattle.fluid_lane.specs.Starting.{Starts, StartsPartly}
+use Rattle.fluid_opening.specs.Faults.{of_starting}
 use Rattle.fluid_opening.specs.declared.fault.DoorFault.{DoorFault}
 use Rattle.fluid_opening.specs.declared.fault.DoorFault.TheVariants.{ShelfFailed, Lane, TooManyDocuments, NoMemory}
 
@@ -20,10 +21,10 @@ pub record ComesBack (name : List ℕ) (moment : ℕ) (given : Keeping) (old new
   pub partly : StartsPartly given left moment fault
   pub back : PutsBack name old new left
 
--- the lane was started and the shelves stay, or the keeper comes back
+-- the lane was started and the shelves stay, or the keeper comes back. Want of memory is one fault, and never that of a lane
 abbrev pub StartDoes : Limits → List ℕ → ℕ → Keeping → Shelving → Shelving → Result Standing DoorFault → Type 0
 StartDoes limits name moment given old new (Ok lane) = Starts given limits moment lane × (new ≡ old)
-StartDoes limits name moment given old new (Err (Lane fault)) = ComesBack name moment given old new fault
+StartDoes limits name moment given old new (Err (Lane fault)) = (of_starting fault ≡ Lane fault) × ComesBack name moment given old new fault
 StartDoes limits name moment given old new (Err NoMemory) = ComesBack name moment given old new lane.NoMemory
 StartDoes limits name moment given old new (Err fault) = ⊥
 
@@ -46,16 +47,17 @@ pub record StartFails (name : List ℕ) (moment : ℕ) (old new : Shelving) (fau
 abbrev pub OpenDoes : Limits → List ℕ → ℕ → Shelving → Shelving → Result Standing DoorFault → Type 0
 OpenDoes limits name moment old new (Ok lane) = Opens limits name moment old new lane
 OpenDoes limits name moment old new (Err (ShelfFailed note)) = StaysPut old new × IsNoted old.faults new.faults note
-OpenDoes limits name moment old new (Err (Lane fault)) = StartFails name moment old new fault
+OpenDoes limits name moment old new (Err (Lane fault)) = (of_starting fault ≡ Lane fault) × StartFails name moment old new fault
 OpenDoes limits name moment old new (Err (TooManyDocuments count)) = ⊥
 OpenDoes limits name moment old new (Err NoMemory) = StaysPut old new ⊎ StartFails name moment old new lane.NoMemory
 
 -- ---- causes
 
--- where the keeper failed, the count of the shelves to which it came back rose too
+-- where the keeper failed, the count of the shelves to which it came back rose too, to at least what the note tells
 abbrev pub IsRisenFor : (before now : ℕ) → LaneFault → Type 0
-IsRisenFor before now (lane.LogFailed note) = Rose before now
-IsRisenFor before now (lane.DeltaFailed note) = Rose before now
+IsRisenFor before now (lane.LogFailed note) = Rose before now × (note.after ≤ now)
+IsRisenFor before now (lane.DeltaFailed note) = Rose before now × (note.after ≤ now)
+IsRisenFor before now lane.NoMemory = ⊥
 IsRisenFor before now fault = ⊤
 
 -- a fault of the shelves or of a keeper comes only where the shelves' count rose
