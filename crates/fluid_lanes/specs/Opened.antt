@@ -1,0 +1,58 @@
+-- The documents that are open, by name, and the shelves from which their keepers are out.
+use Rattle.std.specs.Prelude.{◌≡◌, ℕ, ◌≤◌, Bool, List, Option, is_some, IsSome, refl}
+use Rattle.std.specs.Coded.{Coded, code_by, coded×, coded_ℕ, coded_bool, coded_option}
+use Rattle.std.specs.FinMap.{empty, get, insert}
+use Rattle.fluid_table.specs.Table.{Values, values_code}
+use Rattle.fluid_log.specs.declared.keeper.TheConstants.{LONGEST_KEPT}
+use Rattle.fluid_log.specs.Shelving.{Shelving}
+use Rattle.fluid_log.specs.Keeping.{Keeping}
+use Rattle.fluid_log.specs.Codes.{keeping_code, shelving_code}
+use Rattle.fluid_deltas.specs.Pushed.{Pushed, pushed_code}
+use Rattle.fluid_document.specs.Entries.{Entries, entries_code}
+use Rattle.fluid_rules.specs.declared.limits.Limits.{Limits}
+use Rattle.fluid_rules.specs.contracts.limits.Limits as limits
+use Rattle.fluid_lane.specs.declared.steps.Side.{Side}
+use Rattle.fluid_lane.specs.contracts.steps.Side as sides
+use Rattle.fluid_lane.specs.Standing.{Standing}
+
+pub record Opened : Type 0 where
+  pub shelving : Shelving
+  -- the lane of each open document
+  pub lanes : Values Standing
+  -- the limits of each document
+  pub limits : Limits
+
+-- a lane as a tuple of its parts
+abbrev lane_code : Coded Standing
+lane_code =
+    code_by (Keeping × (Entries × (Pushed × (Limits × (ℕ × (ℕ × (Option Side × Bool)))))))
+    (coded× keeping_code (coded× entries_code (coded× pushed_code (coded× limits.the_row.coded (coded× coded_ℕ (coded× coded_ℕ (coded× (coded_option sides.the_row.coded) coded_bool)))))))
+    (λ s. (s.keeping, (s.entries, (s.messages, (s.limits, (s.opened, (s.sides, (s.last, s.owed))))))))
+    (λ p. record { keeping = p.0; entries = p.1.0; messages = p.1.1.0; limits = p.1.1.1.0; opened = p.1.1.1.1.0; sides = p.1.1.1.1.1.0; last = p.1.1.1.1.1.1.0; owed = p.1.1.1.1.1.1.1 })
+    (λ _. refl)
+
+abbrev pub opened_code : Coded Opened
+opened_code =
+    code_by (Shelving × (Values Standing × Limits)) (coded× shelving_code (coded× (values_code Standing lane_code) limits.the_row.coded))
+    (λ o. (o.shelving, (o.lanes, o.limits))) (λ p. record { shelving = p.0; lanes = p.1.0; limits = p.1.1 }) (λ _. refl)
+
+-- the document is open
+abbrev pub IsOpen : Opened → List ℕ → Type 0
+IsOpen o name = IsSome (get o.lanes name)
+
+-- no document is open
+abbrev pub nothing_open : Shelving → Limits → Opened
+nothing_open shelving limits = record { shelving = shelving; lanes = empty; limits = limits }
+
+-- the same, with another lane of this document
+abbrev pub with_lane : Opened → List ℕ → Standing → Opened
+with_lane o name lane = record o { lanes = insert o.lanes name lane }
+
+-- the keepers that are out are those of the open documents
+abbrev pub AreShelved : Values Standing → Shelving → Type 0
+AreShelved lanes shelving = (name : List ℕ) → is_some (get shelving.out name) ≡ is_some (get lanes name)
+
+-- what always holds of them
+pub record AreOut (o : Opened) : Type 0 where
+  pub out : AreShelved o.lanes o.shelving
+  pub small : o.limits.bytes ≤ LONGEST_KEPT
