@@ -201,16 +201,20 @@ pub record Submits (submission : Submission) (old new : Linked) (result : Result
 
 -- ---- an upload
 
--- how many handles stand in a tree
-abbrev mutual
-  pub count_handles : Summary → ℕ
-  count_handles (blob content) = 0
-  count_handles (tree nodes) = count_all nodes
-  count_handles (handle path) = 1
+-- how many of the nodes of a tree are handles
+abbrev pub one_if_handle : Summary → ℕ
+one_if_handle (blob content) = 0
+one_if_handle (tree nodes) = 0
+one_if_handle (handle path) = 1
 
-  pub count_all : Children → ℕ
-  count_all no_children = 0
-  count_all (child name node nodes) = count_handles node + count_all nodes
+abbrev pub count_all : Children → ℕ
+count_all no_children = 0
+count_all (child name node nodes) = one_if_handle node + count_all nodes
+
+abbrev pub count_handles : Summary → ℕ
+count_handles (blob content) = 0
+count_handles (tree nodes) = count_all nodes
+count_handles (handle path) = 0
 
 -- the answer to objects that were put, up to the first clash: the tree's id, or that clash
 abbrev pub IsPut : List ℕ → Putting → Result (List ℕ) LinkFault → Type 0
