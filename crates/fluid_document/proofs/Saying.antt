@@ -14,9 +14,10 @@ use Rattle.fluid_quorum.specs.declared.state.ScribeState.{ScribeState}
 use Rattle.fluid_ticket.specs.State as ticket
 use Rattle.fluid_ticket.specs.State.{within_order}
 use Rattle.fluid_ticket.specs.Ledger as tickets
-use Rattle.fluid_ticket.proofs.Within.{sound-within, sound-legal}
+use Rattle.fluid_ticket.proofs.Within.{sound-within, sound-legal, low-legal}
 use Rattle.fluid_ticket.proofs.Ledgers.{sequence-state_of}
-use Rattle.fluid_core.specs.Entering.{State, sequencer_of, scribe_within, within, state_of}
+use Rattle.fluid_scribe.specs.Within.{within as scribe_within}
+use Rattle.fluid_core.specs.Entering.{State, sequencer_of, within, state_of}
 use Rattle.fluid_core.proofs.Within.{kept_within}
 use Rattle.fluid_log.specs.Keeping.{Content}
 use Rattle.fluid_checkpoint.specs.declared.fault.CheckpointFault.{CheckpointFault}
@@ -62,7 +63,7 @@ printed_ok (Err fault) e p scribe heard sequencer_is scribe_is heard_is text wri
 pub entries_back : (l : Ledger) → IsLegal l → seq l ≤ 2 ^ 53 - 1 → entries_in (checkpoint_state (entries_of l)) ≡ entries_of l
 unfolding entries_in entries_of state_of
 entries_back l legal few =
-    let sequencer : within_order (tickets.state_of l) ≡ tickets.state_of l = sound-within (tickets.state_of l) (sound-legal l legal few) in
+    let sequencer : within_order (tickets.state_of l) ≡ tickets.state_of l = sound-within (tickets.state_of l) (sound-legal l legal few) (low-legal l legal) in
     let scribe : scribe_within (within_order (tickets.state_of l)).sequence (state_of l).scribe ≡ (state_of l).scribe =
     ap (λ (s : ticket.State). scribe_within s.sequence (state_of l).scribe) sequencer ∙ ap (λ n. scribe_within n (state_of l).scribe) (sequence-state_of l) ∙ kept_within l legal in
     λ i. record {

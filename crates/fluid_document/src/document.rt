@@ -151,6 +151,7 @@ impl Document {
         ensures same { (self.new.entries ≡ self.old.entries) × (self.new.messages ≡ self.old.messages) }
         ensures job { IfOk result (λ given. given ≡ job_of self.old.entries.state) }
         ensures number { IfOk result (λ given. IfSome given (λ job. IsUpTo most job.summary)) }
+        ensures reference { IfOk result (λ given. IfSome given (λ job. job.reference ≤ job.summary)) }
     {
         let _last = self.core.seq();
         self.core.job(alloc)

@@ -183,6 +183,7 @@ impl<K: Keeper> Lane<K> {
         ensures same { self.new ≡ self.old }
         ensures job { IfOk result (λ given. given ≡ job_of self.old.entries.state) }
         ensures number { IfOk result (λ given. IfSome given (λ job. IsUpTo most job.summary)) }
+        ensures reference { IfOk result (λ given. IfSome given (λ job. job.reference ≤ job.summary)) }
     {
         self.document.job(alloc)
     }
