@@ -1,22 +1,21 @@
 -- A document that is closed and opened again.
-use Rattle.std.proofs.Common.{◌≡◌, ℕ, ◌≤◌, Bool, true, false, cond, List, Option, Some, None, Result, Ok, Err, IfOk, IfErr, option_map, unwrap_or, bytes_eq, refl, sym, ap, subst, ◌∙◌, arith}
-use Rattle.std.specs.FinMap.{FinMap, get, insert, remove}
+use Rattle.std.proofs.Common.{◌≡◌, ℕ, ◌≤◌, false, cond, List, Option, Some, None, Result, Ok, Err, IfOk, IfErr, option_map, unwrap_or, bytes_eq, refl, sym, ap, subst, ◌∙◌, arith}
+use Rattle.std.specs.FinMap.{FinMap, get, insert}
 use Rattle.std.proofs.lemmas.Slice.Eq.{bytes_eq-Decides}
 use Rattle.fluid_io.specs.Causes.{Rose, Tells}
 use Rattle.fluid_io.specs.declared.faults.FaultNote.{FaultNote}
 use Rattle.fluid_table.specs.Table.{byte_order}
 use Rattle.fluid_table.proofs.Places.{get_own, get_removed}
 use Rattle.fluid_log.specs.Keeping.{Content, Keeping}
-use Rattle.fluid_log.specs.Shelving.{Shelving, keeper_under, fresh}
+use Rattle.fluid_log.specs.Shelving.{keeper_under, fresh}
 use Rattle.fluid_deltas.specs.Ranges.{IsNoted}
-use Rattle.fluid_types.specs.Ledger.{Ledger}
 use Rattle.fluid_document.specs.Kept.{IsKept}
 use Rattle.fluid_lane.specs.declared.steps.Step.{Step}
 use Rattle.fluid_lane.specs.declared.fault.LaneFault.{LaneFault}
 use Rattle.fluid_lane.specs.declared.fault.LaneFault.TheVariants as lane
 use Rattle.fluid_lane.specs.Steps.{ledger, steps}
 use Rattle.fluid_lane.specs.Standing.{Standing, LaneStands, IsTold}
-use Rattle.fluid_lane.specs.Starting.{opening, Starts}
+use Rattle.fluid_lane.specs.Starting.{opening}
 use Rattle.fluid_opening.specs.Opening.{IsRisen, IsRisenFor}
 use Rattle.fluid_opening.specs.declared.fault.DoorFault.{DoorFault}
 use Rattle.fluid_opening.specs.declared.fault.DoorFault.TheVariants.{ShelfFailed, Lane, TooManyDocuments, NoMemory}

@@ -1,13 +1,13 @@
 -- Keepers that are out and come back one after another.
 use Rattle.std.proofs.Common.{◌≡◌, ◌⊎◌, inl, inr, ℕ, ◌+◌, ◌-◌, ◌<◌, ◌≤◌, Bool, true, false, cond, List, Option, Some, None, is_some, option_map, bytes_eq, refl, sym, ap, subst, ◌∙◌, arith}
 use Rattle.std.specs.Option.{option_or}
-use Rattle.std.specs.FinMap.{FinMap, empty, get, insert, remove, len, len-empty, len-remove, get-empty, empty_of_len}
+use Rattle.std.specs.FinMap.{FinMap, empty, get, insert, len, len-empty, len-remove, get-empty, empty_of_len}
 use Rattle.std.proofs.lemmas.Slice.Eq.{bytes_eq-Decides}
-use Rattle.fluid_io.specs.Causes.{Rose, one_more}
+use Rattle.fluid_io.specs.Causes.{Rose}
 use Rattle.fluid_table.specs.Table.{Values, byte_order}
 use Rattle.fluid_table.proofs.Places.{byte_order_total, get_inserted, get_removed, same_values}
 use Rattle.fluid_log.specs.Keeping.{Keeping}
-use Rattle.fluid_log.specs.Shelving.{Shelving, AreWhole, PutsBack}
+use Rattle.fluid_log.specs.Shelving.{Shelving}
 use Rattle.fluid_lane.specs.Standing.{Standing}
 use Rattle.fluid_lanes.specs.Opened.{AreShelved}
 use Rattle.fluid_lanes.specs.Closing.{kept_under, HeldBehind, HasFailed, AllComeBack, ComesBack, OneComesBack}

@@ -1,11 +1,10 @@
-use Rattle.std.proofs.Common.{Some, None, ◌≡◌, List, ℕ, sym, subst, ap, refl, ◌∙◌}
-use Rattle.std.specs.FinMap.{get, remove}
+use Rattle.std.proofs.Common.{◌≡◌, sym, ap, ◌∙◌}
+use Rattle.std.specs.FinMap.{get}
 use Rattle.fluid_table.specs.Table.{Values}
 use Rattle.fluid_log.specs.Shelving.{Shelving}
 use Rattle.fluid_rules.specs.declared.limits.Limits.{Limits}
 use Rattle.fluid_lane.specs.Standing.{Standing}
 use Rattle.fluid_lanes.specs.Opened.{Opened}
-use Rattle.fluid_lanes.specs.Using.{Ends}
 use Rattle.fluid_lanes.proofs.Openings.{ended_out, ends_none, remove_absent}
 use Rattle.fluid_lanes.proofs.lanes.Lanes.end.Goals as goal
 

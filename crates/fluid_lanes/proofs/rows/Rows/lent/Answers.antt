@@ -1,4 +1,4 @@
-use Rattle.std.proofs.Common.{◌≡◌, ℕ, refl, ap, ◌∙◌}
+use Rattle.std.proofs.Common.{◌≡◌, ℕ, refl, ap}
 use Rattle.fluid_table.specs.Table.{Table, Values}
 use Rattle.fluid_table.proofs.KeyedPlaces.{key_read, value_read, insert_there, in_order_set}
 use Rattle.fluid_lanes.specs.Rows.{name_of, value_of}
