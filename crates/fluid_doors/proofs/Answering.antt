@@ -1,7 +1,6 @@
 -- Which answers a call has, by the list of steps for which its lane stands, from what the lane's gate says.
-use Rattle.std.proofs.Common.{◌≡◌, ℕ, ◌+◌, ◌≤◌, ◌<◌, true, false, Bool, ◌&&◌, List, [], ◌∷◌, ◌++◌, length, map, is_some, Option, Some, None, Result, Ok, Err, inl, inr, refl, sym, ap, subst, ◌∙◌, arith}
-use Rattle.std.specs.Prelude.{◌⊎◌, nat_le, IfOk, IfErr, OnOk, IfSome}
-use Rattle.std.specs.FinMap.{len}
+use Rattle.std.proofs.Common.{◌≡◌, ℕ, ◌≤◌, true, false, Bool, ◌&&◌, List, [], ◌∷◌, length, map, is_some, Option, Some, None, Result, Ok, Err, inl, inr, refl, sym, ap, subst, ◌∙◌, arith}
+use Rattle.std.specs.Prelude.{nat_le, IfOk, IfErr, OnOk}
 use Rattle.std.proofs.lemmas.Bool.{false≢true}
 use Rattle.std.proofs.lemmas.Option.{none-some, same_Some}
 use Rattle.fluid_io.specs.Causes.{Tells}
@@ -15,30 +14,29 @@ use Rattle.fluid_types.specs.declared.entries.Scopes.{Scopes}
 use Rattle.fluid_types.specs.declared.messages.Message.{Message}
 use Rattle.fluid_types.specs.declared.verdicts.Verdict.{Verdict}
 use Rattle.fluid_types.specs.declared.verdicts.Verdict.TheVariants.{Sequenced}
-use Rattle.fluid_rules.specs.Rules.{verdict, joined, IsLegal}
-use Rattle.fluid_rules.specs.Counted.{is_counted, counted}
-use Rattle.fluid_scribe.specs.Jobs.{job}
+use Rattle.fluid_rules.specs.Rules.{verdict, IsLegal}
+use Rattle.fluid_rules.specs.Counted.{is_counted}
 use Rattle.fluid_scribe.specs.declared.job.Job.{Job}
 use Rattle.fluid_core.specs.Entering.{verdict_in, job_of}
-use Rattle.fluid_document.specs.Entries.{Entries, most, entries_of}
+use Rattle.fluid_document.specs.Entries.{most, entries_of}
 use Rattle.fluid_document.specs.Kept.{checkpoint_text}
 use Rattle.fluid_lane.specs.declared.fault.LaneFault.{LaneFault}
 use Rattle.fluid_lane.specs.declared.fault.LaneFault.TheVariants.{LogFailed, Full, BadRecord, NoCheckpoint, CheckpointsFull, TooManyClients, DeltaFailed, NoMemory, BadCheckpoint, TooLarge, Worn}
 use Rattle.fluid_lane.specs.declared.steps.Step.{Step}
 use Rattle.fluid_lane.specs.Faults.{IsLogFailed, IsOutside, IsReadFault}
-use Rattle.fluid_lane.specs.Steps.{ledger, stored}
+use Rattle.fluid_lane.specs.Steps.{ledger}
 use Rattle.fluid_lane.specs.Standing.{Standing, LaneStands, IsTold, is_worn}
-use Rattle.fluid_lane.specs.Refusals.{IsCause, IsGated, IsCutFailed, first_refusal, is_full, is_full_for, has_too_many, has_checkpoints, has_no_checkpoint}
+use Rattle.fluid_lane.specs.Refusals.{IsCause, IsGated, first_refusal, is_full, is_full_for, has_too_many, has_checkpoints, has_no_checkpoint}
 use Rattle.fluid_lane.specs.Calls as lanes
 use Rattle.fluid_lane.specs.Calls.{Stores}
 use Rattle.fluid_lane.specs.Restarts as restarts
 use Rattle.fluid_lane.specs.Sweeps.{first_silent, SweepsBy, IsSwept}
-use Rattle.fluid_lane.specs.Laws.{LaneSays, SaysOf, first_silent_in}
+use Rattle.fluid_lane.specs.Laws.{LaneSays, SaysOf}
 use Rattle.fluid_doors.specs.declared.bench.Terms.{Terms}
 use Rattle.fluid_doors.specs.Terms.{terms_of}
-use Rattle.fluid_doors.specs.Answers.{is_worn_behind, IsNotWorn, WornBy, IsRuled, AnswersTold, Answers}
-use Rattle.fluid_doors.specs.Entering.{Submits, Reports, Joins, IsJoined, IsJoinOf, with_id, id_in, is_full_at, is_full_by, has_too_many_at, Sweeps, SweepsTold, SweepsFirst, SweepsOut, IsWorn, IsLeaveAt, left_id, with_left, verdict_left}
-use Rattle.fluid_doors.specs.Storing.{Checkpoints, Restarts, IsStoreFault, IsStored, stored_in, text_length, has_checkpoints_at, has_none_at}
+use Rattle.fluid_doors.specs.Answers.{is_worn_behind, IsNotWorn, WornBy, IsRuled, Answers}
+use Rattle.fluid_doors.specs.Entering.{Submits, Reports, Joins, IsJoined, IsJoinOf, with_id, id_in, is_full_at, is_full_by, has_too_many_at, Sweeps, SweepsFirst, IsWorn, IsLeaveAt, left_id, with_left, verdict_left}
+use Rattle.fluid_doors.specs.Storing.{Checkpoints, Restarts, IsStoreFault, IsStored, stored_in, has_checkpoints_at, has_none_at}
 use Rattle.fluid_doors.specs.Scribing.{IsJobOf}
 use Rattle.fluid_doors.specs.Laws.{NewIsKept}
 
@@ -142,12 +140,12 @@ pub answers : {A : Type 0} (old new : Standing) (l : List Step) (rules said : Li
 answers old new l rules said may may_be right result law stands none each gate told = record {
   worn = worn_by old new l rules may result none each stands gate;
   told = λ is.
-    let says = told_is old.keeping.content (SaysOf old (ledger l)) is (law old l stands) in
-    let t = told is says in record {
-      legal = says.legal;
-      ruled = λ fresh. subst (λ o. IsRuled may_be o result) t.0 (ruled old new (first_refusal rules) may may_be result t.1.0 (no_refusal old (first_refusal rules) result gate.passes) (gate.refuses (worn_same old l stands ∙ fresh)));
-      is_right = t.1.1;
-    };
+      let says = told_is old.keeping.content (SaysOf old (ledger l)) is (law old l stands) in
+      let t = told is says in record {
+        legal = says.legal;
+        ruled = λ fresh. subst (λ o. IsRuled may_be o result) t.0 (ruled old new (first_refusal rules) may may_be result t.1.0 (no_refusal old (first_refusal rules) result gate.passes) (gate.refuses (worn_same old l stands ∙ fresh)));
+        is_right = t.1.1;
+      };
 }
 
 -- ---- submissions, reports, joins
@@ -188,19 +186,19 @@ pub joins : (old new : Standing) (scopes : Scopes) (detail : Tree) (moment : ℕ
     → IfOk result (λ r. r.0 ≡ Join (entry_name old.entries.entered) scopes detail moment) → IfOk result (λ r. Sequenced r.1 ≡ verdict_in old.entries.state r.0) → LaneStands old l → Joins (terms_of old) scopes detail moment (with_id result) l
 joins old new scopes detail moment result l law gate raw said stands =
     let a = answers old new l (is_full old ∷ has_too_many old ∷ []) (is_full_at (terms_of old) l ∷ has_too_many_at (terms_of old) l ∷ []) IsOutside IsOutside (λ r. Unit {0}) result law stands (tt, (tt, tt)) outside_not_worn gate
-          (λ is says. (
-            ap (λ n. first_refusal ((nat_le old.limits.entries n, Full old.limits.entries) ∷ has_too_many old ∷ [])) says.counted
-            ∙ ap (λ n. first_refusal (is_full_at (terms_of old) l ∷ (nat_le old.limits.clients n, TooManyClients) ∷ [])) says.count,
-            ((λ f may. may), if_ok result _ _ (λ r e. tt) raw),
-          )) in record {
+    (λ is says. (
+      ap (λ n. first_refusal ((nat_le old.limits.entries n, Full old.limits.entries) ∷ has_too_many old ∷ [])) says.counted
+          ∙ ap (λ n. first_refusal (is_full_at (terms_of old) l ∷ (nat_le old.limits.clients n, TooManyClients) ∷ [])) says.count,
+      ((λ f may. may), if_ok result _ _ (λ r e. tt) raw),
+    )) in record {
       worn = with_id_worn (is_worn_behind l) result a.worn;
       told = λ is.
-        let t = a.told is in
-        let says = told_is old.keeping.content (SaysOf old (ledger l)) is (law old l stands) in record {
-          legal = t.legal;
-          ruled = λ fresh. with_id_ruled IsOutside _ result (t.ruled fresh);
-          is_right = joined_right old scopes detail moment result l says raw said;
-        };
+          let t = a.told is in
+          let says = told_is old.keeping.content (SaysOf old (ledger l)) is (law old l stands) in record {
+            legal = t.legal;
+            ruled = λ fresh. with_id_ruled IsOutside _ result (t.ruled fresh);
+            is_right = joined_right old scopes detail moment result l says raw said;
+          };
     }
 
 pub is_join : (scopes : Scopes) (detail : Tree) (moment : ℕ) (id : List ℕ) (result : Result (Raw × Message) LaneFault) → IfOk result (λ r. r.0 ≡ Join id scopes detail moment) → IfOk result (IsJoinOf scopes detail moment)
@@ -295,17 +293,17 @@ pub restarts_say : (old new : Standing) (number : ℕ) (result : Result (Unit {0
     → Restarts (terms_of old) number result l
 restarts_say old new number result l law gate never stands =
     let a = answers old new l (has_no_checkpoint old number ∷ []) (has_none_at (terms_of old) l number ∷ []) IsReadFault IsReadFault (λ _. Unit {0}) result law stands (tt, tt) read_not_worn gate
-          (λ is says. (
-            ap (λ n. first_refusal ((nat_le n number, NoCheckpoint number n) ∷ [])) (told_stands old l stands is).1,
-            ((λ f may. may), done result),
-          )) in record {
+    (λ is says. (
+      ap (λ n. first_refusal ((nat_le n number, NoCheckpoint number n) ∷ [])) (told_stands old l stands is).1,
+      ((λ f may. may), done result),
+    )) in record {
       worn = a.worn;
       told = λ is.
-        let t = a.told is in record {
-          legal = t.legal;
-          ruled = λ fresh. restart_ruled old new _ result (told_is old.keeping.content _ is never) (t.ruled fresh);
-          is_right = done result;
-        };
+          let t = a.told is in record {
+            legal = t.legal;
+            ruled = λ fresh. restart_ruled old new _ result (told_is old.keeping.content _ is never) (t.ruled fresh);
+            is_right = done result;
+          };
     }
   where
     done : (r : Result (Unit {0}) LaneFault) → IfOk r (λ _. Unit {0})
@@ -363,10 +361,10 @@ pub sweeps : (old new : Standing) (moment silence : ℕ) (result : Result (Optio
 sweeps old new moment silence result l law by stands = record {
   worn = worn (first_silent moment silence old.entries.state.sequencer.rows) by;
   told = λ is.
-    let says = told_is old.keeping.content (SaysOf old (ledger l)) is (law old l stands) in record {
-      legal = says.legal;
-      first = subst (λ o. SweepsFirst moment o (verdict_left result) (with_left result) l) (says.silent moment silence) (first says (first_silent moment silence old.entries.state.sequencer.rows) by);
-    };
+      let says = told_is old.keeping.content (SaysOf old (ledger l)) is (law old l stands) in record {
+        legal = says.legal;
+        first = subst (λ o. SweepsFirst moment o (verdict_left result) (with_left result) l) (says.silent moment silence) (first says (first_silent moment silence old.entries.state.sequencer.rows) by);
+      };
 }
   where
     worn : (o : Option (List ℕ)) → SweepsBy moment o old new result → IfErr (with_left result) (λ fault. IsWorn fault → is_worn_behind l ≡ true)

@@ -1,15 +1,14 @@
 -- What a door's call makes of a pass, from what its parts say.
-use Rattle.std.proofs.Common.{◌≡◌, ℕ, suc, ◌+◌, ◌≤◌, Bool, List, [], ◌∷◌, ◌++◌, length, map, is_some, Option, Some, None, Result, Ok, Err, refl, sym, ap, subst, ◌∙◌, append-nil, arith}
-use Rattle.std.specs.Prelude.{IfOk, IfSome}
+use Rattle.std.proofs.Common.{◌≡◌, ℕ, suc, ◌+◌, ◌≤◌, Bool, List, [], ◌∷◌, ◌++◌, length, is_some, Option, Some, None, Result, Ok, Err, refl, sym, ap, subst, ◌∙◌, append-nil, arith}
+use Rattle.std.specs.Prelude.{IfOk}
 use Rattle.fluid_types.specs.declared.entries.Raw.{Raw}
-use Rattle.fluid_types.specs.declared.entries.Raw.TheVariants.{Join, Leave}
 use Rattle.fluid_types.specs.declared.entries.Scopes.{Scopes}
 use Rattle.fluid_types.specs.declared.messages.Message.{Message}
 use Rattle.fluid_types.specs.declared.verdicts.Verdict.TheVariants.{Sequenced}
 use Rattle.fluid_json.specs.Tree.{Tree}
 use Rattle.fluid_rules.specs.declared.limits.Limits.{Limits}
 use Rattle.fluid_turn.specs.declared.view.Numbered.{Numbered}
-use Rattle.fluid_turn.specs.Entries.{IsPrefix, by_seat, entries}
+use Rattle.fluid_turn.specs.Entries.{IsPrefix, entries}
 use Rattle.fluid_turn.specs.Seats.{seeing}
 use Rattle.fluid_document.specs.Entries.{most}
 use Rattle.fluid_lane.specs.declared.fault.LaneFault.{LaneFault}
@@ -18,7 +17,6 @@ use Rattle.fluid_lane.specs.declared.steps.Step.TheVariants.{Entered}
 use Rattle.fluid_lane.specs.Standing.{Standing, LaneStands, Goes}
 use Rattle.fluid_lane.specs.Steps.{steps_of, joined_by, swept_by}
 use Rattle.fluid_doors.specs.declared.bench.Terms.{Terms}
-use Rattle.fluid_doors.specs.Terms.{terms_of}
 use Rattle.fluid_doors.specs.Passing.{APass, adding, Grows, Continues}
 use Rattle.fluid_doors.specs.Entering.{joined_as, swept_as, with_id, with_left, verdict_left, IsJoinOf, IsLeaveAt}
 
@@ -30,9 +28,9 @@ terms limits opened told = record { limits = limits; opened = opened; told = tol
 pub continues : (old new : Standing) (added : List Step) → Goes old new added → Continues old new added
 continues old new added goes = record {
   terms =
-    ap (λ x. terms x new.opened (is_some new.keeping.content)) goes.limits
-    ∙ ap (λ x. terms old.limits x (is_some new.keeping.content)) goes.opened
-    ∙ ap (λ x. terms old.limits old.opened x) goes.told;
+      ap (λ x. terms x new.opened (is_some new.keeping.content)) goes.limits
+      ∙ ap (λ x. terms old.limits x (is_some new.keeping.content)) goes.opened
+      ∙ ap (λ x. terms old.limits old.opened x) goes.told;
   list = goes.list;
 }
 
@@ -61,6 +59,9 @@ grows_by p q seat list added holds saw is few begins says =
       few = few;
       says = says;
     }
+
+pub adding_none : (k : APass) → k ≡ adding [] k
+adding_none k = ap (λ l. record k { seen = l }) (sym (append-nil k.seen)) ∙ ap (λ m. record k { seen = k.seen ++ []; mine = m }) (sym (append-nil k.mine))
 
 -- ---- steps by the answer
 

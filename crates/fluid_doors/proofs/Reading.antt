@@ -1,12 +1,11 @@
 -- Messages that a cursor gets.
-use Rattle.std.proofs.Common.{◌≡◌, ℕ, ◌+◌, ◌-◌, ◌≤◌, ◌<◌, true, false, Bool, List, [], ◌∷◌, length, take, drop, min, is_some, Option, Some, None, Result, Ok, Err, refl, sym, ap, subst, ◌∙◌, arith}
+use Rattle.std.proofs.Common.{◌≡◌, ℕ, ◌+◌, ◌-◌, ◌≤◌, true, false, Bool, List, [], length, take, drop, min, is_some, Result, Ok, Err, refl, sym, ap, subst, ◌∙◌, arith}
 use Rattle.std.specs.Prelude.{IfOk, IfErr}
-use Rattle.std.proofs.lemmas.Bool.{false≢true}
 use Rattle.fluid_io.specs.Causes.{Tells}
 use Rattle.fluid_types.specs.Ledger.{Ledger, order, seq}
 use Rattle.fluid_types.specs.declared.messages.Message.{Message}
 use Rattle.fluid_deltas.specs.Pushed.{slice}
-use Rattle.fluid_deltas.specs.Ranges.{IsSlice, IsFaultOf}
+use Rattle.fluid_deltas.specs.Ranges.{IsSlice}
 use Rattle.fluid_deltas.specs.declared.fault.DeltaFault.{DeltaFault}
 use Rattle.fluid_deltas.specs.declared.fault.DeltaFault.TheVariants.{DeltaFailed, NoMemory, BadDelta, Worn}
 use Rattle.fluid_lane.specs.declared.steps.Step.{Step}
@@ -16,7 +15,7 @@ use Rattle.fluid_lane.specs.Ranges.{Ranges}
 use Rattle.fluid_lane.specs.Laws.{LaneSays, SaysOf}
 use Rattle.fluid_doors.specs.Terms.{terms_of}
 use Rattle.fluid_doors.specs.Answers.{is_worn_behind}
-use Rattle.fluid_doors.specs.Collecting.{batch, IsReadFault, IsWornDelta, Collects, CollectsTold}
+use Rattle.fluid_doors.specs.Collecting.{IsReadFault, IsWornDelta, Collects, CollectsTold}
 use Rattle.fluid_doors.proofs.Answering.{worn_same, told_is}
 
 seq_is : (l : Ledger) → seq l ≡ length (order l)
@@ -33,13 +32,13 @@ module _ {V : Type 0} (messages : V → List Message) where
   collects_none s l next atmost v law stands empty none = record {
     worn = tt;
     told = λ is.
-      let says = told_is s.keeping.content (SaysOf s (ledger l)) is (law s l stands) in
-      let few : next + min atmost (length (order (ledger l)) + 1 - next) ≤ next = subst (λ n. next + min atmost (n + 1 - next) ≤ next) (says.seq ∙ seq_is (ledger l)) none in
-      let zero : next + min atmost (length (order (ledger l)) + 1 - next) - next ≡ 0 = omega (arith, few) in record {
-        legal = says.legal;
-        given = empty ∙ sym (ap (λ n. take n (drop (next - 1) (order (ledger l)))) zero);
-        faults = tt;
-      };
+        let says = told_is s.keeping.content (SaysOf s (ledger l)) is (law s l stands) in
+        let few : next + min atmost (length (order (ledger l)) + 1 - next) ≤ next = subst (λ n. next + min atmost (n + 1 - next) ≤ next) (says.seq ∙ seq_is (ledger l)) none in
+        let zero : next + min atmost (length (order (ledger l)) + 1 - next) - next ≡ 0 = omega (arith, few) in record {
+          legal = says.legal;
+          given = empty ∙ sym (ap (λ n. take n (drop (next - 1) (order (ledger l)))) zero);
+          faults = tt;
+        };
   }
 
   -- a range of the lane
@@ -73,8 +72,8 @@ module _ {V : Type 0} (messages : V → List Message) where
   collects_range s t l next atmost result law stands worn ranges sliced = record {
     worn = fault_worn s t _ _ l result stands ranges;
     told = λ is.
-      let says = told_is s.keeping.content (SaysOf s (ledger l)) is (law s l stands) in
-      told is says (is_worn s) refl;
+        let says = told_is s.keeping.content (SaysOf s (ledger l)) is (law s l stands) in
+        told is says (is_worn s) refl;
   }
     where
       told : is_some s.keeping.content ≡ true → SaysOf s (ledger l) → (b : Bool) → is_worn s ≡ b → CollectsTold messages next atmost result l
@@ -97,4 +96,4 @@ module _ {V : Type 0} (messages : V → List Message) where
       collects_range s t l next atmost result law stands worn
       (subst (λ n. is_worn s ≡ false → Ranges messages n (next + min atmost (s.entries.state.sequencer.sequence + 1 - next)) s t result) at (subst (λ n. is_worn s ≡ false → Ranges messages from n s t result) last ranges))
       (subst (λ n. is_worn s ≡ false → (l : List Step) → LaneStands s l → Tells s.keeping.content (λ _. IsSlice messages (slice (order (ledger l)) n (next + min atmost (s.entries.state.sequencer.sequence + 1 - next))) result)) at
-        (subst (λ n. is_worn s ≡ false → (l : List Step) → LaneStands s l → Tells s.keeping.content (λ _. IsSlice messages (slice (order (ledger l)) from n) result)) last sliced))
+      (subst (λ n. is_worn s ≡ false → (l : List Step) → LaneStands s l → Tells s.keeping.content (λ _. IsSlice messages (slice (order (ledger l)) from n) result)) last sliced))

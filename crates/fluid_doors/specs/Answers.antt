@@ -1,5 +1,5 @@
 -- Which answers a call on a document has, by the list of steps for which its lane stood.
-use Rattle.std.specs.Prelude.{◌≡◌, ⊤, ℕ, ◌⊎◌, nat_le, Bool, true, false, List, length, Option, Some, None, Result, Ok, Err, IfOk, IfErr}
+use Rattle.std.specs.Prelude.{◌≡◌, ⊤, ◌⊎◌, nat_le, Bool, true, false, List, length, Option, Some, None, Result, Ok, Err, IfOk, IfErr}
 use Rattle.fluid_rules.specs.Rules.{IsLegal}
 use Rattle.fluid_document.specs.Entries.{most}
 use Rattle.fluid_lane.specs.declared.steps.Step.{Step}

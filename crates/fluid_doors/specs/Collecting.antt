@@ -1,5 +1,5 @@
 -- Messages that a reader gets.
-use Rattle.std.specs.Prelude.{◌≡◌, ⊤, ℕ, ◌+◌, ◌-◌, ◌≤◌, min, true, List, length, Result, IfOk, IfErr}
+use Rattle.std.specs.Prelude.{◌≡◌, ⊤, ℕ, ◌+◌, ◌-◌, min, true, List, length, Result, IfOk, IfErr}
 use Rattle.fluid_types.specs.Ledger.{order}
 use Rattle.fluid_types.specs.declared.messages.Message.{Message}
 use Rattle.fluid_rules.specs.Rules.{IsLegal}

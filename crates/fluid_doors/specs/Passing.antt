@@ -1,5 +1,5 @@
 -- What a call on a door makes of the pass that it is handed.
-use Rattle.std.specs.Prelude.{◌≡◌, ℕ, ◌≤◌, List, ◌++◌, map, length}
+use Rattle.std.specs.Prelude.{◌≡◌, ◌≤◌, List, ◌++◌, map, length}
 use Rattle.fluid_turn.specs.declared.view.Numbered.{Numbered}
 use Rattle.fluid_turn.specs.Entries.{IsPrefix, by_seat, entries}
 use Rattle.fluid_turn.specs.Seats.{Known}

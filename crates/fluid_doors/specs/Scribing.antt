@@ -1,7 +1,6 @@
 -- What is done about a summary that is pending.
 use Rattle.std.specs.Prelude.{◌≡◌, ⊤, ℕ, Bool, true, List, [], Option, Some, None, Result, Ok, Err}
 use Rattle.fluid_types.specs.Ledger.{order}
-use Rattle.fluid_types.specs.declared.entries.Raw.{Raw}
 use Rattle.fluid_types.specs.declared.entries.Raw.TheVariants.{Report}
 use Rattle.fluid_types.specs.declared.verdicts.Verdict.{Verdict}
 use Rattle.fluid_rules.specs.Rules.{IsLegal}

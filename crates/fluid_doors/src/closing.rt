@@ -51,10 +51,7 @@ pub(crate) fn close<K: Keeper>(held: Held<'_, Bench<K>>) -> Pass<K>
 }
 
 // Enters that the keeper failed, where it did.
-pub(crate) fn close_noted<K: Keeper>(
-    held: Held<'_, Bench<K>>,
-    note: Option<FaultNote>,
-) -> Pass<K>
+pub(crate) fn close_noted<K: Keeper>(held: Held<'_, Bench<K>>, note: Option<FaultNote>) -> Pass<K>
     requires noted { HasNoted held.place }
     requires stands { LaneStands held.value.lane (entries held.place.list ++ note_steps note) }
     requires fixed { terms_of held.value.lane ≡ held.place.seat.turn.fixed }

@@ -1,6 +1,4 @@
 use Rattle.fluid_doors.proofs.Answering.{legal_seen}
-use Rattle.fluid_doors.proofs.Passes.{grows_by}
-use Rattle.fluid_doors.proofs.Reading.{collects_range}
 use Rattle.fluid_doors.proofs.laws.know.Goals as goal
 
 pub returns-clause-legal : goal.returns-clause-legal

@@ -12,6 +12,6 @@ returns c =
     c.in_ok-push-2.ensures.items
     ∙ ap (λ os. os ++ c.in_ok-version.version ∷ []) c.in_ok-push.ensures.items
     ∙ listed c.args.app.now _ c.in_ok-own.own c.in_ok-version.version _
-      (c.in_ok-objects.ensures ∙ ap (map (λ b. object_of (object_bytes (Blob b.1)))) nodes)
-      (c.in_ok-own.ensures ∙ ap (λ es. object_of (object_bytes (Tree es))) (c.in_ok-entries_of.ensures ∙ ap (map blob_entry) nodes))
-      (c.in_ok-version.ensures ∙ ap (λ es. object_of (object_bytes (Tree es))) c.in_ok-version_entries.ensures)
+    (c.in_ok-objects.ensures ∙ ap (map (λ b. object_of (object_bytes (Blob b.1)))) nodes)
+    (c.in_ok-own.ensures ∙ ap (λ es. object_of (object_bytes (Tree es))) (c.in_ok-entries_of.ensures ∙ ap (map blob_entry) nodes))
+    (c.in_ok-version.ensures ∙ ap (λ es. object_of (object_bytes (Tree es))) c.in_ok-version_entries.ensures)

@@ -1,4 +1,3 @@
-use Rattle.std.proofs.Common.{Result, Ok, Err}
 use Rattle.fluid_doors.proofs.Answering.{if_ok, job_is}
 use Rattle.fluid_doors.proofs.bench.Bench.job.Goals as goal
 

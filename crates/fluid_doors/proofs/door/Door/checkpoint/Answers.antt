@@ -6,6 +6,9 @@ use Rattle.fluid_doors.specs.Storing.{Checkpoints}
 use Rattle.fluid_doors.proofs.Passes.{grows_by}
 use Rattle.fluid_doors.proofs.door.Door.checkpoint.Goals as goal
 
+pub close_stored-requires-clause-stands : goal.close_stored-requires-clause-stands
+close_stored-requires-clause-stands g c = c.checkpoint-answer.ensures.goes.list _ c.take_noted-held.ensures.stands
+
 pub returns : goal.returns
 returns g c =
     let h = c.take_noted-held in let a = c.checkpoint-answer in let e = c.close_stored.ensures in

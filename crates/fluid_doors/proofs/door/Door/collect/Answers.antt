@@ -6,6 +6,9 @@ use Rattle.fluid_doors.specs.Collecting.{Collects}
 use Rattle.fluid_doors.proofs.Passes.{grows_by}
 use Rattle.fluid_doors.proofs.door.Door.collect.Goals as goal
 
+pub close_read-requires-clause-stands : goal.close_read-requires-clause-stands
+close_read-requires-clause-stands g c = c.collect-answer.ensures.goes.list _ c.take_noted-held.ensures.stands
+
 pub returns : goal.returns
 returns g c =
     let h = c.take_noted-held in let a = c.collect-answer in let e = c.close_read.ensures in

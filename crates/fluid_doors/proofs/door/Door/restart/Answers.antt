@@ -6,6 +6,9 @@ use Rattle.fluid_doors.specs.Storing.{Restarts}
 use Rattle.fluid_doors.proofs.Passes.{grows_by}
 use Rattle.fluid_doors.proofs.door.Door.restart.Goals as goal
 
+pub close_restarted-requires-clause-stands : goal.close_restarted-requires-clause-stands
+close_restarted-requires-clause-stands g c = c.restart-answer.ensures.goes.list _ c.take_noted-held.ensures.stands
+
 pub returns : goal.returns
 returns g c =
     let h = c.take_noted-held in let a = c.restart-answer in let e = c.close_restarted.ensures in

@@ -6,6 +6,9 @@ use Rattle.fluid_doors.specs.Entering.{Submits}
 use Rattle.fluid_doors.proofs.Passes.{grows_by}
 use Rattle.fluid_doors.proofs.door.Door.submit.Goals as goal
 
+pub close_entered-requires-clause-stands : goal.close_entered-requires-clause-stands
+close_entered-requires-clause-stands g c = c.submit-answer.ensures.goes.list _ c.take_noted-held.ensures.stands
+
 pub returns : goal.returns
 returns g c =
     let h = c.take_noted-held in let a = c.submit-answer in let e = c.close_entered.ensures in
