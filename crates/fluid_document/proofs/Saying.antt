@@ -1,12 +1,10 @@
 -- What the text of a checkpoint says of what the entries made.
-use Rattle.std.proofs.Common.{◌≡◌, ◌⊎◌, ◌-◌, ◌^◌, ◌≤◌, ◌<◌, ℕ, zero, suc, min, true, false, Bool, List, [], ◌∷◌, ◌++◌, length, arith, ◌∙◌, All, Option, Some, None, Result, Ok, Err, inl, inr, refl, sym, ap, subst, ⊎_elim, le-leb, length-append, slice_get, codes}
-use Rattle.std.specs.Prelude.{nat_le, if◌then◌else◌, IfOk}
+use Rattle.std.proofs.Common.{◌≡◌, ◌⊎◌, ◌-◌, ◌^◌, ◌≤◌, ◌<◌, ℕ, zero, suc, min, false, List, [], ◌∷◌, ◌++◌, length, arith, ◌∙◌, All, Some, Result, Ok, Err, inl, inr, refl, ap, subst, ⊎_elim, le-leb, length-append, slice_get, codes}
+use Rattle.std.specs.Prelude.{IfOk}
 use Rattle.fluid_json.specs.declared.memory.NoMemory.{NoMemory}
 use Rattle.std.proofs.lemmas.Bool.{lt-leb}
 use Rattle.std.proofs.lemmas.Option.{none-some, same_Some}
 use Rattle.std.proofs.lemmas.List.Elements.{All-head, All-tail, All-nil, All-cons}
-use Rattle.fluid_types.specs.declared.entries.Raw.{Raw}
-use Rattle.fluid_types.specs.declared.verdicts.Verdict.{Verdict}
 use Rattle.fluid_types.specs.Ledger.{Ledger, seq}
 use Rattle.fluid_types.proofs.Ledgers.{seq-le_length}
 use Rattle.fluid_rules.specs.Rules.{IsLegal}
@@ -27,15 +25,15 @@ use Rattle.fluid_checkpoint.specs.declared.state.State.{State as Checkpoint}
 use Rattle.fluid_checkpoint.specs.declared.state.Form.{Form}
 use Rattle.fluid_checkpoint.specs.declared.state.Form.TheVariants.{One, Two}
 use Rattle.fluid_checkpoint.specs.Heard.{Moments, moments_of}
-use Rattle.fluid_checkpoint.specs.Text.{state_printed, first_printed}
+use Rattle.fluid_checkpoint.specs.Text.{state_printed}
 use Rattle.fluid_checkpoint.specs.Laws.{IsWritten}
 use Rattle.fluid_checkpoint.proofs.Back.{read_back, first_read}
 use Rattle.fluid_readback.specs.Quorums.{QuorumsAreReadBack}
 use Rattle.fluid_checkpoint.specs.Reading.{answer}
 use Rattle.fluid_document.specs.declared.fault.LoadFault.TheVariants.{BadCheckpoint}
-use Rattle.fluid_document.specs.Entries.{Entries, most, nothing_entered, entries_of}
+use Rattle.fluid_document.specs.Entries.{Entries, most, entries_of}
 use Rattle.fluid_document.specs.Kept.{IsLoggable, checkpoint_state, checkpoint_text, IsPrinted, IsOfFirst, IsCheckpointOf, IsKept}
-use Rattle.fluid_document.specs.Loading.{entries_in, entered_in, begun_from, begun_as, begun_by, begun, IsSaid}
+use Rattle.fluid_document.specs.Loading.{entries_in, begun_from}
 use Rattle.fluid_document.proofs.InForm.{in_form}
 
 -- ---- printing
