@@ -1,5 +1,5 @@
 -- What is done about a summary that is pending.
-use Rattle.std.specs.Prelude.{◌≡◌, ⊤, ℕ, Bool, true, List, [], Option, Some, None, Result, Ok, Err}
+use Rattle.std.specs.Prelude.{◌≡◌, ◌⊎◌, ⊤, ℕ, Bool, true, List, [], Option, Some, None, Result, Ok, Err}
 use Rattle.fluid_types.specs.Ledger.{order}
 use Rattle.fluid_types.specs.declared.entries.Raw.TheVariants.{Report}
 use Rattle.fluid_types.specs.declared.verdicts.Verdict.{Verdict}
@@ -51,10 +51,17 @@ of_store (store.Tree fault) = Store (store.Tree fault)
 of_store (store.NoPath path) = Store (store.NoPath path)
 of_store store.NoMemory = NoMemory
 
--- idle is answered exactly where no summary is pending. Nothing is entered for want of memory and where the store refuses
+-- what a store refuses is that it failed, or that other bytes are held under the id of an object
+abbrev pub IsOfStore : StoreFault → Type 0
+IsOfStore (store.StoreFailed note) = ⊤
+IsOfStore (store.Clash id kept bytes) = ⊤
+IsOfStore other = ⊥
+
+-- idle is answered exactly where no summary is pending. Nothing is entered where the store refuses, and for want of memory: that
+-- was wanting before the store was asked, or the store is left as a call that puts these objects leaves it
 abbrev pub Scribes : Terms → APass → APass → ℕ → Storing → Storing → Result ScribeEnd ScribeFault → Type 0
 Scribes t p q moment old new (Ok Idle) = Grows p q [] (IsJobOf t None) × (new ≡ old)
 Scribes t p q moment old new (Ok (Concluded verdict)) = Concludes t p q moment old new (Ok verdict)
 Scribes t p q moment old new (Err (Lane fault)) = Concludes t p q moment old new (Err fault)
-Scribes t p q moment old new (Err (Store fault)) = IsRefused t p q old new fault
-Scribes t p q moment old new (Err NoMemory) = Grows p q [] (λ l. ⊤)
+Scribes t p q moment old new (Err (Store fault)) = IsRefused t p q old new fault × IsOfStore fault
+Scribes t p q moment old new (Err NoMemory) = (Grows p q [] (λ l. ⊤) × (new ≡ old)) ⊎ IsRefused t p q old new store.NoMemory

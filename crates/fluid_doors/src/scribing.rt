@@ -6,7 +6,7 @@ ghost use Rattle.fluid_lane.specs.Steps.{steps_of, entered_by};
 ghost use Rattle.fluid_doors.specs.Passing.{Grows};
 ghost use Rattle.fluid_doors.specs.Entering.{Reports};
 ghost use Rattle.fluid_doors.specs.Scribing.{IsJobOf, Scribes};
-ghost use Rattle.fluid_versions.specs.Versions.{PutsVersion};
+ghost use Rattle.fluid_store.specs.Keeping.{Counts};
 
 use crate::closing::{close, close_entered};
 use crate::door::{Door, Pass};
@@ -35,7 +35,8 @@ impl<K: Keeper> Door<K> {
     ) -> (Pass<K>, Result<ScribeEnd, ScribeFault>)
         requires pass { pass.turn ≡ self.now.turn }
         requires moment { moment ≤ most }
-        ensures { Scribes self.now.turn.fixed pass result.0 moment (O.seen objects.old) (O.seen objects.new) result.1 }
+        ensures counts { Counts (O.seen objects.old) (O.seen objects.new) }
+        ensures scribes { Scribes self.now.turn.fixed pass result.0 moment (O.seen objects.old) (O.seen objects.new) result.1 }
     {
         let (pass, asked) = self.ask(rt, alloc, pass);
         match asked {
