@@ -2,7 +2,8 @@
 ghost use Rattle.std.specs.Prelude.{◌≡◌, ◌⊎◌, ◌<◌, ◌≤◌, ◌^◌, ◌+◌, ◌-◌, ℕ, List, Ok, IfOk, IfErr, OnOk, OnErr, length, option_map};
 ghost use Rattle.fluid_io.specs.Causes.{Tells};
 ghost use Rattle.fluid_rules.specs.Scribe.{handling, is_ack};
-ghost use Rattle.fluid_runtime.specs.AppTree.{app_tree};
+ghost use Rattle.fluid_runtime.specs.AppTree as summaries;
+ghost use Rattle.fluid_runtime.specs.AppTree.{app_tree, AreBounded};
 ghost use Rattle.fluid_runtime.specs.Shown.{shown};
 ghost use Rattle.fluid_store.specs.Standing.{Stands};
 ghost use Rattle.fluid_types.specs.Order.{AreNumberedFrom};
@@ -282,9 +283,11 @@ impl Container {
         self.app.visible(alloc)
     }
 
-    /// The tree in which a summary keeps the channels, without the pending edits.
+    /// The tree in which a summary keeps the channels, without the pending edits. These channels are read back from it where
+    /// the counters lie within plus or minus 2^120 and the values of maps are at most 99 deep.
     pub fn tree(&self, alloc: Global) -> Result<Node, NoMemory>
-        ensures { IfOk result (λ node. node ≡ app_tree self.now.channels) }
+        ensures tree { IfOk result (λ node. node ≡ app_tree self.now.channels) }
+        ensures reads_back { IfOk result (λ node. AreBounded self.now.channels → summaries.answer node ≡ Ok self.now.channels) }
     {
         self.app.to_tree(alloc)
     }

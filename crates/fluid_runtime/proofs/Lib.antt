@@ -6,5 +6,6 @@ pub mod Laid
 pub mod Marked
 pub mod Reading
 pub mod ReadBack
+pub mod Bounded
 pub mod AnyOrder
 pub mod Since

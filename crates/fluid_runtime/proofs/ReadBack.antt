@@ -33,7 +33,7 @@ map_in : map.Values → Result map.Shared BlobFault → map.Values
 map_in values (Ok shared) = shared.acknowledged
 map_in values (Err fault) = values
 
-map_said : (b : Bool) (read values : map.Values) (fault : BlobFault)
+pub map_said : (b : Bool) (read values : map.Values) (fault : BlobFault)
     → ◌≡◌ {A = Result map.Shared BlobFault} (if b then Ok (record { acknowledged = read; pending = [] }) else Err fault) (Ok (record { acknowledged = values; pending = [] }))
     → ◌≡◌ {A = Option Channel} (if b then Some (a_map read) else None) (Some (a_map values))
 unfolding map_in
@@ -44,7 +44,7 @@ total_in : ℤ → Result counter.Shared BlobFault → ℤ
 total_in total (Ok shared) = shared.acknowledged
 total_in total (Err fault) = total
 
-counter_said : (b : Bool) (read total : ℤ) (fault : BlobFault)
+pub counter_said : (b : Bool) (read total : ℤ) (fault : BlobFault)
     → ◌≡◌ {A = Result counter.Shared BlobFault} (if b then Ok (record { acknowledged = read; pending = [] }) else Err fault) (Ok (record { acknowledged = total; pending = [] }))
     → ◌≡◌ {A = Option Channel} (if b then Some (a_counter read) else None) (Some (a_counter total))
 unfolding total_in
@@ -137,24 +137,27 @@ unfolding AreFresh
 all_fresh [] = tt
 all_fresh (e ∷ es) = (get-empty byte_order e.0, all_fresh es)
 
-IsRead : List ℕ × Channel → Type 0
+abbrev pub IsRead : List ℕ × Channel → Type 0
 IsRead e = IsName e.0 × (channel_in (kind_of e.1) (content_of e.1) ≡ Some e.1)
 
 read_all : (es : Pairs) (so_far : Channels) → T (is_sorted byte_order es) → AreFresh so_far es
     → ((n : ℕ) (d : List ℕ × Channel) → n < length es → IsRead (get_or es n d)) → channels_answer so_far (children (map (λ e. (e.0, channel_node e.1)) es)) ≡ Ok (fold put so_far es)
-unfolding AreFresh put IsRead
+unfolding AreFresh put
 read_all [] so_far sorted fresh each = refl
 read_all (e ∷ es) so_far sorted fresh each =
     let own = each 0 e (omega arith) in
     ap (λ r. r >>= λ channel. channels_answer (insert so_far e.0 channel) (children (map (λ e. (e.0, channel_node e.1)) es))) (read_entry so_far e.0 e.1 own.0 fresh.0 own.1)
     ∙ read_all es (insert so_far e.0 e.1) (second _ _ sorted) (fresh_still so_far e.0 e.1 es (first _ _ sorted) fresh.1) (λ n d within. each (suc n) d (omega (arith, within)))
 
+pub read_each : (channels : Channels)
+    → ((n : ℕ) (d : List ℕ × Channel) → n < length (entries channels) → IsRead (get_or (entries channels) n d)) → answer (app_tree channels) ≡ Ok channels
+unfolding answer
+read_each channels each = read_all (entries channels) no_channels (entries_sorted channels) (all_fresh (entries channels)) each ∙ ap Ok (all_put channels)
+
 pub read_back : map_laws.IsReadBack → counter_laws.IsReadBack → (channels : Channels) → AreStorable channels → answer (app_tree channels) ≡ Ok channels
-unfolding answer IsRead
 read_back maps counters channels storable =
-    read_all (entries channels) no_channels (entries_sorted channels) (all_fresh (entries channels))
+    read_each channels
     (λ n d within.
     let e = get_or (entries channels) n d in
     let is = storable e.0 e.1 (found_there channels n d within) in
     (is.0, read_in maps counters e.1 is.1))
-    ∙ ap Ok (all_put channels)

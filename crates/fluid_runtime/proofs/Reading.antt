@@ -6,7 +6,7 @@ use Rattle.std.proofs.lemmas.Bool.{false≢true}
 use Rattle.std.proofs.lemmas.List.{at_drop_more}
 use Rattle.fluid_json.specs.Unless.{IsUnless}
 use Rattle.fluid_table.specs.Table.{Table}
-use Rattle.fluid_types.specs.Names.{is_name, read_name}
+use Rattle.fluid_types.specs.Names.{is_name, IsName, read_name}
 use Rattle.fluid_types.specs.declared.names.NameFault.{NameFault}
 use Rattle.fluid_types.specs.declared.names.NameFault.TheVariants.{BadName, NoMemory as NoNameMemory}
 use Rattle.fluid_types.specs.declared.fault.BlobFault.{BlobFault}
@@ -18,12 +18,12 @@ use Rattle.fluid_edits.specs.declared.edit.ChannelKind.TheVariants.{Map}
 use Rattle.fluid_edits.specs.Replay.{Channel, a_map, Channels}
 use Rattle.fluid_runtime.specs.App.{AnApp, loaded, loaded_if}
 use Rattle.fluid_runtime.specs.AppTree.{channel_in, channel_answer, subtree, entry_answer, channels_answer, tree_answer, answer, ◌>>=◌}
-use Rattle.fluid_runtime.specs.Slots.{Slots, channel_of, channel_of_object, channels_of, IsQuiet, IsSound}
+use Rattle.fluid_runtime.specs.Slots.{Slots, channel_of, channel_of_object, channels_of, AreNamed, IsQuiet, IsSound, IsTold}
 use Rattle.fluid_runtime.specs.Loaded.{read_slots}
 use Rattle.fluid_runtime.specs.declared.slots.Object.{Object}
 use Rattle.fluid_runtime.specs.declared.slots.Slot.{Slot}
 use Rattle.fluid_runtime.proofs.Each.{get_each, each_inserted, each_empty}
-use Rattle.fluid_runtime.proofs.Told.{some_mapped, told_sound}
+use Rattle.fluid_runtime.proofs.Told.{some_mapped, told_sound, told_named}
 
 map_read : Result map.Shared BlobFault → Option Channel
 map_read (Ok shared) = Some (a_map shared.acknowledged)
@@ -108,9 +108,18 @@ entry_goes slots behind es n e name object wanted within is own put read so_far 
     ∙ sym (at_next (channels_of slots) es n e within is ∙ ap (λ r. r >>= λ channel. channels_answer (insert (channels_of slots) e.0 channel) (children (drop (n + 1) es))) (ok_read _ _ read))
     ∙ so_far
 
-pub entry_sound : (slots behind : Slots) (name : List ℕ) (object : Object) → behind ≡ insert slots name (record { object = object; last = 0 }) → IsQuiet 0 object → IsSound 0 slots → IsSound 0 behind
-entry_sound slots behind name object put quiet sound =
-    told_sound 0 name slots behind (Some (channel_of_object object)) sound (record { slot = record { object = object; last = 0 }; put = put; holds = refl; counted = refl; quiet = quiet })
+entry_put : (slots behind : Slots) (name : List ℕ) (object : Object) → behind ≡ insert slots name (record { object = object; last = 0 }) → IsQuiet 0 object → IsName name
+    → IsTold 0 name slots behind (Some (channel_of_object object))
+entry_put slots behind name object put quiet named =
+    record { slot = record { object = object; last = 0 }; named = named; put = put; holds = refl; counted = refl; quiet = quiet }
+
+pub entry_named : (slots behind : Slots) (name : List ℕ) (object : Object) → behind ≡ insert slots name (record { object = object; last = 0 }) → IsQuiet 0 object → IsName name → AreNamed slots → AreNamed behind
+entry_named slots behind name object put quiet name_is named =
+    told_named 0 name slots behind (Some (channel_of_object object)) named (entry_put slots behind name object put quiet name_is)
+
+pub entry_sound : (slots behind : Slots) (name : List ℕ) (object : Object) → behind ≡ insert slots name (record { object = object; last = 0 }) → IsQuiet 0 object → IsName name → IsSound 0 slots → IsSound 0 behind
+entry_sound slots behind name object put quiet name_is sound =
+    told_sound 0 name slots behind (Some (channel_of_object object)) sound (entry_put slots behind name object put quiet name_is)
 
 failed_on : (fault : BlobFault) (r : Result Channel BlobFault) (rest : Channel → Result Channels BlobFault) → IsUnless NoMemory (Err fault) r → IsUnless NoMemory (Err fault) (r >>= rest)
 failed_on fault r rest (inl is) = inl (let same : fault ≡ NoMemory = cc in ap Err same)

@@ -1,8 +1,10 @@
 -- The tree in which a summary keeps channels: a subtree per channel, named by its address, with the blobs `content` and `kind`.
-use Rattle.std.specs.Prelude.{ℕ, List, [], ◌∷◌, ◌++◌, Bool, true, not, ◌&&◌, map, Option, Some, None, is_some, option_and_then, Result, Ok, Err, if◌then◌else◌, bytes_eq, codes}
+use Rattle.std.specs.Prelude.{◌≡◌, ℕ, ◌≤◌, List, [], ◌∷◌, ◌++◌, Bool, true, not, ◌&&◌, map, Option, Some, None, is_some, option_and_then, Result, Ok, Err, if◌then◌else◌, bytes_eq, codes}
 use Rattle.std.specs.Option.{ok_or, unwrap_or}
 use Rattle.std.specs.Ordering.{is_lt}
-use Rattle.std.specs.FinMap.{entries, get, insert}
+use Rattle.std.specs.List.{All}
+use Rattle.std.specs.FinMap.{entries, get, insert, values}
+use Rattle.fluid_json.specs.Tree.{depth}
 use Rattle.fluid_table.specs.Table as table
 use Rattle.fluid_table.specs.Table.{byte_order}
 use Rattle.fluid_tree.specs.Summary.{Summary, blob, tree, handle, Children, no_children, child, children, as_blob, as_children}
@@ -107,3 +109,17 @@ tree_answer (Some cs) = channels_answer no_channels cs
 -- the channels of a summary's tree; a node that is no tree has the fault of the empty path
 unfoldable pub answer : Summary → Result Channels BlobFault
 answer s = tree_answer (as_children s)
+
+-- ---- reading back
+
+-- a counter within plus or minus 2^120, a map whose values are at most 99 deep
+abbrev pub IsBounded : Channel → Type 0
+IsBounded (a_map kept) = All (λ value. depth value ≤ 99) (values kept)
+IsBounded (a_counter total) = counter.IsStorable total
+
+abbrev pub AreBounded : Channels → Type 0
+AreBounded channels = (at : List ℕ) (channel : Channel) → get channels at ≡ Some channel → IsBounded channel
+
+-- the content of such a channel is read as that channel
+abbrev pub IsReadAsItself : Channel → Type 0
+IsReadAsItself channel = IsBounded channel → channel_in (kind_of channel) (content_of channel) ≡ Some channel

@@ -2,6 +2,7 @@
 use Rattle.std.specs.Prelude.{◌≡◌, ℕ, ◌+◌, ◌*◌, ◌^◌, ◌≤◌, List, [], ◌∷◌, map, Bool, true, if◌then◌else◌, Option, Some, None, nat_lt, unsigned_abs}
 use Rattle.std.specs.FinMap.{entries, from_sorted, get, insert}
 use Rattle.fluid_table.specs.Table as table
+use Rattle.fluid_types.specs.Names.{IsName}
 use Rattle.fluid_edits.specs.Replay.{Channel, a_map, a_counter, Channels}
 use Rattle.fluid_tree.specs.Summary.{Summary, handle}
 use Rattle.fluid_runtime.specs.AppTree.{channel_node}
@@ -47,6 +48,10 @@ pub record IsSoundSlot (taken : ℕ) (slot : Slot) : Type 0 where
 abbrev pub IsSound : ℕ → Slots → Type 0
 IsSound taken slots = (at : List ℕ) (slot : Slot) → get slots at ≡ Some slot → IsSoundSlot taken slot
 
+-- each stands under a name
+abbrev pub AreNamed : Slots → Type 0
+AreNamed slots = (at : List ℕ) (slot : Slot) → get slots at ≡ Some slot → IsName at
+
 abbrev pub channels_of : Slots → Channels
 channels_of slots = each channel_of slots
 
@@ -65,9 +70,10 @@ abbrev pub IsToldSlot : ℕ → Option Channel → Slot → Slot → Type 0
 IsToldSlot number None before behind = behind ≡ before
 IsToldSlot number (Some channel) before behind = (channel_of behind ≡ channel) × (behind.last ≡ number)
 
--- the channel stands now under the address
+-- the channel stands now under the address, which is a name
 pub record IsPut (number : ℕ) (at : List ℕ) (before behind : Slots) (channel : Channel) : Type 0 where
   pub slot : Slot
+  pub named : IsName at
   pub put : behind ≡ insert before at slot
   pub holds : channel_of slot ≡ channel
   pub counted : slot.last ≡ number

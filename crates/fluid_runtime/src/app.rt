@@ -1,5 +1,5 @@
 // A client's channels.
-ghost use Rattle.std.specs.Prelude.{◌≡◌, ◌+◌, ◌<◌, ◌≤◌, [], ◌∷◌, ◌++◌, List, false, IsTrue, ◌↔◌, IfOk, OnOk, OnErr, option_map};
+ghost use Rattle.std.specs.Prelude.{◌≡◌, ◌+◌, ◌<◌, ◌≤◌, [], ◌∷◌, ◌++◌, List, false, IsTrue, ◌↔◌, Ok, IfOk, OnOk, OnErr, option_map};
 ghost use Rattle.std.specs.FinMap.{get};
 ghost use Rattle.fluid_json.specs.Unless.{IsUnless};
 ghost use Rattle.fluid_types.specs.declared.messages.Message.{Message as AMessage};
@@ -8,7 +8,7 @@ ghost use Rattle.fluid_edits.specs.Forms.{edit_of};
 ghost use Rattle.fluid_edits.specs.Replay.{Channels, no_channels, attached, kind_of};
 ghost use Rattle.fluid_runtime.specs.App.{StandsFor, visible, after_message, left, changed_by, all_are, loaded, loaded_if};
 ghost use Rattle.fluid_runtime.specs.AppTree as summaries;
-ghost use Rattle.fluid_runtime.specs.AppTree.{app_tree, tree_since};
+ghost use Rattle.fluid_runtime.specs.AppTree.{app_tree, tree_since, AreBounded};
 ghost use Rattle.fluid_runtime.specs.Kinds.{first_attached};
 ghost use Rattle.fluid_runtime.specs.Refused as refused;
 ghost use Rattle.fluid_runtime.specs.Shown.{shown};
@@ -44,7 +44,7 @@ impl Model for App {
     ghost use Rattle.std.specs.Prelude.{◌-◌, ◌^◌, ◌≤◌};
     ghost use Rattle.fluid_runtime.specs.App.{AnApp};
     ghost use Rattle.fluid_runtime.specs.Codes.{app_code};
-    ghost use Rattle.fluid_runtime.specs.Slots.{channels_of, changed_of, IsSound, IsKnown};
+    ghost use Rattle.fluid_runtime.specs.Slots.{channels_of, changed_of, IsSound, IsKnown, AreNamed};
 
     ghost Value = { AnApp };
 
@@ -52,7 +52,7 @@ impl Model for App {
 
     ghost view = { λ a. record { channels = channels_of a.slots.values; changed = changed_of a.mark a.slots.values; pending = a.pending.items; room = 2 ^ 64 - a.taken } };
 
-    ghost invariant = { λ a. IsSound a.taken a.slots.values × (IsKnown a.taken a.mark × (a.taken ≤ 2 ^ 64)) };
+    ghost invariant = { λ a. IsSound a.taken a.slots.values × (IsKnown a.taken a.mark × ((a.taken ≤ 2 ^ 64) × AreNamed a.slots.values)) };
 }
 
 impl App {
@@ -165,9 +165,11 @@ impl App {
         shown::shown(alloc, &slots)
     }
 
-    /// The tree in which a summary keeps the channels, without the pending edits.
+    /// The tree in which a summary keeps the channels, without the pending edits. `from_tree` reads these channels back where
+    /// the counters lie within plus or minus 2^120 and the values of maps are at most 99 deep.
     pub fn to_tree(&self, alloc: Global) -> Result<Node, NoMemory>
-        ensures { IfOk result (λ node. node ≡ app_tree self.now.channels) }
+        ensures tree { IfOk result (λ node. node ≡ app_tree self.now.channels) }
+        ensures reads_back { IfOk result (λ node. AreBounded self.now.channels → summaries.answer node ≡ Ok self.now.channels) }
     {
         summary::tree_of(alloc, &self.slots)
     }

@@ -1,10 +1,11 @@
 // The channels that the tree of a summary keeps.
-ghost use Rattle.std.specs.Prelude.{◌≡◌, ◌⊎◌, IfOk, IfErr, IfSome, option_map, Ok, Err};
+ghost use Rattle.std.specs.Prelude.{◌≡◌, ◌⊎◌, IfOk, IfErr, IfSome, OnOk, option_map, Ok, Err};
 ghost use Rattle.fluid_json.specs.Unless.{IsUnless};
 ghost use Rattle.fluid_tree.specs.Summary.{children, as_children};
+ghost use Rattle.fluid_types.specs.Names.{IsName};
 ghost use Rattle.fluid_types.specs.declared.fault.BlobFault.TheVariants.{NoMemory as no_memory, BadBlob as bad_blob};
 ghost use Rattle.fluid_runtime.specs.AppTree.{path, find_child, kind_in, channel_in, content_in, next, channel_answer, entry_answer, answer};
-ghost use Rattle.fluid_runtime.specs.Slots.{channel_of_object, channels_of, IsQuiet, IsSound};
+ghost use Rattle.fluid_runtime.specs.Slots.{channel_of_object, channels_of, AreNamed, IsQuiet, IsSound};
 ghost use Rattle.fluid_runtime.specs.Loaded.{read_object, read_slots, content_answer};
 
 use crate::slots::{Object, Slot};
@@ -27,6 +28,7 @@ const KIND: &str = "kind";
 pub(crate) fn slots_of(alloc: Global, tree: &Node) -> Result<SortedMap<Text, Slot>, BlobFault>
     ensures answer { IsUnless BlobFault.NoMemory (read_slots result) (answer tree.now) }
     ensures sound { IfOk result (λ slots. IsSound 0 slots.values) }
+    ensures named { IfOk result (λ slots. AreNamed slots.values) }
 {
     let Some(entries) = tree.as_tree() else {
         return Err(fault(alloc, ""));
@@ -50,6 +52,7 @@ fn entry_of(
 ) -> Result<Object, BlobFault>
     ensures answer { IsUnless BlobFault.NoMemory (read_object result) (entry_answer (channels_of slots.now.values) name.now node.now) }
     ensures quiet { IfOk result (IsQuiet 0) }
+    ensures name { OnOk result (IsName name.now) }
 {
     if slots.get(name).is_some() {
         return Err(fault(alloc, name));

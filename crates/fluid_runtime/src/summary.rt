@@ -1,8 +1,8 @@
 // The tree in which a summary keeps channels.
-ghost use Rattle.std.specs.Prelude.{◌≡◌, ◌++◌, [], ◌∷◌, IfOk, OnOk};
+ghost use Rattle.std.specs.Prelude.{◌≡◌, ◌++◌, [], ◌∷◌, Ok, IfOk, OnOk};
 ghost use Rattle.fluid_tree.specs.Summary.{blob, handle};
-ghost use Rattle.fluid_runtime.specs.AppTree.{channel_node, app_tree, tree_since};
-ghost use Rattle.fluid_runtime.specs.Slots.{channel_of_object, channels_of, changed_of, is_changed, node_at};
+ghost use Rattle.fluid_runtime.specs.AppTree.{content_of, channel_node, app_tree, tree_since, answer, AreBounded, IsReadAsItself};
+ghost use Rattle.fluid_runtime.specs.Slots.{channel_of_object, channels_of, changed_of, is_changed, node_at, AreNamed};
 
 use crate::slots::{Object, Slot};
 use fluid_json::{Bytes, NoMemory, Text};
@@ -13,7 +13,9 @@ use std::alloc::Global;
 
 /// The tree of these channels.
 pub(crate) fn tree_of(alloc: Global, slots: &SortedMap<Text, Slot>) -> Result<Node, NoMemory>
-    ensures { IfOk result (λ node. node ≡ app_tree (channels_of slots.now.values)) }
+    ensures tree { IfOk result (λ node. node ≡ app_tree (channels_of slots.now.values)) }
+    ensures reads_back { IfOk result (λ node. AreNamed slots.now.values → AreBounded (channels_of slots.now.values) →
+        answer node ≡ Ok (channels_of slots.now.values)) }
 {
     let slice = slots.as_slice();
     let mut nodes = Nodes::new(alloc);
@@ -74,17 +76,25 @@ fn handle_of(alloc: Global, address: &Text) -> Result<Node, NoMemory>
 }
 
 fn channel_node(alloc: Global, object: &Object) -> Result<Node, NoMemory>
-    ensures { IfOk result (λ node. node ≡ channel_node (channel_of_object object.now)) }
+    ensures node { IfOk result (λ node. node ≡ channel_node (channel_of_object object.now)) }
+    ensures reads_back { OnOk result (IsReadAsItself (channel_of_object object.now)) }
 {
-    let content = match object {
-        Object::Map(map) => map.to_blob(alloc)?,
-        Object::Counter(counter) => counter.to_blob(alloc)?,
-    };
+    let content = content_of(alloc, object)?;
     let kind = Bytes::copied(alloc, object.kind().word().as_bytes())?;
     let mut nodes = Nodes::new(alloc);
     put_blob(alloc, &mut nodes, "content", content)?;
     put_blob(alloc, &mut nodes, "kind", kind)?;
     Ok(Node::tree(nodes))
+}
+
+fn content_of(alloc: Global, object: &Object) -> Result<Bytes, NoMemory>
+    ensures content { IfOk result (λ blob. blob ≡ content_of (channel_of_object object.now)) }
+    ensures reads_back { OnOk result (IsReadAsItself (channel_of_object object.now)) }
+{
+    match object {
+        Object::Map(map) => map.to_blob(alloc),
+        Object::Counter(counter) => counter.to_blob(alloc),
+    }
 }
 
 fn put_blob(alloc: Global, nodes: &mut Nodes, name: &str, content: Bytes) -> Result<(), NoMemory>

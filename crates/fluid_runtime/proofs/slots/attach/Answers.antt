@@ -11,7 +11,7 @@ returns-then-is_some-clause-told c =
 
 pub returns-clause-told : goal.returns-clause-told
 returns-clause-told c =
-    attached_first c.args.number c.args.address.now c.args.slots.now.values c.insert.new.self.values c.args.kind c.fresh-object.result
+    attached_first c.args.number c.args.address.now c.args.slots.now.values c.insert.new.self.values c.args.kind c.fresh-object.result c.as_str.ensures.name
     (ap (λ k. is_some (get c.args.slots.now.values k)) (sym c.as_str.ensures.bytes)
     ∙ ap is_some (sym c.get.ensures) ∙ some_mapped _ c.get.result ∙ sym c.is_some.ensures ∙ c.if-is_some.false)
     (c.insert.ensures.values

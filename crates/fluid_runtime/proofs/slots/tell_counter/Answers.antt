@@ -18,4 +18,4 @@ returns c =
     c.vacant.result c.in-Some.slot c.counter_told-slot.result c.as_str.ensures.bytes c.as_str-2.ensures.bytes found c.replace.ensures.replaced c.replace-2.ensures.replaced in
     let told : IsToldSlot c.args.number (told_counter c.args.amount (Some (channel_of c.in-Some.slot))) c.in-Some.slot c.counter_told-slot.result = search rules in
     found_told c.args.number c.args.address.now c.args.slots.now.values c.replace-2.new.self.values c.in-Some.slot c.counter_told-slot.result (told_counter c.args.amount)
-    both.0 both.1 told c.counter_told-slot.ensures.quiet
+    c.as_str.ensures.name both.0 both.1 told c.counter_told-slot.ensures.quiet

@@ -19,7 +19,7 @@ returns-clause-told c =
     let quiet = c.map_told-slot.ensures.quiet (c.requires.sound c.args.address.now c.in-Some.slot both.0).quiet in
     on_ok c.map_told-slot.result.1
     (λ told. found_told c.args.number c.args.address.now c.args.slots.now.values c.replace-2.new.self.values c.in-Some.slot c.map_told-slot.result.0 (told_map c.args.op)
-    both.0 both.1 told quiet)
+    c.as_str.ensures.name both.0 both.1 told quiet)
     c.map_told-slot.ensures.told
 
 pub returns-clause-unchanged : goal.returns-clause-unchanged

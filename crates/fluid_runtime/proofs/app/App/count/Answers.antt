@@ -4,7 +4,7 @@ use Rattle.fluid_edits.specs.Forms.{address_of}
 use Rattle.fluid_edits.specs.Replay.{told}
 use Rattle.fluid_runtime.specs.App.{after_any, changed_by}
 use Rattle.fluid_runtime.specs.Slots.{channels_of, changed_of, IsSound, IsKnown}
-use Rattle.fluid_runtime.proofs.Told.{told_channels, told_sound, told_changed}
+use Rattle.fluid_runtime.proofs.Told.{told_channels, told_sound, told_named, told_changed}
 use Rattle.fluid_runtime.proofs.app.App.count.Goals as goal
 
 before : (n : ℕ) → n + 1 - 1 ≡ n
@@ -25,7 +25,10 @@ invariant_of-self-2 c =
       told_sound (c.self.inside.taken + 1) (address_of edit) slots c.take.new.slots.values (told edit (get (channels_of slots) (address_of edit))) sound c.in_ok-take.ensures.told,
       (
         known_more c.self.inside.taken c.self.inside.mark c.self.invariant.1.0,
-        roomy c.self.inside.taken c.args.self.now.room (ap (λ a. a.room) c.self.view_is) c.requires,
+        (
+          roomy c.self.inside.taken c.args.self.now.room (ap (λ a. a.room) c.self.view_is) c.requires,
+          told_named (c.self.inside.taken + 1) (address_of edit) slots c.take.new.slots.values (told edit (get (channels_of slots) (address_of edit))) c.self.invariant.1.1.1 c.in_ok-take.ensures.told,
+        ),
       ),
     )
 
