@@ -14,6 +14,4 @@ mod limits;
 #[cfg(test)]
 mod lives;
 #[cfg(test)]
-mod rows;
-#[cfg(test)]
 mod starts;
