@@ -7,11 +7,11 @@ use Rattle.std.specs.FinMap.{get, keys, len, len-entries, entries-from_sorted}
 use Rattle.std.proofs.lemmas.Bool.{cases_eq}
 use Rattle.std.proofs.lemmas.List.{length-map, length-append}
 use Rattle.std.proofs.lemmas.Simd.{map-map}
-use Rattle.std.proofs.lemmas.Option.{none-some, same_Some, slice_get-map}
+use Rattle.std.proofs.lemmas.Option.{none-some, same_Some, slice_get-map, slice_get_within, get_or_from_slice_get}
 use Rattle.fluid_table.specs.Table.{byte_order}
 use Rattle.fluid_table.specs.Keyed.{pairs_of, IsInOrder, IsAt, IsGap, table_of}
 use Rattle.fluid_table.proofs.Places.{holds}
-use Rattle.fluid_table.proofs.KeyedPlaces.{key_read, value_read, insert_there, in_order_set, remove_there, in_order_removed, insert_gap, in_order_inserted}
+use Rattle.fluid_table.proofs.KeyedPlaces.{get_there, key_read, value_read, insert_there, in_order_set, remove_there, in_order_removed, insert_gap, in_order_inserted}
 use Rattle.fluid_clients.specs.declared.table.Row.{Row}
 use Rattle.fluid_clients.specs.declared.table.Seat.{Seat}
 use Rattle.fluid_clients.specs.Table.{Rows, least}
@@ -37,6 +37,17 @@ ids_of seats place h =
     ap (λ (es : List (List ℕ × Row)). slice_get (map (λ entry. entry.0) es) place) (entries-from_sorted byte_order (pairs_of id_of row_of seats) (holds _ h))
     ∙ ap (λ ids. slice_get ids place) (map-map _ _ seats)
     ∙ slice_get-map (λ (seat : Seat). seat.id) seats place
+
+-- the row of the client whose id stands in a place is that of the seat in this place
+pub row_in_place : (seats : List Seat) (place : ℕ) (id : List ℕ) → IsInOrder id_of row_of seats → slice_get (keys (rows_in seats)) place ≡ Some id → get (rows_in seats) id ≡ option_map (λ seat. seat.row) (slice_get seats place)
+row_in_place seats place id h at = by (slice_get seats place) refl
+  where
+    by : (o : Option Seat) → slice_get seats place ≡ o → get (rows_in seats) id ≡ option_map (λ seat. seat.row) o
+    by None is = absurd (none-some _ (sym (sym at ∙ ids_of seats place h ∙ ap (option_map (λ (seat : Seat). seat.id)) is)))
+    by (Some seat) is =
+        let own : seat.id ≡ id = same_Some _ _ (sym (ap (option_map (λ (s : Seat). s.id)) is) ∙ sym (ids_of seats place h) ∙ at) in
+        get_there id_of row_of seats h id place (record { in_range = slice_get_within seats place seat is; has_key = λ d. ap (λ (s : Seat). s.id) (get_or_from_slice_get seats place seat d is) ∙ own }) seat
+        ∙ ap (λ (s : Seat). Some s.row) (get_or_from_slice_get seats place seat seat is)
 
 -- ---- the least reference
 

@@ -1,5 +1,5 @@
 // The clients stand in byte order of their ids, each with a slot of the index of references.
-ghost use Rattle.std.specs.Prelude.{◌≡◌, ◌+◌, ◌-◌, ◌*◌, ◌^◌, ◌<◌, ◌≤◌, IsTrue, IsSome, IfOk, IfErr, IfSome, OnOk, OnErr, is_some, slice_get, length, map, slice_set, vec_capacity, None, Some, IsOk, true};
+ghost use Rattle.std.specs.Prelude.{◌≡◌, ℕ, List, ◌+◌, ◌-◌, ◌*◌, ◌^◌, ◌<◌, ◌≤◌, IsTrue, IsSome, IfOk, IfErr, IfSome, OnOk, OnErr, is_some, slice_get, length, map, slice_set, vec_capacity, None, Some, IsOk, true};
 ghost use Rattle.std.specs.Option.{option_copied};
 ghost use Rattle.std.specs.FinMap.{empty, get, insert, remove, len, keys};
 ghost use Rattle.fluid_table.specs.Keyed.{IsInOrder, IsAt, IsGap, table_of};
@@ -98,6 +98,14 @@ impl Clients {
     {
         let seat = self.seats.get(place as usize)?;
         Some(&seat.id)
+    }
+
+    /// The row of the client at a place, counted from 0 in byte order of ids. It compares nothing.
+    pub fn row_at(&self, place: u64) -> Option<&Row>
+        ensures { (id : List ℕ) → slice_get (keys self.now.rows) place ≡ Some id → option_copied result ≡ get self.now.rows id }
+    {
+        let seat = self.seats.get(place as usize)?;
+        Some(&seat.row)
     }
 
     /// The least reference; none where nobody is joined. It compares nothing.

@@ -1,5 +1,5 @@
 -- What is kept of a legal ledger lies within its order.
-use Rattle.std.proofs.Common.{◌≡◌, ℕ, suc, ◌+◌, ◌-◌, ◌^◌, ◌≤◌, ◌==◌, arith, nat_le, Bool, true, false, not, ◌&&◌, cond, List, [], ◌∷◌, ◌++◌, length, map, take, drop, filter, Option, Some, None, refl, ap, ◌∙◌, All}
+use Rattle.std.proofs.Common.{◌≡◌, ℕ, zero, suc, ◌+◌, ◌-◌, ◌^◌, ◌≤◌, ◌==◌, arith, nat_le, Bool, true, false, not, ◌&&◌, cond, List, [], ◌∷◌, ◌++◌, length, map, take, drop, filter, Option, Some, None, refl, ap, ◌∙◌, All}
 use Rattle.std.specs.Prelude.{find, option_to_list, unwrap_or, IfSome}
 use Rattle.std.specs.List.{last_or, list_any}
 use Rattle.std.proofs.lemmas.Bool.{le-leb}
@@ -18,12 +18,15 @@ use Rattle.fluid_scribe.proofs.Sequenced.{AreSequenced, legal-sequenced, sequenc
 use Rattle.fluid_ticket.specs.State as ticket
 use Rattle.fluid_ticket.specs.Ledger as ledger
 use Rattle.fluid_ticket.proofs.Ledgers.{number_of}
-use Rattle.fluid_core.specs.Entering.{is_up_to, scribe_within, state_of, StandsFor}
+use Rattle.fluid_scribe.specs.Within.{is_of_order, is_waiting, is_change, is_acknowledged}
+use Rattle.fluid_scribe.specs.Within.{within as scribe_within}
+use Rattle.fluid_scribe.proofs.Alike.{same_parts}
+use Rattle.fluid_core.specs.Entering.{state_of, StandsFor}
 use Rattle.fluid_core.proofs.Entered.{same_state, stands-sequencer, stands-scribe}
 
 -- ---- what holds of each element
 
-abbrev Each : {X : Type 0} → (X → Type 0) → List X → Type 0
+abbrev pub Each : {X : Type 0} → (X → Type 0) → List X → Type 0
 Each P [] = Unit {0}
 Each P (x ∷ xs) = P x × Each P xs
 
@@ -43,6 +46,20 @@ each_filter P p (x ∷ xs) h = kept (p x) (each_filter P p xs h.1)
     kept true rest = (h.0, rest)
     kept false rest = rest
 
+each_drop : {X : Type 0} (P : X → Type 0) (k : ℕ) (xs : List X) → Each P xs → Each P (drop k xs)
+each_drop P zero xs h = h
+each_drop P (suc k) [] h = tt
+each_drop P (suc k) (x ∷ xs) h = each_drop P k xs h.1
+
+each_take : {X : Type 0} (P : X → Type 0) (k : ℕ) (xs : List X) → Each P xs → Each P (take k xs)
+each_take P zero xs h = tt
+each_take P (suc k) [] h = tt
+each_take P (suc k) (x ∷ xs) h = (h.0, each_take P k xs h.1)
+
+each_both : {X : Type 0} (P Q : X → Type 0) (xs : List X) → Each P xs → Each Q xs → Each (λ x. P x × Q x) xs
+each_both P Q [] h g = tt
+each_both P Q (x ∷ xs) h g = ((h.0, g.0), each_both P Q xs h.1 g.1)
+
 -- where all pass a test, none is taken away
 passes : {X : Type 0} (P : X → Type 0) (p : X → Bool) (xs : List X) → ((x : X) → P x → p x ≡ true) → Each P xs → filter p xs ≡ xs
 passes P p [] pass h = refl
@@ -50,11 +67,28 @@ passes P p (x ∷ xs) pass h = rw (pass x h.0) (ap (λ rest. x ∷ rest) (passes
 
 -- ---- numbers
 
-abbrev IsWithin : ℕ → ℕ → Type 0
+abbrev pub IsWithin : ℕ → ℕ → Type 0
 IsWithin last n = (1 ≤ n) × (n ≤ last)
 
-within_true : (last n : ℕ) → IsWithin last n → is_up_to last n ≡ true
-within_true last n h = rw (le-leb 1 n h.0, le-leb n last h.1) refl
+-- a message of the order
+abbrev pub IsOn : ℕ → Message → Type 0
+IsOn last m = IsWithin last m.number × (m.minimum ≤ m.number)
+
+on_true : (last : ℕ) (m : Message) → IsOn last m → is_of_order last m ≡ true
+on_true last m h = rw (le-leb 1 m.number h.0.0, le-leb m.number last h.0.1, le-leb m.minimum m.number h.1) refl
+
+-- one that waits
+abbrev pub Waits : ℕ → Message → Type 0
+Waits last m = IsOn last m × (reference_of m ≤ m.number)
+
+waits_true : (last : ℕ) (m : Message) → Waits last m → is_waiting last m ≡ true
+waits_true last m h = rw (le-leb 1 m.number h.0.0.0, le-leb m.number last h.0.0.1, le-leb m.minimum m.number h.0.1, le-leb (reference_of m) m.number h.1) refl
+
+abbrev Changes : ℕ → ℕ × ℕ → Type 0
+Changes last change = IsWithin last change.0 × (change.1 ≤ change.0)
+
+change_true : (last : ℕ) (change : ℕ × ℕ) → Changes last change → is_change last change ≡ true
+change_true last change h = rw (le-leb 1 change.0 h.0.0, le-leb change.0 last h.0.1, le-leb change.1 change.0 h.1) refl
 
 last_up_to : (last : ℕ) (o : Option ℕ) (ms : List Message) → unwrap_or o 0 ≤ last → Each (λ m. m.number ≤ last) ms → unwrap_or (last_or o (map (λ m. m.number) ms)) 0 ≤ last
 last_up_to last o [] le h = le
@@ -65,12 +99,21 @@ base_up_to : (last base : ℕ) (ms : List Message) → All (λ m. m.number ≤ l
 unfolding quorum_of
 base_up_to last base ms all = last_up_to last None (take base ms) (omega arith) (each_of (λ m. m.number ≤ last) (take base ms) (All-take (λ m. m.number ≤ last) base ms all))
 
+-- and its minimum isn't ahead of it
+last_low : (o p : Option ℕ) (ms : List Message) → unwrap_or o 0 ≤ unwrap_or p 0 → Each (λ m. m.minimum ≤ m.number) ms → unwrap_or (last_or o (map (λ m. m.minimum) ms)) 0 ≤ unwrap_or (last_or p (map (λ m. m.number) ms)) 0
+last_low o p [] le h = le
+last_low o p (m ∷ ms) le h = last_low (Some m.minimum) (Some m.number) ms h.0 h.1
+
+base_low : (base : ℕ) (ms : List Message) → Each (λ m. m.minimum ≤ m.number) ms → (quorum ms base).minimum ≤ (quorum ms base).number
+unfolding quorum_of
+base_low base ms h = last_low None None (take base ms) (omega arith) (each_take (λ m. m.minimum ≤ m.number) base ms h)
+
 -- the changes of the minimum are those of messages
-each_change : (P : ℕ → Type 0) (minimum : ℕ) (ms : List Message) → Each (λ m. P m.number) ms → Each (λ (change : ℕ × ℕ). P change.0) (changes minimum ms)
+each_change : (P : ℕ × ℕ → Type 0) (minimum : ℕ) (ms : List Message) → Each (λ m. P (m.number, m.minimum)) ms → Each P (changes minimum ms)
 each_change P minimum [] h = tt
 each_change P minimum (m ∷ ms) h = changed (m.minimum == minimum) (each_change P m.minimum ms h.1)
   where
-    changed : (same : Bool) → Each (λ (change : ℕ × ℕ). P change.0) (changes m.minimum ms) → Each (λ (change : ℕ × ℕ). P change.0) (cond same [] ((m.number, m.minimum) ∷ []) ++ changes m.minimum ms)
+    changed : (same : Bool) → Each P (changes m.minimum ms) → Each P (cond same [] ((m.number, m.minimum) ∷ []) ++ changes m.minimum ms)
     changed true rest = rest
     changed false rest = (h.0, rest)
 
@@ -133,27 +176,43 @@ refer_up_to last n low [] are le = tt
 refer_up_to last n low (m ∷ ms) are le =
     ((λ summarize. omega (arith, are.0.within summarize, le)), refer_up_to last (suc n) m.minimum ms are.1 (omega (arith, le)))
 
--- ---- the state of a legal ledger's order
+-- no minimum is ahead of its message, and no summarize refers ahead of itself
+lows : (n low : ℕ) (ms : List Message) → AreSequenced n low ms → Each (λ m. m.minimum ≤ m.number) ms
+lows n low [] are = tt
+lows n low (m ∷ ms) are = (omega (arith, are.0.bounded, are.0.number), lows (suc n) m.minimum ms are.1)
 
-pub same_parts : (s t : ScribeState) → s.base ≡ t.base → s.behind ≡ t.behind → s.minima ≡ t.minima → s.pending ≡ t.pending → s.acks ≡ t.acks → s ≡ t
-same_parts s t base behind minima pending acks = λ i. record { base = base i; behind = behind i; minima = minima i; pending = pending i; acks = acks i }
+backs : (n low : ℕ) (ms : List Message) → AreSequenced n low ms → Each (λ m. is_summarize m.kind ≡ true → reference_of m ≤ m.number) ms
+backs n low [] are = tt
+backs n low (m ∷ ms) are = ((λ summarize. omega (arith, are.0.within summarize, are.0.number)), backs (suc n) m.minimum ms are.1)
+
+waiting : (last : ℕ) (ms : List Message) → Each (IsOn last) ms → Each (λ m. is_summarize m.kind ≡ true → reference_of m ≤ m.number) ms → Each (λ m. is_summarize m.kind ≡ true → Waits last m) ms
+waiting last [] h g = tt
+waiting last (m ∷ ms) h g = ((λ summarize. (h.0, g.0 summarize)), waiting last ms h.1 g.1)
+
+-- all messages of an order are of it, and those that wait are of it too
+all_on : (last : ℕ) (ms : List Message) → AreSequenced 0 0 ms → length ms ≡ last → Each (IsOn last) ms
+all_on last ms are is =
+    let numbered = sequenced-numbered ms 0 0 are in
+    let low = numbered_least ms 1 numbered in
+    let high = numbered_most ms 1 last numbered (omega (arith, is)) in
+    each_both (λ m. IsWithin last m.number) (λ m. m.minimum ≤ m.number) ms (each_of (λ m. IsWithin last m.number) ms (λ i d lt. (low i d lt, high i d lt))) (lows 0 0 ms are)
+
+pub waits_in : (last : ℕ) (ms : List Message) → AreSequenced 0 0 ms → length ms ≡ last → Each (Waits last) (unanswered ms)
+waits_in last ms are is = each_waits (Waits last) ms (waiting last ms (all_on last ms are is) (backs 0 0 ms are))
+
+-- ---- the state of a legal ledger's order
 
 at_base : (last base : ℕ) (ms : List Message) → AreSequenced 0 0 ms → length ms ≡ last → scribe_within last (state_at base ms) ≡ state_at base ms
 unfolding scribe_within state_at acks
 at_base last base ms are is =
-    let numbered = sequenced-numbered ms 0 0 are in
-    let low = numbered_least ms 1 numbered in
-    let high = numbered_most ms 1 last numbered (omega (arith, is)) in
-    let all : All (λ (m : Message). IsWithin last m.number) ms = λ i d lt. (low i d lt, high i d lt) in
-    let on : Message → Type 0 = λ m. IsWithin last m.number in
-    let left = each_of on (drop base ms) (All-drop on base ms all) in
-    let waits = each_waits on ms (each_of (λ m. is_summarize m.kind ≡ true → on m) ms (λ i d lt summarize. all i d lt)) in
+    let high = numbered_most ms 1 last (sequenced-numbered ms 0 0 are) (omega (arith, is)) in
+    let left = each_drop (IsOn last) base ms (all_on last ms are is) in
     same_parts _ _
-    (rw (le-leb (quorum ms base).number last (base_up_to last base ms high)) refl)
-    (passes on (λ m. is_up_to last m.number) (heard (drop base ms)) (λ m. within_true last m.number) (each_filter on (λ m. is_heard m.kind) (drop base ms) left))
-    (passes (λ (change : ℕ × ℕ). IsWithin last change.0) (λ change. is_up_to last change.0) (changes (quorum ms base).minimum (drop base ms)) (λ change. within_true last change.0) (each_change (IsWithin last) (quorum ms base).minimum (drop base ms) left))
-    (passes on (λ m. is_up_to last m.number) (unanswered ms) (λ m. within_true last m.number) waits)
-    (passes (λ (ack : SummaryRef). ack.number ≤ last) (λ ack. nat_le ack.number last) (acks_behind [] ms) (λ ack. le-leb ack.number last) (each_ack last [] ms tt (refer_up_to last 0 0 ms are (omega (arith, is)))))
+    (rw (le-leb (quorum ms base).number last (base_up_to last base ms high), le-leb (quorum ms base).minimum (quorum ms base).number (base_low base ms (lows 0 0 ms are))) refl)
+    (passes (IsOn last) (is_of_order last) (heard (drop base ms)) (on_true last) (each_filter (IsOn last) (λ m. is_heard m.kind) (drop base ms) left))
+    (passes (Changes last) (is_change last) (changes (quorum ms base).minimum (drop base ms)) (change_true last) (each_change (Changes last) (quorum ms base).minimum (drop base ms) left))
+    (passes (Waits last) (is_waiting last) (unanswered ms) (waits_true last) (waits_in last ms are is))
+    (passes (λ (ack : SummaryRef). ack.number ≤ last) (is_acknowledged last) (acks_behind [] ms) (λ ack. le-leb ack.number last) (each_ack last [] ms tt (refer_up_to last 0 0 ms are (omega (arith, is)))))
 
 pub kept_within : (l : Ledger) → IsLegal l → scribe_within (seq l) (scribe.state_of (order l)) ≡ scribe.state_of (order l)
 unfolding scribe.state_of seq

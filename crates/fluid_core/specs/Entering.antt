@@ -16,6 +16,8 @@ use Rattle.fluid_rules.specs.declared.answers.Answer.TheVariants.{Dropped as una
 use Rattle.fluid_scribe.specs.State as scribe
 use Rattle.fluid_scribe.specs.Jobs.{answer_in, job_in}
 use Rattle.fluid_scribe.specs.Scribing as scribing
+use Rattle.fluid_scribe.specs.Within.{is_up_to}
+use Rattle.fluid_scribe.specs.Within.{within as scribe_within}
 use Rattle.fluid_scribe.specs.declared.job.Job.{Job}
 use Rattle.fluid_scribe.specs.declared.ready.ScribeReady.{ScribeReady}
 use Rattle.fluid_scribe.specs.contracts.ready.ScribeReady as notes
@@ -74,29 +76,16 @@ pub record StandsFor (s : State) (l : Ledger) : Type 0 where
 abbrev pub IsUpTo : (last number : ℕ) → Type 0
 IsUpTo last number = (1 ≤ number) × (number ≤ last)
 
-abbrev pub is_up_to : (last number : ℕ) → Bool
-is_up_to last number = nat_le 1 number && nat_le number last
-
--- a job on a number that no message has counts for nothing
+-- a job on a number that no message has, or that refers ahead of it, counts for nothing
 abbrev pub on_order : (last : ℕ) → Option Job → Option Job
 on_order last None = None
-on_order last (Some job) = if is_up_to last job.summary then Some job else None
+on_order last (Some job) = if is_up_to last job.summary && nat_le job.reference job.summary then Some job else None
 
 -- what is to be done about the pending summarize
 unfoldable pub job_of : State → Option Job
 job_of s = on_order s.sequencer.sequence (job_in s.scribe)
 
 -- ---- parts that may come from anywhere
-
--- what of a scribe's part lies within an order of so many messages
-unfoldable pub scribe_within : ℕ → ScribeState → ScribeState
-scribe_within last s = record {
-  base = if nat_le s.base.number last then s.base else quorum_of [];
-  behind = filter (λ m. is_up_to last m.number) s.behind;
-  minima = filter (λ change. is_up_to last change.0) s.minima;
-  pending = filter (λ m. is_up_to last m.number) s.pending;
-  acks = filter (λ ack. nat_le ack.number last) s.acks;
-}
 
 -- what of a state lies within its order
 abbrev pub within : State → State

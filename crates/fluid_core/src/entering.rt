@@ -1,6 +1,5 @@
 //! Sequencer and scribe together.
 ghost use Rattle.std.specs.Prelude.{◌≡◌, ◌+◌, ◌-◌, ◌^◌, ◌<◌, ◌≤◌, nat_le, if◌then◌else◌, ◌++◌, ◌∷◌, [], filter, IfOk, IfSome};
-ghost use Rattle.fluid_types.specs.Quorum.{quorum_of};
 ghost use Rattle.fluid_types.specs.Fits.{IsInRange};
 ghost use Rattle.fluid_types.specs.Ledger.{Ledger, order, seq as last_sequence};
 ghost use Rattle.fluid_types.specs.declared.entries.Raw.{Raw as ARaw};
@@ -8,14 +7,14 @@ ghost use Rattle.fluid_rules.specs.Rules.{minimum as minimum_by_rules, verdict a
 ghost use Rattle.fluid_rules.specs.Scribe.{acks as acks_by_rules};
 ghost use Rattle.fluid_scribe.specs.Jobs.{job as job_by_rules};
 ghost use Rattle.fluid_ticket.specs.State.{minimum, HasMinimumUpTo, IsSound};
-ghost use Rattle.fluid_core.specs.Entering.{start, sequencer_of, asked, is_up_to, on_order, job_of, note_for, after, prepared, scribe_within, within, IsPreparedIn, StandsFor, CanTake, Takes, IsUpTo};
+ghost use Rattle.fluid_core.specs.Entering.{start, sequencer_of, asked, on_order, job_of, note_for, after, prepared, within, IsPreparedIn, StandsFor, CanTake, Takes, IsUpTo};
 
 use fluid_clients::{Clients, SequencerState};
 use fluid_json::NoMemory;
-use fluid_quorum::{Acks, Minima, Quorum, ScribeState};
+use fluid_quorum::ScribeState;
 use fluid_scribe::{Answer, Job, Scribe, ScribeReady, SummaryRef};
 use fluid_ticket::{Ready, Sequencer};
-use fluid_types::{Messages, Raw, Verdict};
+use fluid_types::{Raw, Verdict};
 use std::alloc::Global;
 use std::marker::Model;
 
@@ -98,9 +97,9 @@ impl Core {
         }
     }
 
-    /// The core that goes on from these parts, whatever they are. What lies outside the order counts for nothing: a reference ahead of
-    /// it is its last number; a message, a minimum, an acknowledgement or a base with a number that no message has isn't kept. Takes
-    /// no memory.
+    /// The core that goes on from these parts, whatever they are. What lies outside the order counts for nothing: a client's reference
+    /// ahead of it is its last number; a message, a minimum, an acknowledgement or a base with a number that no message has isn't
+    /// kept, nor is one whose minimum, or a summarize whose reference, is ahead of its own number. Takes no memory.
     pub fn of_parts(sequencer: SequencerState, scribe: ScribeState) -> Core
         ensures within { result.state ≡ within (record { sequencer = sequencer_of sequencer; scribe = scribe }) }
         ensures sound { IsSound result.state.sequencer }
@@ -113,7 +112,7 @@ impl Core {
             clients,
         } = sequencer;
         let sequencer = Sequencer::of_parts(sequence, minimum, clients);
-        let scribe = scribe_within(sequencer.seq(), scribe);
+        let scribe = Scribe::of_order(sequencer.seq(), scribe);
         Core { sequencer, scribe }
     }
 
@@ -160,14 +159,15 @@ impl Core {
         self.scribe.acks()
     }
 
-    /// What is to be done about the pending summarize; None exactly where none is pending. One with a number that no message has
-    /// counts for nothing.
+    /// What is to be done about the pending summarize; None exactly where none is pending. One with a number that no message has, or
+    /// that refers ahead of itself, counts for nothing.
     pub fn job(&mut self, alloc: Global) -> Result<Option<Job>, NoMemory>
         ensures same { self.new.state ≡ self.old.state }
         ensures room { (self.old.clients ≤ self.new.clients) × (self.old.notes ≤ self.new.notes) }
         ensures job { IfOk result (λ given. given ≡ job_of self.old.state) }
         ensures sequenced { IfOk result (λ given.
             IfSome given (λ job. IsUpTo self.old.state.sequencer.sequence job.summary)) }
+        ensures behind { IfOk result (λ given. IfSome given (λ job. job.reference ≤ job.summary)) }
         ensures stands { (ledger : Ledger) → StandsFor self.old.state ledger →
             IfOk result (λ given. given ≡ job_by_rules (order ledger)) }
     {
@@ -220,66 +220,14 @@ fn asked(alloc: Global, scribe: &mut Scribe, raw: &Raw) -> Result<Answer, NoMemo
     }
 }
 
-// The scribe of what of these parts lies within an order of so many messages.
-#[tactic(auto, unfolding(crate::specs::Entering::scribe_within))]
-fn scribe_within(last: u64, scribe: ScribeState) -> Scribe
-    ensures { result.state ≡ scribe_within last scribe }
-{
-    let ScribeState {
-        base,
-        behind,
-        minima,
-        pending,
-        acks,
-    } = scribe;
-    let behind = messages_within(last, behind);
-    let minima = minima_within(last, minima);
-    let pending = messages_within(last, pending);
-    let acks = acks.into_vec();
-    let base = base_within(*acks.allocator(), last, base);
-    Scribe::of_parts(base, behind, minima, pending, acks_within(last, acks))
-}
-
-fn base_within(alloc: Global, last: u64, base: Quorum) -> Quorum
-    ensures { result ≡ (if nat_le base.number last then base else quorum_of []) }
-{
-    if base.number() <= last {
-        return base;
-    }
-    Quorum::new(alloc)
-}
-
-fn messages_within(last: u64, messages: Messages) -> Messages
-    ensures { result ≡ filter (λ m. is_up_to last m.number) messages }
-{
-    let mut messages = messages.into_vec();
-    messages.retain(|message| 1 <= message.number && message.number <= last);
-    Messages::new(messages)
-}
-
-fn minima_within(last: u64, minima: Minima) -> Minima
-    ensures { result ≡ filter (λ change. is_up_to last change.0) minima }
-{
-    let mut changes = minima.into_vec();
-    changes.retain(|change| 1 <= change.0 && change.0 <= last);
-    Minima::new(changes)
-}
-
-fn acks_within(last: u64, acks: Vec<SummaryRef>) -> Acks
-    ensures { result ≡ filter (λ ack. nat_le ack.number last) acks.items }
-{
-    let mut acks = acks;
-    acks.retain(|ack| ack.number <= last);
-    Acks::new(acks)
-}
-
-// A job on a number that no message has counts for nothing.
+// A job on a number that no message has, or that refers ahead of it, counts for nothing.
 fn on_order(last: u64, job: Option<Job>) -> Option<Job>
     ensures is { result ≡ on_order last job }
     ensures sequenced { IfSome result (λ job. IsUpTo last job.summary) }
+    ensures behind { IfSome result (λ job. job.reference ≤ job.summary) }
 {
     let job = job?;
-    if job.summary < 1 || last < job.summary {
+    if job.summary < 1 || last < job.summary || job.summary < job.reference {
         return None;
     }
     Some(job)

@@ -1,5 +1,5 @@
 -- The acknowledgements of an order are in the form of a checkpoint: each has a handle of twenty bytes and the reference of a summarize.
-use Rattle.std.proofs.Common.{◌≡◌, ℕ, zero, suc, ◌+◌, ◌-◌, ◌*◌, ◌/◌, ◌%◌, ◌<◌, ◌≤◌, ◌==◌, ℤ, pos, negsuc, Bool, true, false, ◌&&◌, List, [], ◌∷◌, ◌++◌, length, slice_index, Option, Some, None, Result, Ok, Err, refl, sym, ap, subst, ◌∙◌, arith, All}
+use Rattle.std.proofs.Common.{◌≡◌, ℕ, zero, suc, ◌+◌, ◌-◌, ◌*◌, ◌/◌, ◌%◌, ◌<◌, ◌≤◌, ◌==◌, ℤ, pos, negsuc, Bool, true, false, ◌&&◌, List, [], ◌∷◌, ◌++◌, length, Option, Some, None, Result, Ok, Err, refl, subst, arith, All}
 use Rattle.std.specs.Prelude.{nat_le, if◌then◌else◌, find, option_to_list, cond, not, int_le, ◌≤ℤ◌}
 use Rattle.std.specs.List.{list_all, list_any}
 use Rattle.std.specs.Result.{result_ok}
@@ -20,7 +20,7 @@ use Rattle.fluid_tree.specs.declared.id.SummaryRef.{SummaryRef}
 use Rattle.fluid_codec.specs.Laws.{IsMessage}
 use Rattle.fluid_codec.proofs.Steps.{T_true}
 use Rattle.fluid_rules.specs.Past.{count_of}
-use Rattle.fluid_rules.specs.Scribe.{is_ack, is_summarize, handling, answered_by, answers, reference_of, unless_answered, unanswered, acknowledged, ack_of, acks_behind, acks}
+use Rattle.fluid_rules.specs.Scribe.{is_ack, is_summarize, handling, answered_by, answers, unanswered, acknowledged, ack_of, acks_behind, acks}
 use Rattle.fluid_checkpoint.specs.Laws.{IsAck}
 
 -- ---- digits

@@ -1,5 +1,5 @@
 -- Whatever is answered to a report, its handle has 20 bytes.
-use Rattle.std.proofs.Common.{◌≡◌, ℕ, Bool, true, false, not, ◌==◌, if◌then◌else◌, List, [], ◌∷◌, length, Option, Some, None, refl}
+use Rattle.std.proofs.Common.{ℕ, Bool, true, false, not, ◌==◌, if◌then◌else◌, List, [], ◌∷◌, Option, Some, None}
 use Rattle.std.specs.Prelude.{nat_le}
 use Rattle.fluid_types.specs.declared.entries.Raw.{Raw}
 use Rattle.fluid_types.specs.declared.entries.Raw.TheVariants.{Join, Leave, Submit, Report}
@@ -7,7 +7,6 @@ use Rattle.fluid_types.specs.declared.messages.Message.{Message}
 use Rattle.fluid_types.specs.Blobs.{blobs_of}
 use Rattle.fluid_rules.specs.Rules.{first_case}
 use Rattle.fluid_rules.specs.Scribe.{is_stale, is_old, reference_of, proposed_by, version}
-use Rattle.fluid_rules.specs.declared.answers.Answer.{Answer}
 use Rattle.fluid_rules.specs.declared.answers.Answer.TheVariants.{Dropped, Ack, Refused}
 use Rattle.fluid_rules.specs.declared.answers.Proposed.{Proposed}
 use Rattle.fluid_rules.specs.declared.answers.SummaryRule.TheVariants.{StaleHead, OldReference, Missing}

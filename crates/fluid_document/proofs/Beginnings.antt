@@ -1,5 +1,5 @@
 -- Where a reading begins.
-use Rattle.std.proofs.Common.{◌≡◌, ◌⊎◌, ◌+◌, ◌-◌, ◌<◌, ◌≤◌, ℕ, min, false, List, [], ◌∷◌, ◌++◌, length, take, drop, arith, ◌∙◌, All, Option, Some, None, Result, Ok, Err, refl, sym, ap, subst, ⊎_elim, le-leb, length-append}
+use Rattle.std.proofs.Common.{◌≡◌, ◌⊎◌, ◌-◌, ◌<◌, ◌≤◌, ℕ, min, false, List, [], ◌∷◌, ◌++◌, length, take, drop, arith, ◌∙◌, All, Option, Some, None, Result, Ok, Err, refl, sym, ap, subst, ⊎_elim, le-leb, length-append}
 use Rattle.std.specs.Prelude.{codes, IfOk}
 use Rattle.std.proofs.lemmas.Bool.{lt-leb}
 use Rattle.fluid_io.specs.Causes.{Tells}

@@ -1,5 +1,5 @@
 -- What entering one entry does, part by part: room, the record, what is in memory.
-use Rattle.std.proofs.Common.{◌≡◌, ◌⊎◌, ℕ, ◌≤◌, List, [], ◌++◌, length, take, is_some, true, false, Option, Some, None, Result, Ok, Err, IfErr, inl, inr, refl, sym, ap, subst, ◌∙◌, append-nil, arith}
+use Rattle.std.proofs.Common.{◌≡◌, ◌⊎◌, ℕ, ◌≤◌, List, [], ◌++◌, length, take, is_some, Option, Some, None, Result, Ok, Err, IfErr, inl, inr, refl, sym, ap, subst, ◌∙◌, append-nil, arith}
 use Rattle.std.specs.Option.{option_map}
 use Rattle.std.proofs.lemmas.Bool.{false≢true}
 use Rattle.std.proofs.lemmas.List.{take_all}
@@ -8,19 +8,19 @@ use Rattle.fluid_types.specs.Ledger.{messages_of}
 use Rattle.fluid_types.specs.Printed.{raw_printed}
 use Rattle.fluid_types.specs.declared.entries.Raw.{Raw}
 use Rattle.fluid_types.specs.declared.messages.Message.{Message}
-use Rattle.fluid_types.specs.declared.verdicts.Verdict.{Verdict}
 use Rattle.fluid_log.specs.Keeping.{Content, Keeping}
 use Rattle.fluid_log.specs.Calls.{KeepsSame, add_record, with_record}
 use Rattle.fluid_log.proofs.Sameness.{same_itself, same_twice}
-use Rattle.fluid_deltas.specs.declared.fault.DeltaFault.{DeltaFault}
+use Rattle.fluid_document.specs.declared.fault.FlushFault.{FlushFault}
 use Rattle.fluid_deltas.specs.Pushed.{Pushed, pushed, StandIn, StandFor}
-use Rattle.fluid_deltas.specs.Flushes.{with_deltas, put_behind, PutsAll}
+use Rattle.fluid_deltas.specs.Flushes.{with_deltas, put_behind}
+use Rattle.fluid_document.specs.Puts.{PutsUpTo}
 use Rattle.fluid_deltas.proofs.Standing.{same_stand}
 use Rattle.fluid_deltas.proofs.Telling.{tells_from, tells_along, tells_becomes}
 use Rattle.fluid_core.specs.Entering.{verdict_in}
-use Rattle.fluid_document.specs.Entries.{InMemory, GoOn, taken_up}
+use Rattle.fluid_document.specs.Entries.{InMemory, taken_up}
 use Rattle.fluid_document.specs.Rooms.{for_room, roomed}
-use Rattle.fluid_document.specs.Entry.{IsEnterFault, PutsSome, RoomFails, IsTorn, IsAppended, Appends, Finishes, FinishDoes, EntersOne, EntersBy, added}
+use Rattle.fluid_document.specs.Entry.{IsEnterFault, PutsSome, RoomFails, IsTorn, IsAppended, Appends, Finishes, FinishDoes, EntersBy}
 use Rattle.fluid_document.specs.declared.fault.EnterFault.{EnterFault}
 use Rattle.fluid_document.specs.declared.fault.EnterFault.TheVariants.{LogFailed, DeltaFailed, NoMemory}
 
@@ -30,7 +30,7 @@ same_told : {A : Type 0} (change : A → A) (told : Option A) → is_some (optio
 same_told change None = refl
 same_told change (Some a) = refl
 
-put_told : (ms : List Message) (result : Result (Unit {0}) DeltaFault) (old new : Keeping) → PutsAll ms old new result → is_some new.content ≡ is_some old.content
+put_told : (ms : List Message) (result : Result (Unit {0}) FlushFault) (old new : Keeping) → PutsUpTo ms old new result → is_some new.content ≡ is_some old.content
 put_told ms (Ok done) old new puts = ap is_some puts.kept.content ∙ same_told (put_behind ms) old.content
 put_told ms (Err fault) old new puts = ap is_some puts.puts.kept.content ∙ same_told (put_behind (take puts.count ms)) old.content
 
@@ -41,7 +41,7 @@ stand_whole old new order None (Some c) same count each stands = absurd (false�
 stand_whole old new order (Some b) (Some c) same count each stands = record { stand = each stands.stand; whole = stands.whole ∙ sym count }
 
 -- what room leaves in memory stands for the whole order still
-pub room_stands : (ms : List Message) (result : Result (Unit {0}) DeltaFault) (old new : Keeping) (before now : Pushed) → PutsAll ms old new result → pushed now ≡ pushed before
+pub room_stands : (ms : List Message) (result : Result (Unit {0}) FlushFault) (old new : Keeping) (before now : Pushed) → PutsUpTo ms old new result → pushed now ≡ pushed before
     → ((order : List Message) → Tells old.content (StandIn before order) → Tells new.content (StandIn now order))
     → (order : List Message) → Tells old.content (StandFor before order) → Tells new.content (StandFor now order)
 room_stands ms result old new before now puts count each order stands =

@@ -1,11 +1,8 @@
 -- Messages in memory that go on with a verdict.
-use Rattle.std.proofs.Common.{◌≡◌, ℕ, zero, suc, ◌+◌, List, [], ◌∷◌, ◌++◌, length, drop, slice_get, Option, Some, append-nil, refl, sym, ap, subst, ◌∙◌, arith}
-use Rattle.std.proofs.lemmas.List.{drop_all}
-use Rattle.fluid_types.specs.declared.messages.Message.{Message}
+use Rattle.std.proofs.Common.{◌≡◌, ℕ, zero, suc, List, [], ◌∷◌, ◌++◌, length, drop, slice_get, Some, append-nil, refl, sym, ap, subst, ◌∙◌, arith}
 use Rattle.fluid_types.specs.declared.verdicts.Verdict.{Verdict}
 use Rattle.fluid_types.specs.Ledger.{messages_of}
-use Rattle.fluid_log.specs.Keeping.{Content}
-use Rattle.fluid_deltas.specs.Pushed.{Pushed, pushed, ArePartOf, StandFor}
+use Rattle.fluid_deltas.specs.Pushed.{Pushed, StandFor}
 use Rattle.fluid_deltas.proofs.Standing.{same_part, same_stand}
 use Rattle.fluid_document.specs.Entries.{GoOn}
 

@@ -1,12 +1,12 @@
 -- What a checkpoint keeps of a legal ledger, whose entries a log takes, is in the form.
-use Rattle.std.proofs.Common.{◌≡◌, ℕ, ◌≤◌, ◌<◌, ◌+◌, ◌++◌, ◌∷◌, [], List, length, map, All, Some, refl, sym, ap, subst, ◌∙◌, arith, length-append}
+use Rattle.std.proofs.Common.{◌≡◌, ℕ, ◌≤◌, ◌<◌, ◌++◌, ◌∷◌, [], List, length, map, All, Some, refl, sym, subst, ◌∙◌, arith, length-append}
 use Rattle.std.specs.FinMap.{get, entries}
 use Rattle.std.proofs.lemmas.List.Elements.{All-nil, All-cons, All-head, All-tail}
 use Rattle.fluid_types.specs.Forms.{largest}
 use Rattle.fluid_types.specs.declared.entries.Raw.{Raw}
 use Rattle.fluid_types.specs.declared.verdicts.Verdict.{Verdict}
 use Rattle.fluid_types.specs.declared.verdicts.Verdict.TheVariants.{Sequenced, Nacked, Dropped, Absorbed}
-use Rattle.fluid_types.specs.Ledger.{Ledger, order, seq}
+use Rattle.fluid_types.specs.Ledger.{Ledger, order}
 use Rattle.fluid_types.proofs.Ledgers.{seq-le_length}
 use Rattle.fluid_rules.specs.Rules.{verdict, IsLegal, last_minimum, last_minimum_behind}
 use Rattle.fluid_rules.proofs.Counted.{counted-le_length}
@@ -15,18 +15,15 @@ use Rattle.fluid_rules.proofs.Legal.{legal-induction}
 use Rattle.fluid_clients.specs.declared.table.Row.{Row}
 use Rattle.fluid_clients.specs.Table.{Rows}
 use Rattle.fluid_quorum.specs.Node.{AreTexts}
-use Rattle.fluid_ticket.specs.State.{IsSound}
 use Rattle.fluid_ticket.specs.Ledger as tickets
-use Rattle.fluid_ticket.proofs.Ledgers.{sequence-state_of}
 use Rattle.fluid_ticket.proofs.Within.{sound-legal}
 use Rattle.fluid_core.specs.Entering.{state_of}
 use Rattle.fluid_readback.specs.Quorums.{QuorumsAreReadBack}
 use Rattle.fluid_readback.proofs.Messages.{sequenced_are_read_back}
 use Rattle.fluid_checkpoint.specs.Heard.{moments_of}
 use Rattle.fluid_checkpoint.specs.Laws.{IsClient, IsMoment, IsInForm}
-use Rattle.fluid_document.specs.Entries.{Entries, most, entries_of}
+use Rattle.fluid_document.specs.Entries.{most, entries_of}
 use Rattle.fluid_document.specs.Kept.{IsLoggable, checkpoint_state}
-use Rattle.fluid_document.proofs.Foldings.{entered-entries_of, counted-entries_of}
 use Rattle.fluid_document.proofs.Moments.{entries_all, moments_sorted, moments_put_back}
 use Rattle.fluid_document.proofs.Joined.{AreJoined, all_but_last, joined-ledger}
 use Rattle.fluid_checkpoint.specs.Text.{state_members}

@@ -1,7 +1,6 @@
 -- What is read of a checkpoint is in range.
-use Rattle.std.proofs.Common.{◌≡◌, List, ℕ, Result, Ok, inl, inr, sym}
+use Rattle.std.proofs.Common.{◌≡◌, List, ℕ, Ok, inl, inr, sym}
 use Rattle.fluid_json.specs.Unless.{IsUnless}
-use Rattle.fluid_checkpoint.specs.declared.fault.CheckpointFault.{CheckpointFault}
 use Rattle.fluid_checkpoint.specs.declared.fault.CheckpointFault.TheVariants.{NoMemory}
 use Rattle.fluid_checkpoint.specs.declared.state.Form.{Form}
 use Rattle.fluid_checkpoint.specs.declared.state.Form.TheVariants.{One, Two}

@@ -4,6 +4,7 @@ mod Levels
 mod Growing
 mod Records
 mod Entering
+mod Early
 pub mod Keeps
 pub mod Foldings
 pub mod Orders

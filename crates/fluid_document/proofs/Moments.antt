@@ -1,7 +1,7 @@
 -- Moments that are taken out of rows and put back.
-use Rattle.std.proofs.Common.{◌≡◌, ℕ, ◌<◌, Bool, true, false, cond, T, ◌&&◌, IsTrue, List, [], ◌∷◌, length, map, get_or, Option, Some, None, option_map, bytes_eq, All, refl, sym, ap, ap₂, subst, ◌∙◌}
+use Rattle.std.proofs.Common.{◌≡◌, ℕ, Bool, true, false, cond, T, ◌&&◌, IsTrue, List, [], ◌∷◌, map, get_or, Option, Some, None, option_map, bytes_eq, All, refl, sym, ap, ap₂, subst, ◌∙◌}
 use Rattle.std.specs.Ordering.{is_lt, eq_by_cmp}
-use Rattle.std.specs.FinMap.{get, entries, entries_sorted, from_entries, get-entries, get-from_entries, same_map}
+use Rattle.std.specs.FinMap.{get, entries, entries_sorted, get-entries, get-from_entries, same_map}
 use Rattle.std.specs.FinMap.Entries.{below_all, find, is_sorted}
 use Rattle.std.proofs.lemmas.List.Elements.{All-from_get_or}
 use Rattle.std.proofs.lemmas.Slice.Eq.{bytes_eq-Decides}

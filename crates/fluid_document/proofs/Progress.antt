@@ -1,5 +1,5 @@
 -- What was taken up of a keeper's log so far, and with one record more.
-use Rattle.std.proofs.Common.{◌≡◌, ◌⊎◌, ℕ, zero, suc, ◌+◌, ◌-◌, ◌^◌, ◌<◌, ◌≤◌, false, List, [], ◌∷◌, ◌++◌, length, drop, take, map, slice_get, Option, Some, None, Result, Ok, Err, refl, sym, ap, subst, ◌∙◌, append_assoc, append-nil, length-append, arith, le-leb}
+use Rattle.std.proofs.Common.{◌≡◌, ◌⊎◌, ℕ, zero, suc, ◌+◌, ◌-◌, ◌^◌, ◌<◌, ◌≤◌, false, List, [], ◌∷◌, ◌++◌, length, drop, map, slice_get, Option, Some, None, Ok, Err, refl, sym, ap, subst, ◌∙◌, append_assoc, append-nil, length-append, arith, le-leb}
 use Rattle.std.specs.Option.{option_map}
 use Rattle.std.proofs.lemmas.Bool.{lt-leb}
 use Rattle.std.proofs.lemmas.Option.{none-some}
@@ -12,13 +12,14 @@ use Rattle.fluid_types.specs.Ledger.{Ledger}
 use Rattle.fluid_log.specs.Keeping.{Content, Keeping, HasLengths}
 use Rattle.fluid_log.specs.Calls.{KeepsSame}
 use Rattle.fluid_deltas.specs.Pushed.{StandIn}
-use Rattle.fluid_deltas.specs.Flushes.{with_deltas, put_behind}
+use Rattle.fluid_deltas.specs.Flushes.{put_behind}
 use Rattle.fluid_deltas.proofs.Telling.{tells_each, tells_from, tells_both, tells_along}
 use Rattle.fluid_document.specs.declared.fault.LoadFault.{LoadFault}
 use Rattle.fluid_document.specs.declared.fault.LoadFault.TheVariants.{LogFailed, DeltaFailed, NoMemory, BadRecord, BadCheckpoint, Worn}
 use Rattle.fluid_document.specs.Entries.{Entries, InMemory, most, taken_up}
 use Rattle.fluid_document.specs.Kept.{IsKept}
 use Rattle.fluid_document.specs.Loading.{record_in, log_folded, IsRecord, DecodesAs, IsBadAs, IsLoadFault, HasRead, PutsDeltas}
+use Rattle.fluid_document.specs.Puts.{PutsFirst, PutsEarly, PutsFew}
 use Rattle.fluid_document.specs.Taking.{StandOn, IsTaken, IsLeft, StandsAt, IsOutside}
 use Rattle.fluid_document.proofs.Takes.{takes_entry, leaves_entry}
 
@@ -76,6 +77,8 @@ pub record HasFolded (old new : Keeping) (first now : InMemory) (place : ℕ) : 
   pub reads : HasRead (place - first.entries.entered) old.reads new.reads
   pub folds : Tells old.content (FoldsOn first.entries now.entries place)
   pub reached : now.messages.before ≤ new.deltas
+  pub early : PutsFirst now.messages.before old new
+  pub lacked : PutsFew place old new
   pub stands : (l : Ledger) → Tells old.content (StandsAt l first first.entries.entered) → Tells new.content (StandsAt l now place)
 
 pub has_folded_nothing : (k : Keeping) (m : InMemory) → m.messages.before ≤ k.deltas → HasFolded k k m m m.entries.entered
@@ -87,6 +90,8 @@ has_folded_nothing k m reached = record {
   reads = λ few. omega arith;
   folds = tells_each k.content (FoldsOn m.entries m.entries m.entries.entered) (λ c. refl);
   reached = reached;
+  early = omega (arith, reached);
+  lacked = omega arith;
   stands = λ l stands. stands;
 }
 
@@ -145,7 +150,7 @@ taken-entered e raw = refl
 -- a fault of a later call is one of the whole
 pub cause_behind : (records mid_records before mid now : ℕ) (fault : LoadFault) → mid_records ≡ records → before ≤ mid → IsLoadFault mid_records mid now fault → IsLoadFault records before now fault
 cause_behind records mid_records before mid now (LogFailed note) same le is = record { first = omega (arith, le, is.first); last = is.last; rose = is.rose }
-cause_behind records mid_records before mid now (DeltaFailed note) same le is = record { first = omega (arith, le, is.first); last = is.last; rose = is.rose }
+cause_behind records mid_records before mid now (DeltaFailed note) same le is = (record { first = omega (arith, le, is.0.first); last = is.0.last; rose = is.0.rose }, omega (arith, same, is.1))
 cause_behind records mid_records before mid now NoMemory same le is = tt
 cause_behind records mid_records before mid now (BadRecord place) same le is = tt
 cause_behind records mid_records before mid now (BadCheckpoint number fault) same le is = tt
@@ -157,8 +162,9 @@ read_one n before mid now m is first then bound =
     omega (arith, here, is, then (omega (arith, here, is, bound)))
 
 pub has_folded_more : (old mid new : Keeping) (first now next : InMemory) (place : ℕ) → HasFolded old mid first now place → place < most → place < old.records → Tells mid.content (HasLengths mid) → mid.faults ≤ new.faults
-    → HasRead 1 mid.reads new.reads → PutsDeltas mid new → next.messages.before ≤ new.deltas → IsTaken place mid new now next → HasFolded old new first next (place + 1)
-has_folded_more old mid new first now next place has few lt sized later reads puts reached taken =
+    → HasRead 1 mid.reads new.reads → PutsDeltas mid new → next.messages.before ≤ new.deltas → PutsEarly now.messages.before next.messages.before mid new → PutsFew place mid new → IsTaken place mid new now next
+    → HasFolded old new first next (place + 1)
+has_folded_more old mid new first now next place has few lt sized later reads puts reached early lacked taken =
     let is = log_before old mid (λ log. (text : List ℕ) × ((slice_get log place ≡ Some text) × (record_in text ≡ Some taken.raw))) has.puts
     (tells_from mid.content _ _ (λ c one. (one.text, (one.kept, one.decodes))) taken.is) in
     record {
@@ -172,6 +178,8 @@ has_folded_more old mid new first now next place has few lt sized later reads pu
           (step first.entries now.entries place taken.raw c has.entered few so_far (record { text = one.0; kept = one.1.0; decodes = one.1.1 })))
           has.folds is;
       reached = reached;
+      early = omega (arith, has.early, early.0, early.1);
+      lacked = omega (arith, has.early, has.lacked, lacked);
       stands = λ l stands. takes_entry l place mid new now next (omega (arith, lt, has.puts.kept.records)) sized puts taken (has.stands l stands);
     }
 

@@ -1,8 +1,7 @@
 -- What is read of a keeper that is kept for a ledger is what is folded of that ledger.
-use Rattle.std.proofs.Common.{◌≡◌, ℕ, zero, suc, ◌<◌, ◌≤◌, arith, Bool, false, List, [], ◌∷◌, ◌++◌, length, drop, Some, None, Ok, refl, sym, ap, subst, ⊎_elim, ◌∙◌, append-nil, length-append, le-leb}
+use Rattle.std.proofs.Common.{◌≡◌, ℕ, zero, suc, ◌<◌, ◌≤◌, arith, Bool, false, List, [], ◌∷◌, ◌++◌, length, drop, Some, None, Result, Ok, Err, refl, sym, ap, subst, ⊎_elim, ◌∙◌, append-nil, length-append, le-leb}
 use Rattle.std.specs.Prelude.{All, slice_get}
 use Rattle.std.proofs.lemmas.List.{length-map, map-append}
-use Rattle.std.proofs.lemmas.List.Elements.{All-head, All-tail}
 use Rattle.fluid_types.specs.declared.entries.Raw.{Raw}
 use Rattle.fluid_types.specs.declared.verdicts.Verdict.{Verdict}
 use Rattle.fluid_types.specs.Printed.{raw_printed}
@@ -10,16 +9,21 @@ use Rattle.fluid_types.specs.Ledger.{Ledger, seq}
 use Rattle.fluid_log.specs.Keeping.{Content}
 use Rattle.fluid_readback.specs.Quorums.{QuorumsAreReadBack}
 use Rattle.fluid_checkpoint.specs.Reading.{answer}
+use Rattle.fluid_checkpoint.specs.declared.state.Form.{Form}
 use Rattle.fluid_checkpoint.specs.declared.state.Form.TheVariants.{One, Two}
+use Rattle.fluid_checkpoint.specs.declared.fault.CheckpointFault.{CheckpointFault}
+use Rattle.fluid_checkpoint.proofs.Back.{read_back}
 use Rattle.fluid_rules.specs.Rules.{IsLegal}
-use Rattle.fluid_rules.proofs.Legal.{legal-behind}
+use Rattle.fluid_rules.proofs.Legal.{legal-first, legal-behind}
 use Rattle.fluid_rules.proofs.Counted.{counted-none}
 use Rattle.fluid_document.specs.Entries.{most, nothing_entered, entries_of}
 use Rattle.fluid_document.specs.Loading.{log_folded, begun, loaded}
-use Rattle.fluid_document.specs.Kept.{IsLoggable, records, IsLogOf, checkpoint_state, IsKept}
+use Rattle.fluid_document.specs.Kept.{IsLoggable, records, IsLogOf, checkpoint_state, checkpoint_text, IsKept}
 use Rattle.fluid_document.proofs.Onwards.{start-state_of}
 use Rattle.fluid_document.proofs.Foldings.{folded-kept}
-use Rattle.fluid_document.proofs.Saying.{says_before, length-entries_of, begun_kept, last_part}
+use Rattle.fluid_document.specs.Laws.{CheckpointsAreCounted}
+use Rattle.fluid_document.proofs.InForm.{in_form}
+use Rattle.fluid_document.proofs.Saying.{SaysBefore, says_before, sequence-entries_of, length-entries_of, begun_kept, first_part, last_part}
 
 pub nothing-entries_of : nothing_entered ≡ entries_of []
 unfolding entries_of
@@ -84,3 +88,36 @@ there (x ∷ xs) (suc i) lt = there xs i (omega (arith, lt))
 -- each of its checkpoints is one
 pub loaded-any : QuorumsAreReadBack → (l : Ledger) (c : Content) (k : ℕ) → IsKept false l c → k < length c.checkpoints → loaded c (Some k) ≡ Ok (entries_of l)
 loaded-any back l c k kept lt = let one = there c.checkpoints k lt in loaded-kept back l c k one.0 one.1 kept
+
+-- ---- what a checkpoint counts
+
+abbrev number_in : Result Form CheckpointFault → ℕ
+number_in (Ok (Two s)) = s.sequencer.sequence
+number_in (Ok (One entered)) = 0
+number_in (Err fault) = 0
+
+abbrev HasState : Result Form CheckpointFault → Type 0
+HasState (Ok (Two s)) = Unit {0}
+HasState (Ok (One entered)) = ⊥
+HasState (Err fault) = ⊥
+
+-- a text that says what the first entries made is that of a prefix whose messages are among the deltas
+reached_as : (l before : Ledger) (deltas : ℕ) (said : Result Form CheckpointFault) → SaysBefore l deltas said → said ≡ Ok (Two (checkpoint_state (entries_of before))) → seq before ≤ deltas
+reached_as l before deltas said says is =
+    ⊎_elim
+    (λ (two : said ≡ Ok (Two (checkpoint_state (entries_of says.before)))).
+    let same : (entries_of before).state.sequencer.sequence ≡ (entries_of says.before).state.sequencer.sequence = ap number_in (sym is ∙ two) in
+    omega (arith, says.reached, sequence-entries_of before, sequence-entries_of says.before, same))
+    (λ (one : said ≡ Ok (One (length says.before))). absurd (subst HasState (sym is ∙ one) tt))
+    says.says
+
+pub counted_as_printed : QuorumsAreReadBack → CheckpointsAreCounted
+unfolding begun checkpoint_text
+counted_as_printed back before behind c k text kept at printed =
+    let legal = legal-first before behind kept.legal in
+    let few : length before ≤ most = omega (arith, kept.few, length-append before behind) in
+    let said : answer text ≡ Ok (Two (checkpoint_state (entries_of before))) =
+    ap answer printed.text ∙ read_back (checkpoint_state (entries_of before)) (in_form back before legal (first_part IsLoggable before behind kept.loggable) few printed.written.blobs) printed.written in
+    let reached = reached_as (before ++ behind) before (length c.deltas) (answer text) (says_before back (before ++ behind) c k text at kept) said in
+    let shorter : (entries_of before).entered ≤ length c.log = omega (arith, length-entries_of before, length-append before behind, long_log false (before ++ behind) c.log kept.log) in
+    (rw (at, said, le-leb (entries_of before).entered (length c.log) shorter, begun_kept k (length c.deltas) before legal few reached) refl, length-entries_of before)

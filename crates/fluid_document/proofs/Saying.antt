@@ -1,12 +1,10 @@
 -- What the text of a checkpoint says of what the entries made.
-use Rattle.std.proofs.Common.{◌≡◌, ◌⊎◌, ◌-◌, ◌^◌, ◌≤◌, ◌<◌, ℕ, zero, suc, min, true, false, Bool, List, [], ◌∷◌, ◌++◌, length, arith, ◌∙◌, All, Option, Some, None, Result, Ok, Err, inl, inr, refl, sym, ap, subst, ⊎_elim, le-leb, length-append, slice_get, codes}
-use Rattle.std.specs.Prelude.{nat_le, if◌then◌else◌, IfOk}
+use Rattle.std.proofs.Common.{◌≡◌, ◌⊎◌, ◌-◌, ◌^◌, ◌≤◌, ◌<◌, ℕ, zero, suc, min, false, List, [], ◌∷◌, ◌++◌, length, arith, ◌∙◌, All, Some, Result, Ok, Err, inl, inr, refl, ap, subst, ⊎_elim, le-leb, length-append, slice_get, codes}
+use Rattle.std.specs.Prelude.{IfOk}
 use Rattle.fluid_json.specs.declared.memory.NoMemory.{NoMemory}
 use Rattle.std.proofs.lemmas.Bool.{lt-leb}
 use Rattle.std.proofs.lemmas.Option.{none-some, same_Some}
 use Rattle.std.proofs.lemmas.List.Elements.{All-head, All-tail, All-nil, All-cons}
-use Rattle.fluid_types.specs.declared.entries.Raw.{Raw}
-use Rattle.fluid_types.specs.declared.verdicts.Verdict.{Verdict}
 use Rattle.fluid_types.specs.Ledger.{Ledger, seq}
 use Rattle.fluid_types.proofs.Ledgers.{seq-le_length}
 use Rattle.fluid_rules.specs.Rules.{IsLegal}
@@ -16,9 +14,10 @@ use Rattle.fluid_quorum.specs.declared.state.ScribeState.{ScribeState}
 use Rattle.fluid_ticket.specs.State as ticket
 use Rattle.fluid_ticket.specs.State.{within_order}
 use Rattle.fluid_ticket.specs.Ledger as tickets
-use Rattle.fluid_ticket.proofs.Within.{sound-within, sound-legal}
+use Rattle.fluid_ticket.proofs.Within.{sound-within, sound-legal, low-legal}
 use Rattle.fluid_ticket.proofs.Ledgers.{sequence-state_of}
-use Rattle.fluid_core.specs.Entering.{State, sequencer_of, scribe_within, within, state_of}
+use Rattle.fluid_scribe.specs.Within.{within as scribe_within}
+use Rattle.fluid_core.specs.Entering.{State, sequencer_of, within, state_of}
 use Rattle.fluid_core.proofs.Within.{kept_within}
 use Rattle.fluid_log.specs.Keeping.{Content}
 use Rattle.fluid_checkpoint.specs.declared.fault.CheckpointFault.{CheckpointFault}
@@ -27,15 +26,15 @@ use Rattle.fluid_checkpoint.specs.declared.state.State.{State as Checkpoint}
 use Rattle.fluid_checkpoint.specs.declared.state.Form.{Form}
 use Rattle.fluid_checkpoint.specs.declared.state.Form.TheVariants.{One, Two}
 use Rattle.fluid_checkpoint.specs.Heard.{Moments, moments_of}
-use Rattle.fluid_checkpoint.specs.Text.{state_printed, first_printed}
+use Rattle.fluid_checkpoint.specs.Text.{state_printed}
 use Rattle.fluid_checkpoint.specs.Laws.{IsWritten}
 use Rattle.fluid_checkpoint.proofs.Back.{read_back, first_read}
 use Rattle.fluid_readback.specs.Quorums.{QuorumsAreReadBack}
 use Rattle.fluid_checkpoint.specs.Reading.{answer}
 use Rattle.fluid_document.specs.declared.fault.LoadFault.TheVariants.{BadCheckpoint}
-use Rattle.fluid_document.specs.Entries.{Entries, most, nothing_entered, entries_of}
+use Rattle.fluid_document.specs.Entries.{Entries, most, entries_of}
 use Rattle.fluid_document.specs.Kept.{IsLoggable, checkpoint_state, checkpoint_text, IsPrinted, IsOfFirst, IsCheckpointOf, IsKept}
-use Rattle.fluid_document.specs.Loading.{entries_in, entered_in, begun_from, begun_as, begun_by, begun, IsSaid}
+use Rattle.fluid_document.specs.Loading.{entries_in, begun_from}
 use Rattle.fluid_document.proofs.InForm.{in_form}
 
 -- ---- printing
@@ -64,7 +63,7 @@ printed_ok (Err fault) e p scribe heard sequencer_is scribe_is heard_is text wri
 pub entries_back : (l : Ledger) → IsLegal l → seq l ≤ 2 ^ 53 - 1 → entries_in (checkpoint_state (entries_of l)) ≡ entries_of l
 unfolding entries_in entries_of state_of
 entries_back l legal few =
-    let sequencer : within_order (tickets.state_of l) ≡ tickets.state_of l = sound-within (tickets.state_of l) (sound-legal l legal few) in
+    let sequencer : within_order (tickets.state_of l) ≡ tickets.state_of l = sound-within (tickets.state_of l) (sound-legal l legal few) (low-legal l legal) in
     let scribe : scribe_within (within_order (tickets.state_of l)).sequence (state_of l).scribe ≡ (state_of l).scribe =
     ap (λ (s : ticket.State). scribe_within s.sequence (state_of l).scribe) sequencer ∙ ap (λ n. scribe_within n (state_of l).scribe) (sequence-state_of l) ∙ kept_within l legal in
     λ i. record {

@@ -1,5 +1,5 @@
 -- What a scribe keeps of the messages of a legal ledger is in the form of a checkpoint.
-use Rattle.std.proofs.Common.{◌≡◌, ℕ, zero, suc, ◌<◌, ◌≤◌, ◌==◌, nat_lt, Bool, true, false, ◌&&◌, List, [], ◌∷◌, ◌++◌, length, map, take, drop, refl, sym, ap, subst, ◌∙◌, arith, All}
+use Rattle.std.proofs.Common.{◌≡◌, ℕ, zero, suc, ◌<◌, ◌≤◌, ◌==◌, nat_lt, Bool, true, false, ◌&&◌, List, [], ◌∷◌, ◌++◌, length, map, take, drop, refl, arith, All}
 use Rattle.std.specs.Prelude.{IsTrue, cond, not, filter, if◌then◌else◌}
 use Rattle.std.specs.List.{list_any}
 use Rattle.std.specs.Ordering.{nat_cmp}
@@ -7,10 +7,9 @@ use Rattle.std.specs.FinMap.{is_sorted}
 use Rattle.std.specs.FinMap.Entries.{below_all}
 use Rattle.std.proofs.lemmas.List.Elements.{All-nil, All-cons, All-head, All-tail, All-take, All-drop, All-weaker}
 use Rattle.fluid_json.specs.Tree.{IsCanonical, depth}
-use Rattle.fluid_types.specs.Forms.{largest}
 use Rattle.fluid_types.specs.Ledger.{Ledger, order}
 use Rattle.fluid_types.specs.Order.{AreNumberedFrom, AreFirst}
-use Rattle.fluid_types.specs.Quorum.{Quorum, quorum, quorum_of}
+use Rattle.fluid_types.specs.Quorum.{Quorum, quorum}
 use Rattle.fluid_types.specs.declared.messages.Message.{Message}
 use Rattle.fluid_types.specs.Blobs.{blob_tree}
 use Rattle.fluid_types.specs.declared.quorum.QuorumBlob.TheVariants.{Attributes, Members, Proposals, Values}

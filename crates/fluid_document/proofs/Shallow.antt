@@ -1,9 +1,8 @@
 -- How deep the items of a checkpoint's lists are.
-use Rattle.std.proofs.Common.{◌≡◌, ℕ, ◌≤◌, List, [], ◌∷◌, ◌++◌, map, Option, Some, None, option_map, IfSome, refl, arith, All}
+use Rattle.std.proofs.Common.{ℕ, ◌≤◌, List, [], ◌∷◌, ◌++◌, map, Option, Some, None, option_map, IfSome, arith, All}
 use Rattle.std.proofs.lemmas.List.Elements.{All-head, All-tail}
 use Rattle.fluid_json.specs.Tree.{Tree, text, trees, members, depth, trees_depth, members_depth}
-use Rattle.fluid_types.specs.Printed.{Row as Pair, or_null, row_if_any, scopes_tree, scope_words, message_rows, message_tree}
-use Rattle.fluid_types.specs.declared.entries.Scopes.{Scopes}
+use Rattle.fluid_types.specs.Printed.{Row as Pair, or_null, row_if_any, scope_words, message_rows, message_tree}
 use Rattle.fluid_types.specs.declared.fault.Field.{Field}
 use Rattle.fluid_types.specs.declared.messages.Message.{Message}
 use Rattle.fluid_tree.specs.declared.id.SummaryRef.{SummaryRef}

@@ -1,11 +1,10 @@
 -- One record that is taken up over a keeper that is kept, and all of them.
-use Rattle.std.proofs.Common.{◌≡◌, ◌⊎◌, ℕ, zero, suc, ◌+◌, ◌<◌, ◌≤◌, Bool, false, List, [], ◌∷◌, ◌++◌, length, take, drop, map, slice_get, Option, Some, None, Result, Ok, Err, inl, inr, refl, sym, ap, subst, ◌∙◌, append-nil, arith}
+use Rattle.std.proofs.Common.{◌≡◌, ◌⊎◌, ℕ, zero, suc, ◌+◌, ◌<◌, ◌≤◌, false, [], ◌∷◌, ◌++◌, length, take, drop, slice_get, Option, Some, None, Ok, inl, inr, refl, sym, ap, ◌∙◌, arith}
 use Rattle.std.specs.Option.{option_map}
 use Rattle.std.proofs.lemmas.List.{take_all, length-map}
 use Rattle.std.proofs.lemmas.Option.{none-some, same_Some}
 use Rattle.fluid_io.specs.Causes.{Tells}
 use Rattle.fluid_types.specs.declared.entries.Raw.{Raw}
-use Rattle.fluid_types.specs.declared.messages.Message.{Message}
 use Rattle.fluid_types.specs.declared.verdicts.Verdict.{Verdict}
 use Rattle.fluid_types.specs.Printed.{raw_printed}
 use Rattle.fluid_types.specs.Ledger.{Ledger, order, seq, messages_of}
@@ -18,10 +17,10 @@ use Rattle.fluid_deltas.specs.Flushes.{put_behind}
 use Rattle.fluid_deltas.proofs.Telling.{tells_from, tells_both, tells_along}
 use Rattle.fluid_core.specs.Entering.{verdict_in}
 use Rattle.fluid_core.proofs.Entered.{verdict-state_of}
-use Rattle.fluid_document.specs.Entries.{Entries, InMemory, taken_up, entries_of}
+use Rattle.fluid_document.specs.Entries.{InMemory, taken_up, entries_of}
 use Rattle.fluid_document.specs.Kept.{IsLoggable, records, IsKept}
 use Rattle.fluid_document.specs.Loading.{record_in, IsRecord, PutsDeltas}
-use Rattle.fluid_document.specs.Taking.{IsNext, StandOn, IsTaken, IsLeft, StandsAt, ReadsKept}
+use Rattle.fluid_document.specs.Taking.{IsNext, IsTaken, IsLeft, StandsAt, ReadsKept}
 use Rattle.fluid_document.specs.declared.fault.LoadFault.{LoadFault}
 use Rattle.fluid_document.proofs.Keeps.{told_more}
 use Rattle.fluid_document.proofs.Foldings.{taken-entries_of, record_in-printed, state-entries_of}

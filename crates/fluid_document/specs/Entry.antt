@@ -1,7 +1,6 @@
 -- What entering one entry does to a keeper and to what is kept in memory, by the answer.
 use Rattle.std.specs.Prelude.{◌≡◌, ◌⊎◌, ◌≤◌, ⊤, ℕ, List, [], ◌++◌, take, Result, Ok, Err, IfErr}
 use Rattle.fluid_io.specs.Causes.{Tells}
-use Rattle.fluid_io.specs.declared.faults.FaultNote.{FaultNote}
 use Rattle.fluid_types.specs.Ledger.{messages_of}
 use Rattle.fluid_types.specs.Printed.{raw_printed}
 use Rattle.fluid_types.specs.declared.entries.Raw.{Raw}
@@ -13,7 +12,7 @@ use Rattle.fluid_deltas.specs.Pushed.{StandFor}
 use Rattle.fluid_deltas.specs.Ranges.{IsNoted}
 use Rattle.fluid_deltas.specs.Flushes.{with_deltas}
 use Rattle.fluid_core.specs.Entering.{verdict_in}
-use Rattle.fluid_document.specs.Entries.{Entries, InMemory, GoOn, taken_up}
+use Rattle.fluid_document.specs.Entries.{InMemory, GoOn, taken_up}
 use Rattle.fluid_document.specs.Rooms.{for_room, roomed}
 use Rattle.fluid_document.specs.declared.fault.EnterFault.{EnterFault}
 use Rattle.fluid_document.specs.declared.fault.EnterFault.TheVariants.{LogFailed, DeltaFailed, NoMemory}

@@ -1,11 +1,11 @@
 -- What a kept content comes back as.
-use Rattle.std.specs.Prelude.{◌≡◌, ℕ, ◌+◌, ◌≤◌, ◌<◌, false, ◌++◌, length, All, Some, None, Ok}
-use Rattle.fluid_types.specs.Ledger.{Ledger, order}
+use Rattle.std.specs.Prelude.{◌≡◌, ℕ, ◌+◌, ◌≤◌, ◌<◌, false, List, ◌++◌, length, All, slice_get, Some, None, Ok}
+use Rattle.fluid_types.specs.Ledger.{Ledger}
 use Rattle.fluid_rules.specs.Rules.{IsLegal, IsLegalBehind}
 use Rattle.fluid_log.specs.Keeping.{Content}
 use Rattle.fluid_document.specs.Entries.{most, entries_of}
-use Rattle.fluid_document.specs.Loading.{log_folded, loaded}
-use Rattle.fluid_document.specs.Kept.{IsLoggable, records, IsKept}
+use Rattle.fluid_document.specs.Loading.{log_folded, begun, loaded}
+use Rattle.fluid_document.specs.Kept.{IsLoggable, records, IsPrinted, IsKept}
 
 -- the records of a legal ledger behind another one are folded to both together
 abbrev pub RecordsAreFolded : Type 0
@@ -20,3 +20,9 @@ KeptIsLoaded = (l : Ledger) (content : Content) → IsKept false l content → l
 -- and from each of its checkpoints
 abbrev pub CheckpointIsLoaded : Type 0
 CheckpointIsLoaded = (l : Ledger) (content : Content) (number : ℕ) → IsKept false l content → number < length content.checkpoints → loaded content (Some number) ≡ Ok (entries_of l)
+
+-- a checkpoint that was printed of the first entries of the ledger counts them: a reading begins behind them
+abbrev pub CheckpointsAreCounted : Type 0
+CheckpointsAreCounted =
+    (before behind : Ledger) (content : Content) (number : ℕ) (text : List ℕ) → IsKept false (before ++ behind) content → slice_get content.checkpoints number ≡ Some text → IsPrinted (entries_of before) text
+    → (begun content (Some number) ≡ Ok (entries_of before)) × ((entries_of before).entered ≡ length before)

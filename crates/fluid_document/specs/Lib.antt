@@ -1,4 +1,5 @@
 pub mod Entries
+pub mod Puts
 pub mod Rooms
 pub mod Loading
 pub mod Entry

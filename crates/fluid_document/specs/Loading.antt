@@ -1,5 +1,5 @@
 -- How the entries of a document are read out of what a keeper keeps: a checkpoint, and the log behind it.
-use Rattle.std.specs.Prelude.{◌≡◌, ℕ, ◌+◌, ◌-◌, ◌^◌, ◌<◌, nat_le, min, ⊤, List, [], ◌∷◌, length, drop, slice_get, codes, Option, Some, None, Result, Ok, Err, if◌then◌else◌}
+use Rattle.std.specs.Prelude.{◌≡◌, ℕ, ◌+◌, ◌-◌, ◌^◌, ◌<◌, ◌≤◌, nat_le, min, ⊤, List, [], ◌∷◌, length, drop, slice_get, codes, Option, Some, None, Result, Ok, Err, if◌then◌else◌}
 use Rattle.std.specs.Str.{is_utf8}
 use Rattle.fluid_types.specs.Forms.{Read}
 use Rattle.fluid_types.specs.Fits.{longest_record}
@@ -17,6 +17,7 @@ use Rattle.fluid_checkpoint.specs.declared.state.Form.{Form}
 use Rattle.fluid_checkpoint.specs.declared.state.Form.TheVariants.{One, Two}
 use Rattle.fluid_checkpoint.specs.declared.fault.CheckpointFault.{CheckpointFault}
 use Rattle.fluid_checkpoint.specs.declared.fault.CheckpointFault.TheVariants.{BadField}
+use Rattle.fluid_deltas.specs.declared.pages.TheConstants.{RESIDENT}
 use Rattle.fluid_deltas.specs.Ranges.{IsNoted}
 use Rattle.fluid_document.specs.Entries.{Entries, most, nothing_entered, taken_up}
 use Rattle.fluid_document.specs.declared.fault.LoadFault.{LoadFault}
@@ -102,11 +103,11 @@ newest count = if nat_le count 0 then None else Some (count - 1)
 
 -- ---- answers
 
--- which faults a reading of so many records has. The keeper's count rose where it failed, and the numbers end only where
--- there are more records than numbers
+-- which faults a reading of so many records has. The keeper's count rose where it failed; deltas are put only where there are as
+-- many records as messages may be in memory, and the numbers end only where there are more records than numbers
 abbrev pub IsLoadFault : (records before now : ℕ) → LoadFault → Type 0
 IsLoadFault records before now (LogFailed note) = IsNoted before now note
-IsLoadFault records before now (DeltaFailed note) = IsNoted before now note
+IsLoadFault records before now (DeltaFailed note) = IsNoted before now note × (RESIDENT ≤ records)
 IsLoadFault records before now Worn = most < records
 IsLoadFault records before now other = ⊤
 

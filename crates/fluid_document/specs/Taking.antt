@@ -12,7 +12,7 @@ use Rattle.fluid_checkpoint.specs.declared.state.Form.{Form}
 use Rattle.fluid_checkpoint.specs.declared.state.Form.TheVariants.{One, Two}
 use Rattle.fluid_deltas.specs.Pushed.{Pushed, pushed, IsKeepable, ArePartOf, AreDeltasOf, StandIn, StandFor}
 use Rattle.fluid_core.specs.Entering.{verdict_in}
-use Rattle.fluid_document.specs.Entries.{Entries, InMemory, most, entries_of, taken_up}
+use Rattle.fluid_document.specs.Entries.{InMemory, most, entries_of, taken_up}
 use Rattle.fluid_document.specs.Kept.{IsKept}
 use Rattle.fluid_document.specs.Loading.{IsRecord, DecodesAs, entries_in}
 use Rattle.fluid_document.specs.declared.fault.LoadFault.{LoadFault}

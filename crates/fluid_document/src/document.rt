@@ -9,14 +9,16 @@ ghost use Rattle.fluid_types.specs.declared.messages.Message.{Message as AMessag
 ghost use Rattle.fluid_ticket.specs.State.{minimum};
 ghost use Rattle.fluid_core.specs.Entering.{IsUpTo, job_of};
 ghost use Rattle.fluid_deltas.specs.Pushed.{pushed, IsKeepable, ArePartOf, StandIn, StandFor, slice};
-ghost use Rattle.fluid_deltas.specs.Ranges.{IsAnswer, IsHeldAnswer, IsSlice, AreHeld, Reads, held_between, range_of};
-ghost use Rattle.fluid_deltas.specs.Flushes.{lacking, PutsAll, Writes, AreAll};
+ghost use Rattle.fluid_deltas.specs.Ranges.{IsNotBad, IsAnswer, IsHeldAnswer, IsSlice, AreHeld, Reads, held_between, range_of};
+ghost use Rattle.fluid_deltas.specs.Flushes.{lacking, AreAll};
 ghost use Rattle.fluid_deltas.specs.declared.pages.TheConstants.{RESIDENT};
 ghost use Rattle.fluid_document.specs.Entries.{most, counts, nothing_entered, GoOn, Commits, IsLevelled, IsReadyIn, IsReady};
 ghost use Rattle.fluid_document.specs.Kept.{IsPrinted};
 ghost use Rattle.fluid_document.specs.Taking.{IsResumed};
+ghost use Rattle.fluid_document.specs.Puts.{Flushes, PutsFirst, PutsFew, unflushed};
 ghost use Rattle.fluid_document.specs.Rooms.{for_room};
 
+use crate::fault::FlushFault;
 use fluid_checkpoint::{Moments, State};
 use fluid_clients::Clients;
 use fluid_core::{Core, CoreParts, CoreReady};
@@ -149,6 +151,7 @@ impl Document {
         ensures same { (self.new.entries ≡ self.old.entries) × (self.new.messages ≡ self.old.messages) }
         ensures job { IfOk result (λ given. given ≡ job_of self.old.entries.state) }
         ensures number { IfOk result (λ given. IfSome given (λ job. IsUpTo most job.summary)) }
+        ensures reference { IfOk result (λ given. IfSome given (λ job. job.reference ≤ job.summary)) }
     {
         let _last = self.core.seq();
         self.core.job(alloc)
@@ -186,17 +189,16 @@ impl Document {
     }
 
     /// Puts the messages that the keeper lacks among its deltas. After a fault it may have put some of them, in order.
-    pub fn flush<K: Keeper>(&mut self, alloc: Global, keeper: &mut K) -> Result<(), DeltaFault>
+    pub fn flush<K: Keeper>(&mut self, alloc: Global, keeper: &mut K) -> Result<(), FlushFault>
         requires { self.old.messages.before ≤ (K.seen keeper.old).deltas }
         ensures same { self.new ≡ self.old }
-        ensures writes { Writes (K.seen keeper.old) (K.seen keeper.new) result }
-        ensures puts { PutsAll (lacking self.old.messages (K.seen keeper.old).deltas) (K.seen keeper.old) (K.seen keeper.new) result }
+        ensures flushes { Flushes (lacking self.old.messages (K.seen keeper.old).deltas) (K.seen keeper.old) (K.seen keeper.new) result }
         ensures stands { (order : List AMessage) → Tells (K.seen keeper.old).content (StandIn self.old.messages order) →
             Tells (K.seen keeper.new).content (StandIn self.old.messages order) }
         ensures whole { OnOk result ((order : List AMessage) → Tells (K.seen keeper.old).content (StandFor self.old.messages order) →
             Tells (K.seen keeper.new).content (AreAll order)) }
     {
-        self.messages.flush(alloc, keeper)
+        flushed(self.messages.flush(alloc, keeper))
     }
 
     /// The messages `from` up to, but without, `to`.
@@ -227,14 +229,17 @@ impl Document {
         &mut self,
         alloc: Global,
         keeper: &mut K,
-    ) -> Result<(), DeltaFault>
+    ) -> Result<(), FlushFault>
         requires { self.old.messages.before ≤ (K.seen keeper.old).deltas }
         ensures entries { self.new.entries ≡ self.old.entries }
         ensures pushed { pushed self.new.messages ≡ pushed self.old.messages }
         ensures room { OnOk result (length self.new.messages.held < RESIDENT) }
         ensures same { OnErr result (self.new ≡ self.old) }
-        ensures writes { Writes (K.seen keeper.old) (K.seen keeper.new) result }
-        ensures puts { PutsAll (for_room self.old.messages (K.seen keeper.old).deltas) (K.seen keeper.old) (K.seen keeper.new) result }
+        ensures flushes { Flushes (for_room self.old.messages (K.seen keeper.old).deltas) (K.seen keeper.old) (K.seen keeper.new) result }
+        ensures first { OnOk result (PutsFirst self.new.messages.before (K.seen keeper.old) (K.seen keeper.new)) }
+        ensures few { PutsFew self.old.entries.entered (K.seen keeper.old) (K.seen keeper.new) }
+        ensures onwards { self.old.messages.before ≤ self.new.messages.before }
+        ensures needed { OnErr result (RESIDENT ≤ self.old.entries.entered) }
         ensures reached { self.new.messages.before ≤ (K.seen keeper.new).deltas }
         ensures stands { (order : List AMessage) → Tells (K.seen keeper.old).content (StandIn self.old.messages order) →
             Tells (K.seen keeper.new).content (StandIn self.new.messages order) }
@@ -242,7 +247,7 @@ impl Document {
         if !self.messages.full() {
             return Ok(());
         }
-        self.messages.make_room(alloc, keeper)
+        flushed(self.messages.make_room(alloc, keeper))
     }
 
     // Gives a raw entry its verdict and makes every growth that this verdict needs. What is kept stays.
@@ -282,6 +287,20 @@ impl Prepared {
         ensures { result.now ≡ self.now.ready.ticket.verdict }
     {
         self.ready.verdict()
+    }
+}
+
+// The answer of a call that put messages and read none.
+fn flushed(answer: Result<(), DeltaFault>) -> Result<(), FlushFault>
+    requires { IfErr answer IsNotBad }
+    ensures { answer ≡ unflushed result }
+{
+    match answer {
+        Ok(()) => Ok(()),
+        Err(DeltaFault::DeltaFailed(note)) => Err(FlushFault::DeltaFailed(note)),
+        Err(DeltaFault::NoMemory) => Err(FlushFault::NoMemory),
+        Err(DeltaFault::BadDelta(_)) => unreachable!(),
+        Err(DeltaFault::Worn) => unreachable!(),
     }
 }
 

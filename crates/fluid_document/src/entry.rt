@@ -1,5 +1,5 @@
 //! Entering one raw entry: its record into the log, its verdict into what is kept in memory.
-ghost use Rattle.std.specs.Prelude.{◌≡◌, ◌<◌, ◌≤◌, List, length, IfOk, IfErr, OnOk};
+ghost use Rattle.std.specs.Prelude.{◌≡◌, ◌<◌, ◌≤◌, List, length, IfOk, IfErr, OnOk, OnErr};
 ghost use Rattle.fluid_io.specs.Causes.{Tells};
 ghost use Rattle.fluid_types.specs.Fits.{Fits};
 ghost use Rattle.fluid_types.specs.Printed.{raw_printed};
@@ -10,14 +10,14 @@ ghost use Rattle.fluid_core.specs.Entering.{verdict_in};
 ghost use Rattle.fluid_deltas.specs.Pushed.{pushed, StandIn, StandFor};
 ghost use Rattle.fluid_deltas.specs.declared.pages.TheConstants.{RESIDENT};
 ghost use Rattle.fluid_document.specs.Entries.{most, IsReadyIn, IsReady};
+ghost use Rattle.fluid_document.specs.Puts.{PutsFirst, PutsFew};
 ghost use Rattle.fluid_document.specs.Rooms.{for_room};
 ghost use Rattle.fluid_document.specs.Entry.{IsEnterFault, RoomDoes, Appends, FinishDoes, EntersBy};
 
 use crate::document::{Document, Prepared};
-use crate::fault::EnterFault;
+use crate::fault::{EnterFault, FlushFault};
 use crate::loading::note_of;
 use fluid_codec::print_raw;
-use fluid_deltas::DeltaFault;
 use fluid_json::Text;
 use fluid_log::{Keeper, KeeperFault};
 use fluid_types::{Raw, Verdict};
@@ -105,14 +105,15 @@ pub(crate) fn make_room<K: Keeper>(
     ensures part { (order : List AMessage) → Tells (K.seen keeper.old).content (StandIn document.old.messages order) →
         Tells (K.seen keeper.new).content (StandIn document.new.messages order) }
     ensures pushed { pushed document.new.messages ≡ pushed document.old.messages }
+    ensures first { OnOk result (PutsFirst document.new.messages.before (K.seen keeper.old) (K.seen keeper.new)) }
+    ensures few { PutsFew document.old.entries.entered (K.seen keeper.old) (K.seen keeper.new) }
+    ensures onwards { document.old.messages.before ≤ document.new.messages.before }
+    ensures needed { OnErr result (RESIDENT ≤ document.old.entries.entered) }
 {
     match document.make_room(alloc, keeper) {
         Ok(()) => Ok(()),
-        Err(DeltaFault::DeltaFailed(note)) => Err(EnterFault::DeltaFailed(note)),
-        Err(DeltaFault::NoMemory) => Err(EnterFault::NoMemory),
-        // (nothing is read)
-        Err(DeltaFault::BadDelta(_)) => Err(EnterFault::NoMemory),
-        Err(DeltaFault::Worn) => Err(EnterFault::NoMemory),
+        Err(FlushFault::DeltaFailed(note)) => Err(EnterFault::DeltaFailed(note)),
+        Err(FlushFault::NoMemory) => Err(EnterFault::NoMemory),
     }
 }
 

@@ -7,6 +7,14 @@ use fluid_checkpoint::CheckpointFault;
 use fluid_io::FaultNote;
 use fluid_json::NoMemory;
 
+/// Why messages aren't all put among a keeper's deltas.
+#[derive(Clone, Copy, Debug, PartialEq, Eq)]
+pub enum FlushFault {
+    /// The keeper failed at one of them; its count of faults rose as the note says.
+    DeltaFailed(FaultNote),
+    NoMemory,
+}
+
 /// Why an entry isn't entered.
 #[derive(Clone, Copy, Debug, PartialEq, Eq)]
 pub enum EnterFault {

@@ -1,5 +1,5 @@
 //! What a kept content comes back as.
-ghost use Rattle.fluid_document.specs.Laws.{RecordsAreFolded, KeptIsLoaded, CheckpointIsLoaded};
+ghost use Rattle.fluid_document.specs.Laws.{RecordsAreFolded, KeptIsLoaded, CheckpointIsLoaded, CheckpointsAreCounted};
 
 use fluid_readback::blobs_of_messages_are_read_back;
 
@@ -13,6 +13,13 @@ pub fn records_are_folded()
 pub fn kept_is_loaded()
     ensures first { KeptIsLoaded }
     ensures checkpoints { CheckpointIsLoaded }
+{
+    blobs_of_messages_are_read_back();
+}
+
+/// A checkpoint that was stored behind so many entries is read as these: exactly the records behind them are read then.
+pub fn checkpoints_are_counted()
+    ensures { CheckpointsAreCounted }
 {
     blobs_of_messages_are_read_back();
 }

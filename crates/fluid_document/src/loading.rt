@@ -12,6 +12,7 @@ ghost use Rattle.fluid_core.specs.Entering.{verdict_in};
 ghost use Rattle.fluid_document.specs.Entries.{most, nothing_entered, taken_up};
 ghost use Rattle.fluid_document.specs.Loading.{record_in, fitting, log_folded, entered_in, begun_from, begun, loaded, SaysAs, IsLoadFault, IsLoaded, HasRead, ReadsBehind, PutsDeltas, DecodesAs};
 ghost use Rattle.fluid_document.specs.Kept.{IsKept};
+ghost use Rattle.fluid_document.specs.Puts.{PutsFirst, PutsEarly, PutsFew};
 ghost use Rattle.fluid_document.specs.Taking.{TakesNext, StandOn, StandsAt, ReadsKept, IsOutside, IsResumed, IsInRange, unread};
 ghost use Rattle.fluid_deltas.specs.Pushed.{pushed};
 
@@ -118,6 +119,7 @@ fn take_up<K: Keeper>(
 ) -> Result<(), LoadFault>
     requires fits { Fits raw.now }
     requires few { document.old.entries.entered < most }
+    requires there { document.old.entries.entered < (K.seen keeper.old).records }
     requires reached { document.old.messages.before ≤ (K.seen keeper.old).deltas }
     ensures later { (K.seen keeper.old).faults ≤ (K.seen keeper.new).faults }
     ensures cause { IfErr result (IsLoadFault (K.seen keeper.old).records (K.seen keeper.old).faults (K.seen keeper.new).faults) }
@@ -128,6 +130,8 @@ fn take_up<K: Keeper>(
     ensures count { IfOk result (λ _. pushed document.new.messages ≡ pushed document.old.messages + length (messages_of (verdict_in document.old.entries.state raw.now))) }
     ensures stands { StandOn (K.seen keeper.old) (K.seen keeper.new) document.old document.new raw.now result }
     ensures outside { IfErr result IsOutside }
+    ensures early { IfOk result (λ _. PutsEarly document.old.messages.before document.new.messages.before (K.seen keeper.old) (K.seen keeper.new)) }
+    ensures lacked { PutsFew document.old.entries.entered (K.seen keeper.old) (K.seen keeper.new) }
 {
     match make_room(alloc, keeper, document) {
         Ok(()) => {}
@@ -157,6 +161,7 @@ fn take_next<K: Keeper>(
     place: u64,
 ) -> Result<(), LoadFault>
     requires there { place < (K.seen keeper.old).records }
+    requires at { document.old.entries.entered ≡ place }
     requires few { document.old.entries.entered < most }
     requires reached { document.old.messages.before ≤ (K.seen keeper.old).deltas }
     ensures later { (K.seen keeper.old).faults ≤ (K.seen keeper.new).faults }
@@ -165,6 +170,8 @@ fn take_next<K: Keeper>(
     ensures puts { PutsDeltas (K.seen keeper.old) (K.seen keeper.new) }
     ensures reached { document.new.messages.before ≤ (K.seen keeper.new).deltas }
     ensures takes { TakesNext place (K.seen keeper.old) (K.seen keeper.new) document.old document.new result }
+    ensures early { IfOk result (λ _. PutsEarly document.old.messages.before document.new.messages.before (K.seen keeper.old) (K.seen keeper.new)) }
+    ensures lacked { PutsFew place (K.seen keeper.old) (K.seen keeper.new) }
 {
     let raw = read_record(alloc, keeper, place)?;
     take_up(alloc, keeper, document, &raw)?;
@@ -183,6 +190,8 @@ fn fold_behind<K: Keeper>(
     ensures cause { IfErr result (IsLoadFault (K.seen keeper.old).records (K.seen keeper.old).faults (K.seen keeper.new).faults) }
     ensures puts { PutsDeltas (K.seen keeper.old) (K.seen keeper.new) }
     ensures reached { document.new.messages.before ≤ (K.seen keeper.new).deltas }
+    ensures early { IfOk result (λ _. PutsFirst document.new.messages.before (K.seen keeper.old) (K.seen keeper.new)) }
+    ensures lacked { PutsFew (K.seen keeper.old).records (K.seen keeper.old) (K.seen keeper.new) }
     ensures whole { IfOk result (λ _. document.new.entries.entered ≡ (K.seen keeper.old).records) }
     ensures reads { IfOk result (λ _. HasRead ((K.seen keeper.old).records - document.old.entries.entered) (K.seen keeper.old).reads (K.seen keeper.new).reads) }
     ensures loaded { Tells (K.seen keeper.old).content (λ content.
@@ -294,6 +303,8 @@ pub fn load<K: Keeper>(
     ensures later { (K.seen keeper.old).faults ≤ (K.seen keeper.new).faults }
     ensures cause { IfErr result (IsLoadFault (K.seen keeper.old).records (K.seen keeper.old).faults (K.seen keeper.new).faults) }
     ensures puts { PutsDeltas (K.seen keeper.old) (K.seen keeper.new) }
+    ensures early { IfOk result (λ d. PutsFirst d.messages.before (K.seen keeper.old) (K.seen keeper.new)) }
+    ensures lacked { PutsFew (K.seen keeper.old).records (K.seen keeper.old) (K.seen keeper.new) }
     ensures level { IfOk result (λ d. (d.entries.entered ≡ (K.seen keeper.old).records) × (d.messages.before ≤ (K.seen keeper.new).deltas)) }
     ensures reads { IfOk result (λ _. Tells (K.seen keeper.old).content (ReadsBehind from (K.seen keeper.old).records (K.seen keeper.old).reads (K.seen keeper.new).reads)) }
     ensures loaded { Tells (K.seen keeper.old).content (λ content. IsLoaded (λ d. d.entries) result (loaded content from)) }

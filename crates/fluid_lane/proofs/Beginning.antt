@@ -410,7 +410,7 @@ grew_read old new puts = ([], grew_behind [] old new new puts (grew_same new new
 
 pub caused_by : (records before now : ℕ) (fault : LoadFault) → IsLoadFault records before now fault → IsCausedBy before now (of_loading fault)
 caused_by records before now (loading.LogFailed note) is = is
-caused_by records before now (loading.DeltaFailed note) is = is
+caused_by records before now (loading.DeltaFailed note) is = is.0
 caused_by records before now loading.NoMemory is = tt
 caused_by records before now (loading.BadRecord place) is = tt
 caused_by records before now (loading.BadCheckpoint number fault) is = tt

@@ -15,9 +15,10 @@ use Rattle.fluid_deltas.specs.Pushed.{Pushed}
 use Rattle.fluid_deltas.proofs.Telling.{tells_each, tells_along, tells_both}
 use Rattle.fluid_deltas.specs.Flushes.{put_behind, with_deltas, lacking, AreAll}
 use Rattle.fluid_document.specs.Entries.{taken_up}
-use Rattle.fluid_document.specs.Kept.{checkpoint_text}
+use Rattle.fluid_document.specs.Kept.{checkpoint_text, IsPrinted}
 use Rattle.fluid_document.specs.Rooms.{for_room, roomed}
 use Rattle.fluid_document.specs.Entry.{PutsSome}
+use Rattle.fluid_document.specs.Puts.{PutsFirst, PutsFew}
 use Rattle.fluid_document.specs.Loading.{loaded, ReadsBehind, PutsDeltas}
 use Rattle.fluid_lane.specs.declared.fault.LaneFault.{LaneFault}
 use Rattle.fluid_lane.specs.declared.fault.LaneFault.TheVariants.{LogFailed, Full, BadRecord, NoCheckpoint, CheckpointsFull, TooManyClients, DeltaFailed, NoMemory, BadCheckpoint, TooLarge, Worn}
@@ -27,7 +28,7 @@ use Rattle.fluid_lane.specs.Faults.{IsCausedBy, IsLogFailed, IsOutside, IsReadFa
 use Rattle.fluid_lane.specs.Standing.{Standing, LaneStands, Goes}
 use Rattle.fluid_lane.specs.Refusals.{IsCutFailed}
 use Rattle.fluid_lane.specs.Calls.{settled, TakesUp, OwesBy, AddKept, EnterKept, Enters, IsFlushFault, IsOutsideLog, IsBeside, missing, flushed, HasCheckpoint, SettledBy, Stores}
-use Rattle.fluid_lane.specs.Restarts.{RefusesRestart, IsRestarted, RestartKept, Restarts}
+use Rattle.fluid_lane.specs.Restarts.{IsAtDeltas, RefusesRestart, IsRestarted, RestartKept, Restarts}
 use Rattle.fluid_lane.proofs.Caused.{caused_earlier}
 
 -- ---- a keeper behind another that keeps the same
@@ -265,7 +266,7 @@ checkpoints_stay s = by s.owed
     by false = refl
 
 -- the text was given to the keeper behind a flush
-pub stores_on : (old mid new : Standing) (text : List ℕ) (result : Result ℕ LaneFault) → text ≡ checkpoint_text old.entries → length text ≤ old.limits.bytes → KeepsSame (flushed old) mid.keeping
+pub stores_on : (old mid new : Standing) (text : List ℕ) (result : Result ℕ LaneFault) → IsPrinted old.entries text → length text ≤ old.limits.bytes → KeepsSame (flushed old) mid.keeping
     → MatchResult result (λ _. KeepsSame (with_checkpoint text mid.keeping) new.keeping) (λ _. KeepsSame mid.keeping new.keeping) → IfOk result (λ number. number ≡ mid.keeping.checkpoints) → IfOk result (λ number. Tells new.keeping.content (HasCheckpoint number text))
     → IfErr result IsOutsideLog → IfErr result (IsCausedBy mid.keeping.faults new.keeping.faults) → old.keeping.faults ≤ mid.keeping.faults → (new.entries ≡ old.entries) × (new.messages ≡ old.messages) → new.owed ≡ false → new.keeping.reads ≡ old.keeping.reads
     → Stores old new result
@@ -274,7 +275,7 @@ stores_on old mid new text (Ok number) is short flush kept next there fails caus
   settled_by = level;
   cause = tt;
   reads = reads;
-  kept = subst (λ t. KeepsSame (with_checkpoint t (flushed old)) new.keeping) is (record {
+  kept = subst (λ t. KeepsSame (with_checkpoint t (flushed old)) new.keeping) is.text (record {
     content = kept.content ∙ ap (option_map (add_checkpoint text)) flush.content;
     records = kept.records ∙ flush.records;
     deltas = kept.deltas ∙ flush.deltas;
@@ -282,8 +283,9 @@ stores_on old mid new text (Ok number) is short flush kept next there fails caus
   });
   stored = record {
     next = next ∙ flush.checkpoints ∙ checkpoints_stay old;
-    short = subst (λ t. length t ≤ old.limits.bytes) is short;
-    there = subst (λ t. Tells new.keeping.content (HasCheckpoint number t)) is there;
+    short = subst (λ t. length t ≤ old.limits.bytes) is.text short;
+    there = subst (λ t. Tells new.keeping.content (HasCheckpoint number t)) is.text there;
+    printed = subst (IsPrinted old.entries) is.text is;
   };
 }
 stores_on old mid new text (Err fault) is short flush kept next there fails cause later same level reads = by fault fails cause
@@ -293,7 +295,7 @@ stores_on old mid new text (Err fault) is short flush kept next there fails caus
 
     by : (f : LaneFault) → IsOutsideLog f → IsCausedBy mid.keeping.faults new.keeping.faults f → Stores old new (Err f)
     by (LogFailed note) out caused =
-        record { same = same; settled_by = tt; cause = caused_earlier old.keeping.faults mid.keeping.faults new.keeping.faults (LogFailed note) later caused; reads = reads; kept = inr (subst (λ t. length t ≤ old.limits.bytes) is short, (level, whole)); stored = tt }
+        record { same = same; settled_by = tt; cause = caused_earlier old.keeping.faults mid.keeping.faults new.keeping.faults (LogFailed note) later caused; reads = reads; kept = inr (subst (λ t. length t ≤ old.limits.bytes) is.text short, (level, whole)); stored = tt }
     by (Full n) out caused = absurd out
     by (BadRecord place) out caused = absurd out
     by (NoCheckpoint asked stored) out caused = absurd out
@@ -328,11 +330,23 @@ restarts_worn number old new same = record {
   cause = tt;
   kept = subst (λ s. KeepsSame old.keeping s.keeping) (sym same) (same_itself old.keeping);
   loads = tells_each (settled old).content _ (λ c. tt);
+  early = tt;
+  lacked = omega (arith, ap (λ s. s.keeping.deltas) same);
+  at_deltas = tt;
 }
 
 pub restarts_cut : {A : Type 0} (number : ℕ) (old new : Standing) (fault : LaneFault) → IsLogFailed fault → IsCutFailed old new → (new.entries ≡ old.entries) × (new.messages ≡ old.messages) → IsCausedBy old.keeping.faults new.keeping.faults fault
     → Restarts {A = A} number old new (Err fault)
-restarts_cut number old new (LogFailed note) log cut same cause = record { stays = same; settled_by = tt; cause = cause; kept = inl cut; loads = tells_each (settled old).content _ (λ c. tt) }
+restarts_cut number old new (LogFailed note) log cut same cause = record {
+  stays = same;
+  settled_by = tt;
+  cause = cause;
+  kept = inl cut;
+  loads = tells_each (settled old).content _ (λ c. tt);
+  early = tt;
+  lacked = omega (arith, cut.kept.deltas);
+  at_deltas = tt;
+}
 restarts_cut number old new (Full n) log cut same cause = absurd log
 restarts_cut number old new (BadRecord place) log cut same cause = absurd log
 restarts_cut number old new (NoCheckpoint asked stored) log cut same cause = absurd log
@@ -345,7 +359,20 @@ restarts_cut number old new (TooLarge bytes) log cut same cause = absurd log
 restarts_cut number old new Worn log cut same cause = absurd log
 
 pub restarts_none : {A : Type 0} (number : ℕ) (old new : Standing) (asked stored : ℕ) → KeepsSame (settled old) new.keeping → (new.entries ≡ old.entries) × (new.messages ≡ old.messages) → new.owed ≡ false → Restarts {A = A} number old new (Err (NoCheckpoint asked stored))
-restarts_none number old new asked stored kept same level = record { stays = same; settled_by = level; cause = tt; kept = kept; loads = tells_each (settled old).content _ (λ c. tt) }
+restarts_none number old new asked stored kept same level = record {
+  stays = same;
+  settled_by = level;
+  cause = tt;
+  kept = kept;
+  loads = tells_each (settled old).content _ (λ c. tt);
+  early = tt;
+  lacked = omega (arith, kept.deltas, deltas_stay old);
+  at_deltas = tt;
+}
+
+-- which deltas a reading puts, from one value to another
+pub lacked_on : (s t : Standing) (new u : Keeping) → s ≡ t → u ≡ new → s.keeping.records ≡ s.entries.entered → PutsFew s.keeping.records s.keeping new → PutsFew t.entries.entered t.keeping u
+lacked_on s t new u same on level lacked = omega (arith, lacked, level, ap (λ x. x.entries.entered) same, ap (λ x. x.keeping.deltas) same, ap (λ k. k.deltas) on)
 
 deltas_on : (one other new : Keeping) → KeepsSame one other → PutsDeltas other new → PutsDeltas one new
 deltas_on one other new same puts = record {
@@ -359,13 +386,17 @@ deltas_on one other new same puts = record {
 }
 
 pub restarts_bad : {A : Type 0} (number : ℕ) (old mid new : Standing) (fault : LaneFault) → IsReadFault fault → KeepsSame (settled old) mid.keeping → PutsDeltas mid.keeping new.keeping → mid.entries ≡ old.entries → (new.entries ≡ old.entries) × (new.messages ≡ old.messages)
-    → new.owed ≡ false → old.keeping.faults ≤ mid.keeping.faults → IsCausedBy mid.keeping.faults new.keeping.faults fault → Tells mid.keeping.content (λ content. RefusesRestart number mid.entries content fault) → Restarts {A = A} number old new (Err fault)
-restarts_bad {A = A} number old mid new fault read kept puts entries same level later cause loads = record {
+    → new.owed ≡ false → old.keeping.faults ≤ mid.keeping.faults → IsCausedBy mid.keeping.faults new.keeping.faults fault → Tells mid.keeping.content (λ content. RefusesRestart number mid.entries content fault)
+    → PutsFew mid.entries.entered mid.keeping new.keeping → IsAtDeltas mid.entries.entered fault → Restarts {A = A} number old new (Err fault)
+restarts_bad {A = A} number old mid new fault read kept puts entries same level later cause loads lacked at = record {
   stays = same;
   settled_by = settles fault;
   cause = caused_earlier old.keeping.faults mid.keeping.faults new.keeping.faults fault later cause;
   kept = by fault read;
   loads = tells_along _ _ (λ content. RefusesRestart number old.entries content fault) kept.content (subst (λ e. Tells mid.keeping.content (λ content. RefusesRestart number e content fault)) entries loads);
+  early = tt;
+  lacked = omega (arith, lacked, kept.deltas, deltas_stay old, ap (λ e. e.entered) entries);
+  at_deltas = subst (λ e. IsAtDeltas e.entered fault) entries at;
 }
   where
     put : PutsDeltas (settled old) new.keeping
@@ -399,8 +430,9 @@ restarts_bad {A = A} number old mid new fault read kept puts entries same level 
 
 pub restarts_on : (number : ℕ) (old mid new : Standing) → KeepsSame (settled old) mid.keeping → PutsDeltas mid.keeping new.keeping → mid.entries ≡ old.entries → mid.keeping.reads ≡ old.keeping.reads → mid.keeping.records ≡ old.entries.entered
     → (new.entries.entered ≡ old.entries.entered) × (keys new.entries.state.sequencer.rows ≡ keys old.entries.state.sequencer.rows) → new.owed ≡ false → Tells mid.keeping.content (λ content. loaded content (Some number) ≡ Ok new.entries)
-    → Tells mid.keeping.content (ReadsBehind (Some number) mid.keeping.records mid.keeping.reads new.keeping.reads) → Restarts {A = Unit {0}} number old new (Ok tt)
-restarts_on number old mid new kept puts entries reads records stays level loads counts = record {
+    → Tells mid.keeping.content (ReadsBehind (Some number) mid.keeping.records mid.keeping.reads new.keeping.reads) → PutsFirst new.messages.before mid.keeping new.keeping → PutsFew mid.entries.entered mid.keeping new.keeping
+    → Restarts {A = Unit {0}} number old new (Ok tt)
+restarts_on number old mid new kept puts entries reads records stays level loads counts early lacked = record {
   stays = stays;
   settled_by = level;
   cause = tt;
@@ -409,4 +441,7 @@ restarts_on number old mid new kept puts entries reads records stays level loads
       (tells_both mid.keeping.content (λ content. loaded content (Some number) ≡ Ok new.entries) (ReadsBehind (Some number) mid.keeping.records mid.keeping.reads new.keeping.reads) (IsRestarted number old new)
       (λ c is read. record { loads = is; reads = subst (λ n. ReadsBehind (Some number) n old.keeping.reads new.keeping.reads c) records (subst (λ n. ReadsBehind (Some number) mid.keeping.records n new.keeping.reads c) reads read) })
       loads counts);
+  early = omega (arith, early, kept.deltas, deltas_stay old);
+  lacked = omega (arith, lacked, kept.deltas, deltas_stay old, ap (λ e. e.entered) entries);
+  at_deltas = tt;
 }

@@ -1,21 +1,26 @@
 -- What a lane says of the ledger for which it stands.
-use Rattle.std.proofs.Common.{◌≡◌, ℕ, ◌+◌, true, false, Bool, List, [], ◌∷◌, map, Option, Some, None, refl, sym, ap, ◌∙◌}
-use Rattle.std.specs.Prelude.{IsSome, nat_lt, if◌then◌else◌}
+use Rattle.std.proofs.Common.{◌≡◌, ℕ, ◌+◌, ◌≤◌, true, false, Bool, not, ◌&&◌, List, [], ◌∷◌, length, map, Option, Some, None, refl, sym, ap, ◌∙◌, arith}
+use Rattle.std.specs.Prelude.{IsSome, nat_lt, nat_le, if◌then◌else◌}
 use Rattle.std.specs.List.{list_any}
 use Rattle.std.specs.Ordering.{eq_by_cmp}
 use Rattle.std.specs.Option.{option_map, option_map_or}
-use Rattle.std.specs.FinMap.{get, keys, contains_key-keys}
+use Rattle.std.specs.FinMap.{get, keys, len, contains_key-keys}
 use Rattle.std.proofs.lemmas.Bool.{false≢true, or_left, or_right}
 use Rattle.std.proofs.lemmas.Option.{none-some, same_Some}
 use Rattle.std.proofs.lemmas.Slice.Eq.{bytes_eq-Decides}
 use Rattle.fluid_types.specs.declared.entries.Raw.{Raw}
-use Rattle.fluid_types.specs.declared.entries.Raw.TheVariants.{Leave}
+use Rattle.fluid_types.specs.declared.entries.Raw.TheVariants.{Join, Leave}
+use Rattle.fluid_types.specs.Names.{entry_name}
+use Rattle.fluid_json.specs.Tree.{Tree}
 use Rattle.fluid_types.specs.declared.entries.Scopes.{Scopes}
 use Rattle.fluid_types.specs.declared.verdicts.Verdict.{Verdict}
 use Rattle.fluid_types.specs.Ledger.{Ledger}
 use Rattle.fluid_rules.specs.Past as past
 use Rattle.fluid_rules.specs.Past.{Client}
-use Rattle.fluid_rules.specs.Rules.{heard, client}
+use Rattle.fluid_rules.specs.Rules.{heard, client, is_joined, joined}
+use Rattle.fluid_rules.specs.Counted as counting
+use Rattle.fluid_rules.specs.Counted.{is_counted, counted, has_too_many_clients}
+use Rattle.fluid_rules.proofs.Clients.{client-joined}
 use Rattle.fluid_clients.specs.declared.table.Row.{Row}
 use Rattle.fluid_clients.specs.Table.{byte_order}
 use Rattle.fluid_ticket.specs.State as ticket
@@ -26,9 +31,13 @@ use Rattle.fluid_core.specs.Entering.{State, StandsFor, verdict_in, after, state
 use Rattle.fluid_core.proofs.Entered.{verdict-stands, stands-sequencer, stands-acks}
 use Rattle.fluid_core.proofs.Jobs.{stands-job}
 use Rattle.fluid_deltas.proofs.Telling.{tells_from}
+use Rattle.fluid_document.specs.Entries.{most}
 use Rattle.fluid_document.proofs.Foldings.{state-entries_of, entered-entries_of, counted-entries_of}
+use Rattle.fluid_lane.specs.declared.fault.LaneFault.TheVariants.{Full, TooManyClients}
 use Rattle.fluid_lane.specs.Steps.{ledger}
-use Rattle.fluid_lane.specs.Standing.{IsTold}
+use Rattle.fluid_lane.specs.Standing.{Standing, IsTold}
+use Rattle.fluid_lane.specs.Refusals.{is_full_for, has_too_many}
+use Rattle.fluid_lane.proofs.Named.{own_absent}
 use Rattle.fluid_lane.specs.Starting.{run, leaves}
 use Rattle.fluid_lane.specs.Sweeps.{is_silent, first_by, first_silent}
 use Rattle.fluid_lane.specs.Laws.{first_silent_in, SaysOf, LaneSays, OpeningLeaves}
@@ -65,6 +74,35 @@ silent_in s l stands moment silence =
     (λ id there. silent_said l moment silence id (contains_key-keys (tickets.state_of l).rows id ∙ there))
     ∙ ap (first_by (λ id. nat_lt (heard l id + silence) moment)) (rows-joined (tickets.state_of l) l (record { is = refl })).ids
 
+-- ---- rules that refuse
+
+and_turned : (a b : Bool) → (a && b) ≡ (b && a)
+and_turned true true = refl
+and_turned true false = refl
+and_turned false true = refl
+and_turned false false = refl
+
+full_for : (s : Standing) (l : Ledger) (raw : Raw) → s.entries.counted ≡ counted l → is_full_for s raw ≡ (counting.is_full s.limits.entries l raw, Full s.limits.entries)
+full_for s l raw counts =
+    ap (λ b. (b, Full s.limits.entries)) (ap (λ n. nat_le s.limits.entries n && is_counted raw) counts ∙ and_turned (nat_le s.limits.entries (counted l)) (is_counted raw))
+
+-- who has no row isn't joined
+not_joined : (l : Ledger) (id : List ℕ) → get (tickets.state_of l).rows id ≡ None → is_joined l id ≡ false
+not_joined l id none = by (is_joined l id) refl
+  where
+    by : (b : Bool) → is_joined l id ≡ b → b ≡ false
+    by false is = refl
+    by true is =
+        let there = client-joined l id is in
+        absurd (none-some _ (sym none ∙ get-state_of l id ∙ ap (option_map rowed) there))
+
+too_many_for : (s : Standing) (l : Ledger) (scopes : Scopes) (detail : Tree) (moment : ℕ) → length l ≤ most → len s.entries.state.sequencer.rows ≡ length (joined l) → get s.entries.state.sequencer.rows (entry_name (length l)) ≡ None
+    → get s.entries.state.sequencer.rows (entry_name (length l)) ≡ get (tickets.state_of l).rows (entry_name (length l))
+    → has_too_many s ≡ (has_too_many_clients s.limits.clients l (Join (entry_name (length l)) scopes detail moment), TooManyClients)
+too_many_for s l scopes detail moment few count none same =
+    ap (λ b. (b, TooManyClients))
+    (ap (nat_le s.limits.clients) count ∙ ap (λ b. not b && nat_le s.limits.clients (length (joined l))) (sym (not_joined l (entry_name (length l)) (sym same ∙ none))))
+
 -- ---- the ledger
 
 pub lane_says : LaneSays
@@ -76,10 +114,12 @@ lane_says s l stands =
     let for : StandsFor s.entries.state (ledger l) = record { legal = is.kept.legal; is = state } in
     let ticket_stands = stands-sequencer s.entries.state (ledger l) for in
     let rows = rows-joined s.entries.state.sequencer (ledger l) ticket_stands in
+    let entered : s.entries.entered ≡ length (ledger l) = ap (λ e. e.entered) is.entries ∙ entered-entries_of (ledger l) in
+    let counts : s.entries.counted ≡ counted (ledger l) = ap (λ e. e.counted) is.entries ∙ counted-entries_of (ledger l) in
     record {
       legal = is.kept.legal;
-      entered = ap (λ e. e.entered) is.entries ∙ entered-entries_of (ledger l);
-      counted = ap (λ e. e.counted) is.entries ∙ counted-entries_of (ledger l);
+      entered = entered;
+      counted = counts;
       seq = number_of s.entries.state.sequencer (ledger l) ticket_stands;
       min = minimum_of s.entries.state.sequencer (ledger l) ticket_stands;
       clients = rows.ids;
@@ -88,6 +128,12 @@ lane_says s l stands =
       acks = stands-acks s.entries.state (ledger l) for;
       job = stands-job s.entries.state (ledger l) for;
       verdict = λ raw. verdict-stands s.entries.state raw (verdict_in s.entries.state raw) (ledger l) refl for;
+      full = λ raw. full_for s (ledger l) raw counts;
+      full_join = λ id scopes detail moment. ap (λ n. (nat_le s.limits.entries n, Full s.limits.entries)) counts;
+      too_many = λ named scopes detail moment.
+          too_many_for s (ledger l) scopes detail moment (omega (arith, is.kept.few)) rows.as_many
+          (ap (get s.entries.state.sequencer.rows) (ap entry_name (sym entered)) ∙ own_absent s.entries.entered s.entries.state.sequencer.rows (omega (arith, is.kept.few, entered)) named)
+          (ap (λ (t : ticket.State). get t.rows (entry_name (length (ledger l)))) ticket_stands.is);
     })
     stands.told
 

@@ -8,7 +8,7 @@ use Rattle.fluid_log.specs.Keeping.{Content, Keeping}
 use Rattle.fluid_log.specs.Calls.{KeepsSame, with_record, cut_to, with_checkpoint}
 use Rattle.fluid_deltas.specs.Flushes.{lacking, with_deltas}
 use Rattle.fluid_document.specs.Entries.{Entries, taken_up}
-use Rattle.fluid_document.specs.Kept.{checkpoint_text}
+use Rattle.fluid_document.specs.Kept.{checkpoint_text, IsPrinted}
 use Rattle.fluid_document.specs.Rooms.{for_room, roomed}
 use Rattle.fluid_document.specs.Entry.{PutsSome}
 use Rattle.fluid_lane.specs.declared.fault.LaneFault.{LaneFault}
@@ -131,6 +131,8 @@ pub record IsStored (old new : Standing) (number : ℕ) : Type 0 where
   pub next : number ≡ old.keeping.checkpoints
   pub short : length (checkpoint_text old.entries) ≤ old.limits.bytes
   pub there : Tells new.keeping.content (HasCheckpoint number (checkpoint_text old.entries))
+  -- it is the text of what the entries made, and read as that
+  pub printed : IsPrinted old.entries (checkpoint_text old.entries)
 
 -- a call that stores a checkpoint
 pub record Stores (old new : Standing) (result : Result ℕ LaneFault) : Type 0 where

@@ -4,21 +4,26 @@ use Rattle.std.specs.FinMap.{keys, len}
 use Rattle.fluid_io.specs.Causes.{Tells}
 use Rattle.fluid_types.specs.Ledger.{Ledger, order, seq}
 use Rattle.fluid_types.specs.declared.entries.Raw.{Raw}
-use Rattle.fluid_types.specs.declared.entries.Raw.TheVariants.{Leave}
+use Rattle.fluid_types.specs.declared.entries.Raw.TheVariants.{Join, Leave}
+use Rattle.fluid_types.specs.declared.entries.Scopes.{Scopes}
+use Rattle.fluid_types.specs.Names.{entry_name}
+use Rattle.fluid_json.specs.Tree.{Tree}
 use Rattle.fluid_types.specs.declared.verdicts.Verdict.{Verdict}
 use Rattle.fluid_rules.specs.Rules as rules
 use Rattle.fluid_rules.specs.Rules.{IsLegal, joined, heard}
 use Rattle.fluid_rules.specs.Scribe.{acks}
-use Rattle.fluid_rules.specs.Counted.{counted}
+use Rattle.fluid_rules.specs.Counted as counting
+use Rattle.fluid_rules.specs.Counted.{counted, has_too_many_clients}
 use Rattle.fluid_scribe.specs.Jobs.{job}
 use Rattle.fluid_ticket.specs.State as ticket
 use Rattle.fluid_core.specs.Entering.{verdict_in, job_of, state_of}
 use Rattle.fluid_lane.specs.declared.fault.LaneFault.{LaneFault}
+use Rattle.fluid_lane.specs.declared.fault.LaneFault.TheVariants.{Full, TooManyClients}
 use Rattle.fluid_lane.specs.declared.steps.Step.{Step}
 use Rattle.fluid_lane.specs.Steps.{ledger, steps}
-use Rattle.fluid_lane.specs.Standing.{Standing, LaneStands}
+use Rattle.fluid_lane.specs.Standing.{Standing, AreNamed, LaneStands}
 use Rattle.fluid_lane.specs.Starting.{run, leaves}
-use Rattle.fluid_lane.specs.Refusals.{first_refusal}
+use Rattle.fluid_lane.specs.Refusals.{first_refusal, is_full, is_full_for, has_too_many}
 use Rattle.fluid_lane.specs.Sweeps.{first_by, first_silent}
 
 -- ---- the ledger
@@ -40,6 +45,11 @@ pub record SaysOf (s : Standing) (l : Ledger) : Type 0 where
   pub acks : s.entries.state.scribe.acks ≡ acks (order l)
   pub job : job_of s.entries.state ≡ job (order l)
   pub verdict : (raw : Raw) → verdict_in s.entries.state raw ≡ rules.verdict l raw
+  -- the rules that refuse an entry, and a join under the id of its own number
+  pub full : (raw : Raw) → is_full_for s raw ≡ (counting.is_full s.limits.entries l raw, Full s.limits.entries)
+  pub full_join : (id : List ℕ) (scopes : Scopes) (detail : Tree) (moment : ℕ) → is_full s ≡ (counting.is_full s.limits.entries l (Join id scopes detail moment), Full s.limits.entries)
+  pub too_many : AreNamed s.entries.entered s.entries.state.sequencer.rows → (scopes : Scopes) (detail : Tree) (moment : ℕ)
+      → has_too_many s ≡ (has_too_many_clients s.limits.clients l (Join (entry_name (length l)) scopes detail moment), TooManyClients)
 
 -- over a keeper that tells its content
 abbrev pub LaneSays : Type 0

@@ -8,4 +8,4 @@ pub mod Sweeps
 pub mod Restarts
 pub mod Starting
 pub mod Laws
-mod Codes
+pub mod Codes

@@ -1,15 +1,17 @@
 -- What a restart makes of a lane, by its answer.
-use Rattle.std.specs.Prelude.{◌≡◌, ◌≢◌, ℕ, ⊤, false, ◌⊎◌, codes, Some, Result, Ok, Err, IfErr}
+use Rattle.std.specs.Prelude.{◌≡◌, ◌≢◌, ◌≤◌, ℕ, ⊤, false, ◌⊎◌, codes, Some, Result, Ok, Err, IfErr, OnOk}
 use Rattle.std.specs.FinMap.{keys}
 use Rattle.fluid_io.specs.Causes.{Tells}
 use Rattle.fluid_log.specs.Keeping.{Content}
 use Rattle.fluid_log.specs.Calls.{KeepsSame}
 use Rattle.fluid_checkpoint.specs.declared.fault.CheckpointFault.TheVariants.{BadField}
 use Rattle.fluid_document.specs.Entries.{Entries, InMemory}
+use Rattle.fluid_deltas.specs.declared.pages.TheConstants.{RESIDENT}
+use Rattle.fluid_document.specs.Puts.{PutsFirst, PutsFew}
 use Rattle.fluid_document.specs.Loading.{loaded, ReadsBehind, PutsDeltas}
 use Rattle.fluid_document.specs.declared.fault.LoadFault.TheVariants as loading
 use Rattle.fluid_lane.specs.declared.fault.LaneFault.{LaneFault}
-use Rattle.fluid_lane.specs.declared.fault.LaneFault.TheVariants.{LogFailed, BadRecord, NoCheckpoint, BadCheckpoint, Worn}
+use Rattle.fluid_lane.specs.declared.fault.LaneFault.TheVariants.{LogFailed, BadRecord, NoCheckpoint, DeltaFailed, BadCheckpoint, Worn}
 use Rattle.fluid_lane.specs.Faults.{IsCausedBy}
 use Rattle.fluid_lane.specs.Standing.{Standing}
 use Rattle.fluid_lane.specs.Refusals.{IsCutFailed}
@@ -50,6 +52,11 @@ abbrev pub StaysBy : {A : Type 0} → Standing → Standing → Result A LaneFau
 StaysBy old new (Ok done) = (new.entries.entered ≡ old.entries.entered) × (keys new.entries.state.sequencer.rows ≡ keys old.entries.state.sequencer.rows)
 StaysBy old new (Err fault) = (new.entries ≡ old.entries) × (new.messages ≡ old.messages)
 
+-- of so many entries deltas are put only where they are as many as messages may be in memory
+abbrev pub IsAtDeltas : ℕ → LaneFault → Type 0
+IsAtDeltas entered (DeltaFailed note) = RESIDENT ≤ entered
+IsAtDeltas entered other = ⊤
+
 -- a call that restarts
 pub record Restarts {A : Type 0} (number : ℕ) (old new : Standing) (result : Result A LaneFault) : Type 0 where
   pub stays : StaysBy old new result
@@ -57,6 +64,11 @@ pub record Restarts {A : Type 0} (number : ℕ) (old new : Standing) (result : R
   pub cause : IfErr result (IsCausedBy old.keeping.faults new.keeping.faults)
   pub kept : RestartKept old new result
   pub loads : Tells (settled old).content (RestartsBy number old new result)
+  -- the deltas that are put are those that the keeper lacked before the messages that are in memory then, and after a fault at most
+  -- those behind which so many entries stand
+  pub early : OnOk result (PutsFirst new.messages.before old.keeping new.keeping)
+  pub lacked : PutsFew old.entries.entered old.keeping new.keeping
+  pub at_deltas : IfErr result (IsAtDeltas old.entries.entered)
 
 -- nothing that was read is refused
 abbrev pub IsNotBad : LaneFault → Type 0

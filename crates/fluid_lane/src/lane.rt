@@ -1,6 +1,6 @@
 //! The lane of one document.
 ghost use Rattle.std.specs.Prelude.{◌≡◌, ℕ, ◌+◌, ◌-◌, ◌<◌, ◌≤◌, ◌++◌, ◌∷◌, [], ◌⊎◌, nat_le, true, false, length, ◌↔◌, Ok, Err, Some, None, List, IsTrue, IsSome, IfSome, IfOk, IfErr, OnOk, OnErr, MatchResult, option_copied};
-ghost use Rattle.std.specs.FinMap.{keys};
+ghost use Rattle.std.specs.FinMap.{get, keys};
 ghost use Rattle.fluid_io.specs.Causes.{Tells};
 ghost use Rattle.fluid_types.specs.Fits.{Fits};
 ghost use Rattle.fluid_types.specs.Ledger.{order};
@@ -8,6 +8,7 @@ ghost use Rattle.fluid_types.specs.Names.{entry_name, IsName};
 ghost use Rattle.fluid_types.specs.declared.messages.Message.{Message as AMessage};
 ghost use Rattle.fluid_rules.specs.Past.{is_sequenced};
 ghost use Rattle.fluid_ticket.specs.State.{minimum};
+ghost use Rattle.fluid_log.specs.Keeping.{IsSized};
 ghost use Rattle.fluid_log.specs.Calls.{KeepsSame, with_checkpoint};
 ghost use Rattle.fluid_core.specs.Entering.{verdict_in, job_of, IsUpTo};
 ghost use Rattle.fluid_deltas.specs.Pushed.{StandFor, slice};
@@ -16,13 +17,14 @@ ghost use Rattle.fluid_deltas.specs.Flushes.{PutsAll, AreAll};
 ghost use Rattle.fluid_document.specs.Entries.{most, taken_up};
 ghost use Rattle.fluid_document.specs.Kept.{IsKept, IsPrinted};
 ghost use Rattle.fluid_document.specs.Loading.{loaded, ReadsBehind, PutsDeltas};
+ghost use Rattle.fluid_document.specs.Puts.{PutsFirst, PutsFew};
 ghost use Rattle.fluid_lane.specs.declared.steps.Step.{Step as AStep};
 ghost use Rattle.fluid_lane.specs.Faults.{IsCausedBy, IsLogFailed, IsOutside, IsReadFault};
 ghost use Rattle.fluid_lane.specs.Steps.{ledger, steps_of, range_steps, entered_by, joined_by, stored_by, restarted_by, nothing_by, swept_by};
-ghost use Rattle.fluid_lane.specs.Standing.{LaneStands, IsSafe, IsLeftFor, Goes, IsOwn, IsLeaveOrSubmission, is_worn};
+ghost use Rattle.fluid_lane.specs.Standing.{LaneStands, AreNamed, IsSafe, IsLeftFor, Goes, IsOwn, IsLeaveOrSubmission, is_worn};
 ghost use Rattle.fluid_lane.specs.Refusals.{IsGated, IsCutFailed, is_full, is_full_for, has_too_many, has_checkpoints, has_no_checkpoint};
 ghost use Rattle.fluid_lane.specs.Calls.{Enters, AddKept, OwesBy, TakesUp, Stores, IsStoreFault, IsFlushFault, IsOutsideLog, FlushKept, IsBeside, HasCheckpoint, missing, settled};
-ghost use Rattle.fluid_lane.specs.Restarts.{Restarts, Reloads, IsNotBad};
+ghost use Rattle.fluid_lane.specs.Restarts.{Restarts, Reloads, IsAtDeltas, IsNotBad};
 ghost use Rattle.fluid_lane.specs.Ranges.{Ranges};
 ghost use Rattle.fluid_lane.specs.Sweeps.{first_silent, SweepsBy};
 
@@ -33,7 +35,8 @@ use crate::steps::Side;
 use fluid_clients::Clients;
 use fluid_deltas::DeltaFault;
 use fluid_document::{
-    Document, EnterFault, LoadFault, MOST, bad_field, enter, kept_is_loaded, load, note_of,
+    Document, EnterFault, FlushFault, LoadFault, MOST, bad_field, enter, kept_is_loaded, load,
+    note_of,
 };
 use fluid_io::FaultNote;
 use fluid_json::{Json, NoMemory};
@@ -110,6 +113,8 @@ impl<K: Keeper> Lane<K> {
     pub fn entered(&self) -> u64
         ensures is { result ≡ self.now.entries.entered }
         ensures few { result ≤ most }
+        ensures named { AreNamed self.now.entries.entered self.now.entries.state.sequencer.rows }
+        ensures own { get self.now.entries.state.sequencer.rows (entry_name self.now.entries.entered) ≡ None }
     {
         self.document.entered()
     }
@@ -144,6 +149,14 @@ impl<K: Keeper> Lane<K> {
         self.opened
     }
 
+    /// How many checkpoints are stored. Takes no memory.
+    pub fn checkpoints(&self) -> u64
+        ensures is { result ≡ self.now.keeping.checkpoints }
+        ensures sized { IsSized self.now.keeping }
+    {
+        self.keeper.checkpoints()
+    }
+
     /// The limits of the document. Takes no memory.
     pub fn limits(&self) -> Limits
         ensures { result ≡ self.now.limits }
@@ -170,6 +183,7 @@ impl<K: Keeper> Lane<K> {
         ensures same { self.new ≡ self.old }
         ensures job { IfOk result (λ given. given ≡ job_of self.old.entries.state) }
         ensures number { IfOk result (λ given. IfSome given (λ job. IsUpTo most job.summary)) }
+        ensures reference { IfOk result (λ given. IfSome given (λ job. job.reference ≤ job.summary)) }
     {
         self.document.job(alloc)
     }
@@ -180,6 +194,7 @@ impl<K: Keeper> Lane<K> {
         ensures keeper { K.seen result ≡ self.keeping }
         ensures kept { (l : List AStep) → LaneStands self l → Tells (K.seen result).content (IsKept self.owed (ledger l)) }
         ensures left { (l : List AStep) → LaneStands self l → Tells (K.seen result).content (IsLeftFor self.owed (ledger l)) }
+        ensures sized { IsSized self.keeping }
     {
         let Lane { keeper, .. } = self;
         keeper
@@ -510,11 +525,11 @@ impl<K: Keeper> Lane<K> {
     {
         match self.document.flush(alloc, &mut self.keeper) {
             Ok(()) => Ok(()),
-            Err(DeltaFault::DeltaFailed(note)) => {
+            Err(FlushFault::DeltaFailed(note)) => {
                 self.failed(note);
                 Err(LaneFault::DeltaFailed(note))
             }
-            Err(_) => Err(LaneFault::NoMemory),
+            Err(FlushFault::NoMemory) => Err(LaneFault::NoMemory),
         }
     }
 
@@ -561,6 +576,9 @@ impl<K: Keeper> Lane<K> {
         ensures level { self.new.owed ≡ false }
         ensures sides { OnOk result (self.new.sides ≡ self.old.sides) }
         ensures kept { PutsDeltas self.old.keeping self.new.keeping }
+        ensures early { IfOk result (λ d. PutsFirst d.messages.before self.old.keeping self.new.keeping) }
+        ensures lacked { PutsFew self.old.entries.entered self.old.keeping self.new.keeping }
+        ensures at_deltas { IfErr result (IsAtDeltas self.old.entries.entered) }
         ensures fails { IfErr result IsReadFault }
         ensures cause { IfErr result (IsCausedBy self.old.keeping.faults self.new.keeping.faults) }
         ensures clients { IfOk result (λ d. keys d.entries.state.sequencer.rows ≡ keys self.old.entries.state.sequencer.rows) }

@@ -26,11 +26,8 @@ fn heard_at(clients: &Clients, place: u64) -> u64
     requires { place < len clients.now.rows }
     ensures { (id : List ℕ) → slice_get (keys clients.now.rows) place ≡ Some id → option_map (λ row. row.heard) (get clients.now.rows id) ≡ Some result }
 {
-    match clients.id_at(place) {
-        Some(id) => match clients.row(id) {
-            Some(row) => row.heard,
-            None => unreachable!(),
-        },
+    match clients.row_at(place) {
+        Some(row) => row.heard,
         None => unreachable!(),
     }
 }

@@ -2,30 +2,36 @@
 use Rattle.std.proofs.Common.{◌≡◌, ◌⊎◌, inl, inr, ℕ, suc, ◌<◌, Bool, true, false, cond, List, [], ◌∷◌, length, get_or, map, Option, Some, None, option_and_then, Result, Ok, bytes_eq, if◌then◌else◌, refl, sym, ap, subst, ◌∙◌, arith}
 use Rattle.std.specs.List.{AllByRecursion}
 use Rattle.std.specs.Option.{unwrap_or, ok_or}
-use Rattle.std.specs.FinMap.{entries, get}
+use Rattle.std.specs.FinMap.{entries, get, get-empty}
 use Rattle.std.proofs.lemmas.Slice.Eq.{bytes_eq-Decides}
 use Rattle.std.proofs.lemmas.Bool.{false≢true}
-use Rattle.fluid_table.specs.Table.{Values}
+use Rattle.fluid_table.specs.Table.{Values, byte_order}
+use Rattle.fluid_table.proofs.Places.{get_inserted}
 use Rattle.fluid_tree.specs.Laws.{IsReadBack}
 use Rattle.fluid_tree.specs.Summary.{Summary, tree, handle, child, children, Children}
+use Rattle.fluid_types.specs.Names.{IsName}
 use Rattle.fluid_types.specs.declared.messages.Message.{Message}
 use Rattle.fluid_handles.specs.Resolved.{resolved, all_resolved, named, at_path, ◌>>=◌, AllWhole}
 use Rattle.fluid_handles.specs.Laws.{IsItself}
-use Rattle.fluid_edits.specs.Forms.{edit_of}
-use Rattle.fluid_edits.specs.Replay.{Channel, Channels}
-use Rattle.fluid_runtime.specs.App.{after_message, changed_by}
+use Rattle.fluid_readback.specs.Quorums.{IsReadAsItself}
+use Rattle.fluid_readback.proofs.Each.{Each, each-all}
+use Rattle.fluid_edits.specs.declared.edit.Edit.{Edit}
+use Rattle.fluid_edits.specs.Forms.{edit_of, address_of}
+use Rattle.fluid_edits.specs.Replay.{Channel, Channels, no_channels, told, put_if_any}
+use Rattle.fluid_runtime.specs.App.{after_any, after_message, changed_by}
 use Rattle.fluid_runtime.specs.AppTree.{channel_node, app_tree, node_since, tree_since}
 use Rattle.fluid_runtime.specs.Laws.{Pairs, IsNamed, IsListOf, tree_in_order, IsSince, StaysSince, StaysUnmarked, IsMarked, IsWholeUnmarked}
 use Rattle.fluid_runtime.proofs.Nodes.{found_there}
-use Rattle.fluid_store.specs.Held.{Held, Keeps}
-use Rattle.fluid_store.specs.Laws.{GoesOnStanding}
+use Rattle.fluid_store.specs.Held.{Held, Keeps, IsShort}
 use Rattle.fluid_store.specs.Standing.{Stands}
 use Rattle.fluid_store.specs.Uploading.{IsEarlier, StandsResolved}
-use Rattle.fluid_io.specs.Causes.{Tells}
 use Rattle.fluid_loader.specs.Container.{AContainer, taken_by, behind}
-use Rattle.fluid_loader.specs.Link.{Document, GrowsIfTold, IsUploaded}
-use Rattle.fluid_loader.specs.Laws.{IsShort, IsBasedOn, IsBased, IsWholeUpload, StayBased}
+use Rattle.fluid_loader.specs.Calls.{since}
+use Rattle.fluid_loader.specs.Laws.{AreNamed, IsBasedOn, IsBased, IsWholeUpload, StayBased}
 use Rattle.fluid_loader.proofs.Fetched.{app_fetched}
+use Rattle.fluid_loader.proofs.Grown.{fetched_kept}
+use Rattle.fluid_loader.proofs.ReadVersion.{version_based}
+use Rattle.fluid_loader.proofs.Storable.{message_kept, name_of_edit}
 
 -- ---- an earlier tree in whatever order
 
@@ -80,54 +86,69 @@ stands_so new base node wanted id is put =
     let same : put.0 ≡ wanted = cc in
     subst (Stands new id) same put.1.1
 
-whole_upload_by : IsReadBack → IsItself → IsWholeUnmarked → (base : Option (List ℕ)) (channels : Channels) (changed : Values Bool) (old new : Held) (id : List ℕ) → IsShort old
+whole_upload_by : IsItself → IsWholeUnmarked → (base : Option (List ℕ)) (channels : Channels) (changed : Values Bool) (old new : Held) (id : List ℕ)
     → IsBasedOn old base channels changed → ((earlier : Option Summary) → IsEarlier old base earlier → StandsResolved new earlier (tree_since changed channels) id) → Stands new id (app_tree channels)
-whole_upload_by back itself unmarked None channels changed old new id short based put =
+whole_upload_by itself unmarked None channels changed old new id based put =
     stands_so new None (tree_since changed channels) (app_tree channels) id
     (ap (resolved None) (unmarked channels changed based) ∙ itself None (app_tree channels) (all_whole (entries channels))) (put None tt)
-whole_upload_by back itself unmarked (Some base) channels changed old new id short based put =
-    let read = app_fetched back old short based.earlier based.named base based.stands in
-    stands_so new (Some (tree_in_order read.pairs)) (tree_since changed channels) (app_tree channels) id (whole_tree_so based.earlier read.pairs read.are channels changed based.since)
-    (put (Some (tree_in_order read.pairs)) read.reads)
+whole_upload_by itself unmarked (Some base) channels changed old new id based put =
+    stands_so new (Some (tree_in_order based.pairs)) (tree_since changed channels) (app_tree channels) id (whole_tree_so based.earlier based.pairs based.are channels changed based.since)
+    (put (Some (tree_in_order based.pairs)) based.reads)
 
-pub whole_upload : IsReadBack → IsItself → IsWholeUnmarked → IsWholeUpload
-whole_upload back itself unmarked c old new id short based put = whole_upload_by back itself unmarked c.base c.channels c.changed old new id short based put
+pub whole_upload : IsItself → IsWholeUnmarked → IsWholeUpload
+whole_upload itself unmarked c old new id based put = whole_upload_by itself unmarked c.base c.channels c.changed old new id based.on put
 
 -- ---- it stays based
 
-taken_based : StaysSince → StaysUnmarked → (held : Held) (base : Option (List ℕ)) (channels : Channels) (changed : Values Bool) (m : Message) → IsBasedOn held base channels changed
+taken_on : StaysSince → StaysUnmarked → (held : Held) (base : Option (List ℕ)) (channels : Channels) (changed : Values Bool) (m : Message) → IsBasedOn held base channels changed
     → IsBasedOn held base (after_message channels m) (changed_by channels changed (edit_of m))
-taken_based stays unmarked held None channels changed m based = unmarked channels changed m based
-taken_based stays unmarked held (Some base) channels changed m based =
-    record { earlier = based.earlier; named = based.named; size = based.size; stands = based.stands; since = stays based.earlier channels changed m based.since }
+taken_on stays unmarked held None channels changed m based = unmarked channels changed m based
+taken_on stays unmarked held (Some base) channels changed m based =
+    record { earlier = based.earlier; pairs = based.pairs; are = based.are; reads = based.reads; since = stays based.earlier channels changed m based.since }
 
-pub behind_based : StaysSince → StaysUnmarked → (held : Held) (client : List ℕ) (c : AContainer) (ms : List Message) → IsBased held c → IsBased held (behind client c ms)
-behind_based stays unmarked held client c [] based = based
-behind_based stays unmarked held client c (m ∷ ms) based =
-    behind_based stays unmarked held client (taken_by client c m) ms (taken_based stays unmarked held c.base c.channels c.changed m based)
+-- the address of an edit that a message spells is a name
+put_named : (channels : Channels) (at : List ℕ) (said : Option Channel) → IsName at → AreNamed channels → AreNamed (put_if_any channels at said)
+put_named channels at None name named = named
+put_named channels at (Some one) name named = λ other channel is. by_key other channel (bytes_eq other at) refl (sym (get_inserted channels at one other) ∙ is)
+  where
+    by_key : (other : List ℕ) (channel : Channel) (b : Bool) → bytes_eq other at ≡ b → cond b (Some one) (get channels other) ≡ Some channel → IsName other
+    by_key other channel true own k = subst IsName (sym ((bytes_eq-Decides other at).0 own)) name
+    by_key other channel false differs k = named other channel k
 
-grown_based : GoesOnStanding → (old new : Held) (base : Option (List ℕ)) (channels : Channels) (changed : Values Bool) → Keeps old new → IsBasedOn old base channels changed → IsBasedOn new base channels changed
-grown_based law old new None channels changed keeps based = based
-grown_based law old new (Some base) channels changed keeps based =
-    record { earlier = based.earlier; named = based.named; size = based.size; stands = law old new base (app_tree based.earlier) keeps based.stands; since = based.since }
+taken_named : (channels : Channels) (m : Message) → IsReadAsItself m → AreNamed channels → AreNamed (after_message channels m)
+taken_named channels m back named = by_edit (edit_of m) refl
+  where
+    by_edit : (o : Option Edit) → edit_of m ≡ o → AreNamed (after_any channels o)
+    by_edit None is = named
+    by_edit (Some e) is = put_named channels (address_of e) (told e (get channels (address_of e))) (name_of_edit e (message_kept m e back is)) named
 
-pub stay_based : StaysSince → StaysUnmarked → IsMarked → GoesOnStanding → StayBased
-stay_based stays unmarked marked law = record {
-  begins = λ held. refl;
-  behind_messages = behind_based stays unmarked;
-  store_grows = λ old new c keeps based. grown_based law old new c.base c.channels c.changed keeps based;
-  uploaded = λ held c id named size stands. record { earlier = c.channels; named = named; size = size; stands = stands; since = marked c.channels };
+pub behind_based : StaysSince → StaysUnmarked → (held : Held) (client : List ℕ) (c : AContainer) (ms : List Message) → Each IsReadAsItself ms → IsBased held c → IsBased held (behind client c ms)
+behind_based stays unmarked held client c [] back based = based
+behind_based stays unmarked held client c (m ∷ ms) back based =
+    behind_based stays unmarked held client (taken_by client c m) ms back.1
+    (record { named = taken_named c.channels m back.0 based.named; on = taken_on stays unmarked held c.base c.channels c.changed m based.on })
+
+grown_on : (old new : Held) (base : Option (List ℕ)) (channels : Channels) (changed : Values Bool) → Keeps old new → IsBasedOn old base channels changed → IsBasedOn new base channels changed
+grown_on old new None channels changed keeps based = based
+grown_on old new (Some base) channels changed keeps based =
+    record { earlier = based.earlier; pairs = based.pairs; are = based.are; reads = fetched_kept old new keeps 32 base (tree_in_order based.pairs) based.reads; since = based.since }
+
+pub grown_based : (old new : Held) (c : AContainer) → Keeps old new → IsBased old c → IsBased new c
+grown_based old new c keeps based = record { named = based.named; on = grown_on old new c.base c.channels c.changed keeps based.on }
+
+uploaded_based : IsReadBack → IsMarked → (held : Held) (c : AContainer) (id : List ℕ) → IsShort held → AreNamed c.channels → Stands held id (app_tree c.channels) → IsBased held (since c id)
+uploaded_based back marked held c id short named stands =
+    let read = app_fetched back held short c.channels named id stands in
+    record { named = named; on = record { earlier = c.channels; pairs = read.pairs; are = read.are; reads = read.reads; since = marked c.channels } }
+
+pub none_named : AreNamed no_channels
+none_named at channel is = let none : None ≡ Some channel = sym (get-empty byte_order at) ∙ is in cc
+
+pub stay_based : IsReadBack → StaysSince → StaysUnmarked → IsMarked → StayBased
+stay_based back stays unmarked marked = record {
+  begins = λ held. record { named = none_named; on = refl };
+  loads = version_based marked;
+  behind_messages = λ held client c messages back_all based. behind_based stays unmarked held client c messages (each-all IsReadAsItself messages back_all) based;
+  store_grows = grown_based;
+  uploaded = uploaded_based back marked;
 }
-
--- ---- a summarize
-
--- the tree that was put stands behind the submission as well
-pub summarized_stands : IsWholeUpload → GoesOnStanding → (c : AContainer) (id : List ℕ) (before mid after : Option Document) → IsUploaded (tree_since c.changed c.channels) c.base id before mid
-    → GrowsIfTold mid after → (document : Document) → before ≡ Some document → IsShort document.held → IsBased document.held c → Tells after (λ now. Stands now.held id (app_tree c.channels))
-summarized_stands whole goes c id None mid after up grows document is short based = cc
-summarized_stands whole goes c id (Some b) None after up grows document is short based = absurd up
-summarized_stands whole goes c id (Some b) (Some m) None up grows document is short based = absurd grows
-summarized_stands whole goes c id (Some b) (Some m) (Some a) up grows document is short based =
-    let same : document ≡ b = cc in
-    goes m.held a.held id (app_tree c.channels) grows.held
-    (whole c b.held m.held id (subst (λ (d : Document). IsShort d.held) same short) (subst (λ (d : Document). IsBased d.held c) same based) up)

@@ -1,19 +1,14 @@
 -- What messages make of a container, and what calls on a link leave, one after the other.
-use Rattle.std.proofs.Common.{◌≡◌, ◌⊎◌, inl, inr, ℕ, suc, ◌+◌, ◌<◌, ◌≤◌, ◌^◌, List, [], ◌∷◌, ◌++◌, Option, Some, None, Result, Ok, Err, refl, sym, ap, subst, ◌∙◌, arith, append_assoc, append-nil}
-use Rattle.std.specs.Result.{OnOk, OnErr, IsErrAnd}
+use Rattle.std.proofs.Common.{◌≡◌, ◌⊎◌, inl, inr, ℕ, suc, ◌+◌, ◌<◌, ◌≤◌, ◌^◌, List, [], ◌∷◌, ◌++◌, Some, None, Result, Ok, Err, refl, sym, ap, subst, ◌∙◌, arith, append_assoc, append-nil}
+use Rattle.std.specs.Result.{OnOk, OnErr}
 use Rattle.std.proofs.lemmas.List.Sums.{fold-append}
-use Rattle.fluid_io.specs.Causes.{Rose}
+use Rattle.fluid_types.specs.Order.{AreNumberedFrom}
 use Rattle.fluid_types.specs.Quorum.{Quorum, quorum_of}
 use Rattle.fluid_types.specs.declared.messages.Message.{Message}
-use Rattle.fluid_types.specs.declared.entries.Submission.{Submission}
 use Rattle.fluid_quorum.specs.After.{after}
-use Rattle.fluid_store.specs.Held.{Held, Keeps}
-use Rattle.fluid_loader.specs.Calls.{ProposeLeaves, UploadsTree, IsBehindFront, ProposeSays, SummarizeDoes, SummarizeLeaves, SummarizeStops, since}
+use Rattle.fluid_loader.specs.Calls.{IsBehindFront}
 use Rattle.fluid_loader.specs.Container.{AContainer, IsKept, taken_by, behind}
-use Rattle.fluid_loader.specs.Link.{AreFrom, Linked, Document, GrowsIfTold, Changes}
 use Rattle.fluid_loader.specs.declared.following.Following.{Following}
-use Rattle.fluid_loader.specs.declared.fault.LoadFault.{LoadFault}
-use Rattle.fluid_loader.specs.declared.fault.LoadFault.TheVariants.{LinkFailed, NoSummary, BadSummary, Edit, Refused, NoMemory, Clash}
 
 -- ---- the quorum
 
@@ -50,17 +45,17 @@ front_more client old now next messages ahead rest m left is f = (
   ),
 )
 
-pub next_ones : (client : List ℕ) (now next : AContainer) (ahead rest : List Message) (m : Message) → ahead ≡ m ∷ rest → next ≡ taken_by client now m → AreFrom (now.number + 1) ahead
-    → AreFrom (next.number + 1) rest
+pub next_ones : (client : List ℕ) (now next : AContainer) (ahead rest : List Message) (m : Message) → ahead ≡ m ∷ rest → next ≡ taken_by client now m → AreNumberedFrom (now.number + 1) ahead
+    → AreNumberedFrom (next.number + 1) rest
 next_ones client now next ahead rest m left is h =
-    let both = subst (AreFrom (now.number + 1)) left h in
+    let both = subst (AreNumberedFrom (now.number + 1)) left h in
     let number : next.number ≡ m.number = ap (λ c. c.number) is in
     let same : suc (now.number + 1) ≡ next.number + 1 = omega (arith, number, both.0) in
-    subst (λ n. AreFrom n rest) same both.1
+    subst (λ n. AreNumberedFrom n rest) same both.1
 
-pub next_number : (client : List ℕ) (now next : AContainer) (ahead rest : List Message) (m : Message) → ahead ≡ m ∷ rest → next ≡ taken_by client now m → AreFrom (now.number + 1) ahead
+pub next_number : (client : List ℕ) (now next : AContainer) (ahead rest : List Message) (m : Message) → ahead ≡ m ∷ rest → next ≡ taken_by client now m → AreNumberedFrom (now.number + 1) ahead
     → next.number ≡ now.number + 1
-next_number client now next ahead rest m left is h = ap (λ c. c.number) is ∙ (subst (AreFrom (now.number + 1)) left h).0
+next_number client now next ahead rest m left is h = ap (λ c. c.number) is ∙ (subst (AreNumberedFrom (now.number + 1)) left h).0
 
 of_front : (client : List ℕ) (old now : AContainer) (messages ahead : List Message) → Front client old now messages ahead → IsBehindFront client old now messages
 of_front client old now messages ahead f = record { front = f.0; ahead = ahead; splits = f.1.0; taken = f.1.1 }
@@ -78,60 +73,3 @@ stops_in_front r client old now next messages ahead rest m left (inr is) f =
 
 pub none_ahead : (client : List ℕ) (old now : AContainer) (messages ahead : List Message) → ahead ≡ [] → Front client old now messages ahead → now ≡ behind client old messages
 none_ahead client old now messages ahead none f = f.1.1 ∙ ap (behind client old) (sym (f.1.0 ∙ ap (λ l. f.0 ++ l) none ∙ append-nil f.0))
-
--- ---- one call after another
-
-keeps_then : (a b c : Held) → Keeps a b → Keeps b c → Keeps a c
-keeps_then a b c h k id bytes is = k id bytes (h id bytes is)
-
-grows_then : (a b c : Option Document) → GrowsIfTold a b → GrowsIfTold b c → GrowsIfTold a c
-grows_then None None None h k = tt
-grows_then None None (Some c) h k = absurd k
-grows_then None (Some b) c h k = absurd h
-grows_then (Some a) None c h k = absurd h
-grows_then (Some a) (Some b) None h k = absurd k
-grows_then (Some a) (Some b) (Some c) h k = record {
-  order = (h.order.0 ++ k.order.0, k.order.1 ∙ ap (λ l. l ++ k.order.0) h.order.1 ∙ append_assoc a.order h.order.0 k.order.0);
-  held = keeps_then a.held b.held c.held h.held k.held;
-}
-
-pub changes_then : (a b c : Linked) → Changes a b → Changes b c → Changes a c
-changes_then a b c h k = record {
-  client = k.client ∙ h.client;
-  told = grows_then a.told b.told c.told h.told k.told;
-  faults = omega (arith, h.faults, k.faults);
-  refusals = omega (arith, h.refusals, k.refusals);
-  messages = k.messages ∙ h.messages;
-  objects = k.objects ∙ h.objects;
-}
-
-rose_since : (a b c : ℕ) → a ≤ b → Rose b c → Rose a c
-rose_since a b c le h = omega (arith, le, h)
-
-leaves : (old mid new : AContainer) (id : List ℕ) (before between : Linked) (fault : LoadFault) → mid ≡ since old id → UploadsTree old before between (Ok id)
-    → ProposeLeaves {A = Unit {0}} mid new (Err fault) → SummarizeLeaves old new before fault
-leaves old mid new id before between fault is put left = inr (record {
-  id = id;
-  between = between;
-  uploaded = put;
-  leaves = subst (λ c. ProposeLeaves {A = Unit {0}} c new (Err fault)) is left;
-})
-
-stops_by : (submission : Submission) (a b c : Linked) (fault : LoadFault) → Changes a b → ProposeSays {A = Unit {0}} submission b c (Err fault) → Changes a c × SummarizeStops a c fault
-stops_by submission a b c (LinkFailed note) first h =
-    (changes_then a b c first h.changes, record { before = omega (arith, first.faults, h.says.before); after = h.says.after; rose = h.says.rose })
-stops_by submission a b c NoSummary first h = absurd h.says
-stops_by submission a b c (BadSummary path) first h = absurd h.says
-stops_by submission a b c (Edit fault) first h = absurd h.says
-stops_by submission a b c (Refused nack) first h = (changes_then a b c first h.changes, rose_since a.refusals b.refusals c.refusals first.refusals h.says.1)
-stops_by submission a b c NoMemory first h = (changes_then a b c first h.0, tt)
-stops_by submission a b c (Clash id kept bytes) first h = absurd h.says
-
-handed : (old new : AContainer) (before after : Linked) (r : Result (List ℕ) LoadFault) (fault : LoadFault) → IsErrAnd r (λ e. e ≡ fault) → SummarizeDoes old new before after (Err fault)
-    → SummarizeDoes old new before after r
-handed old new before after (Ok id) fault h s = absurd h
-handed old new before after (Err e) fault h s = subst (λ f. SummarizeDoes old new before after (Err f)) (sym h) s
-
-pub propose_stops : (old mid new : AContainer) (id : List ℕ) (submission : Submission) (a b c : Linked) (r : Result (List ℕ) LoadFault) (fault : LoadFault) → IsErrAnd r (λ e. e ≡ fault)
-    → mid ≡ since old id → UploadsTree old a b (Ok id) → ProposeLeaves {A = Unit {0}} mid new (Err fault) → Changes a b → ProposeSays {A = Unit {0}} submission b c (Err fault) → SummarizeDoes old new a c r
-propose_stops old mid new id submission a b c r fault handed_on is put left first h = handed old new a c r fault handed_on (leaves old mid new id a b fault is put left, stops_by submission a b c fault first h)

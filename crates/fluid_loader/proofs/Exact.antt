@@ -33,12 +33,12 @@ use Rattle.fluid_edits.specs.Replay.{Channel, a_map, Channels, kind_of}
 use Rattle.fluid_runtime.specs.AppTree.{app_tree, channel_node, content_of, answer}
 use Rattle.fluid_runtime.specs.Laws.{AreStorable, IsListOf}
 use Rattle.fluid_runtime.proofs.AnyOrder.{read_back_so}
-use Rattle.fluid_store.specs.Held.{Held}
+use Rattle.fluid_store.specs.Held.{Held, IsShort}
 use Rattle.fluid_store.specs.Standing.{Stands, AllStand, object_at}
 use Rattle.fluid_store.proofs.Reread.{AreFit, Has, standing_fit, has_in_order, apart_in_order}
 use Rattle.fluid_store.proofs.Sized.{Each}
 use Rattle.fluid_store.proofs.Whole.{each_in_order, body_read}
-use Rattle.fluid_loader.specs.Laws.{IsShort, AreNamed}
+use Rattle.fluid_loader.specs.Laws.{AreNamed}
 use Rattle.fluid_loader.specs.Version.{node_within}
 use Rattle.fluid_loader.proofs.Blobs.{same_word, answer_by, IsBlobOf, nodes_of as blob_nodes, entries_of as blob_entries, protocol_is, blob_names}
 use Rattle.fluid_loader.proofs.Fetched.{blob_size, tree_size, pairs_in, in_each, in_apart, in_named, each_found, each_named}

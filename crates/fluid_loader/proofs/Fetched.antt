@@ -17,14 +17,14 @@ use Rattle.fluid_runtime.specs.Laws.{Pairs, AreApart, IsNamed, IsListOf, tree_in
 use Rattle.fluid_runtime.proofs.Nodes.{found_there}
 use Rattle.fluid_readback.proofs.Each.{each-all}
 use Rattle.fluid_store.specs.Fetching.{◌>>=◌, found_as, read_as, found, is_of_kind, child_by, nodes_by, node_within, fetched}
-use Rattle.fluid_store.specs.Held.{Held}
+use Rattle.fluid_store.specs.Held.{Held, IsShort}
 use Rattle.fluid_store.specs.Standing.{Stands, AllStand}
 use Rattle.fluid_store.specs.declared.fault.StoreFault.{StoreFault}
 use Rattle.fluid_store.specs.declared.fault.StoreFault.TheVariants.{BadObject}
 use Rattle.fluid_store.proofs.Reread.{AreFit, Has, standing_fit, has_in_order, apart_in_order}
 use Rattle.fluid_store.proofs.Sized.{Each, body_size}
 use Rattle.fluid_store.proofs.Whole.{IsApart, AreApart as AreApartEntries, each_in_order, body_read}
-use Rattle.fluid_loader.specs.Laws.{IsShort, AreNamed}
+use Rattle.fluid_loader.specs.Laws.{AreNamed}
 use Rattle.fluid_loader.proofs.Honest.{two_in_order, keys_are, content_name, kind_name, pair, two_names, IsEntryOf, nodes_of, entries_of, has_name, names_utf8}
 
 pub blob_size : (content : List ℕ) → length content ≤ length (object_bytes (Blob content))
@@ -35,12 +35,12 @@ pub tree_size : (es : List ObjectEntry) → length (flat_map entry_bytes (in_ord
 unfolding tree_bytes
 tree_size es = body_size (codes "tree") (flat_map entry_bytes (in_order es))
 
-of_blob : (held : Held) (levels : ℕ) (content : List ℕ) → node_within held levels (Blob content) ≡ Ok (blob content)
+pub of_blob : (held : Held) (levels : ℕ) (content : List ℕ) → node_within held levels (Blob content) ≡ Ok (blob content)
 unfolding node_within
 of_blob held zero content = refl
 of_blob held (suc n) content = refl
 
-of_tree : (held : Held) (n : ℕ) (es : List ObjectEntry) → node_within held (suc n) (Tree es) ≡ (nodes_by (child_by held (node_within held n)) es >>= λ nodes. Ok (tree nodes))
+pub of_tree : (held : Held) (n : ℕ) (es : List ObjectEntry) → node_within held (suc n) (Tree es) ≡ (nodes_by (child_by held (node_within held n)) es >>= λ nodes. Ok (tree nodes))
 unfolding node_within
 of_tree held n es = refl
 

@@ -1,5 +1,5 @@
 -- A container behind messages, and one that began with an honest summary.
-use Rattle.std.proofs.Common.{◌≡◌, ℕ, suc, bytes_eq, ◌+◌, ◌^◌, ◌≤◌, ◌==◌, Bool, true, false, cond, ◌&&◌, List, [], ◌∷◌, ◌++◌, length, take, drop, Option, Some, None, Result, Ok, Err, codes, refl, sym, ap, subst, ◌∙◌, arith, append_assoc, append-nil}
+use Rattle.std.proofs.Common.{◌≡◌, ℕ, suc, ◌+◌, ◌^◌, ◌≤◌, ◌==◌, Bool, true, false, cond, ◌&&◌, List, [], ◌∷◌, ◌++◌, length, take, drop, Option, Some, None, Result, Ok, Err, codes, refl, sym, ap, subst, ◌∙◌, arith, append_assoc, append-nil}
 use Rattle.std.specs.Prelude.{All}
 use Rattle.std.specs.List.{filter_map, cons_option}
 use Rattle.std.specs.FinMap.{get}
@@ -21,8 +21,6 @@ use Rattle.fluid_types.specs.Forms.{largest}
 use Rattle.fluid_types.specs.Ledger.{Ledger}
 use Rattle.fluid_types.specs.Order.{AreNumberedFrom, AreFirst}
 use Rattle.fluid_types.specs.Quorum.{Quorum, quorum_of}
-use Rattle.fluid_types.specs.declared.fault.BlobFault.{BlobFault}
-use Rattle.fluid_types.specs.declared.fault.BlobFault.TheVariants.{BadBlob, NoMemory as NoBlobMemory}
 use Rattle.fluid_types.specs.declared.messages.Message.{Message}
 use Rattle.fluid_map.specs.Laws as map_laws
 use Rattle.fluid_counter.specs.Laws as counter_laws
@@ -41,18 +39,22 @@ use Rattle.fluid_runtime.specs.App.{after_any, left, is_op}
 use Rattle.fluid_runtime.specs.AppTree as app
 use Rattle.fluid_runtime.specs.AppTree.{app_tree}
 use Rattle.fluid_runtime.specs.Laws.{StaysSince, StaysUnmarked, IsMarked}
-use Rattle.fluid_store.specs.Held.{Held}
-use Rattle.fluid_store.specs.Standing.{Stands, AllStand, object_at}
+use Rattle.fluid_store.specs.Held.{Held, IsShort}
+use Rattle.fluid_store.specs.Standing.{AllStand, object_at}
 use Rattle.fluid_store.proofs.Reread.{AllUtf8, standing_fit, reread_tree}
-use Rattle.fluid_loader.specs.Calls.{begun_of, or_bad, begun_picked}
+use Rattle.fluid_loader.specs.Calls.{begun_of, or_bad, begun_picked, begun_in}
 use Rattle.fluid_loader.specs.Container.{AContainer, empty, begun, is_from, taken_by, behind}
-use Rattle.fluid_loader.specs.Laws.{IsOrder, AreNamed, IsBased, replayed, IsHonest, HasReplayed, IsWholeReplay}
-use Rattle.fluid_loader.specs.Link.{Document, picked}
+use Rattle.fluid_loader.specs.Laws.{replayed, IsHonest, IsHonestPick, HasReplayed, Follows, IsWholeReplay}
+use Rattle.fluid_loader.specs.Link.{Document, IsOrder, picked}
 use Rattle.fluid_loader.specs.Version.{AVersion, ◌>>=◌, node_within, nodes_within, blob_under, under, of_number, channels_answer, quorum_answer, version_answer, entries_of, entries_at, id_named, version_at}
+use Rattle.fluid_loader.specs.declared.link.Pick.{Pick}
 use Rattle.fluid_loader.specs.declared.link.Pick.TheVariants.{Empty, Latest, Handle}
-use Rattle.fluid_loader.proofs.Based.{behind_based}
+use Rattle.fluid_loader.proofs.Based.{behind_based, none_named}
+use Rattle.fluid_loader.proofs.Orders.{front_numbered, each_drop}
+use Rattle.fluid_loader.proofs.Picking.{picked_within}
+use Rattle.fluid_loader.proofs.ReadVersion.{bind_ok, blob_ok, version_based}
 use Rattle.fluid_loader.proofs.Exact.{tree_at, app_exact, protocol_exact}
-use Rattle.fluid_loader.specs.Laws.{IsShort, AreTexts as LawTexts, IsHonestRead}
+use Rattle.fluid_loader.specs.Laws.{AreTexts as LawTexts, IsHonestRead}
 use Rattle.fluid_loader.proofs.Blobs.{protocol_read}
 use Rattle.fluid_loader.proofs.Honest.{plain_utf8, two_in_order, keys_are, app_read}
 use Rattle.fluid_loader.proofs.Storable.{AreKept, none_kept, replay_kept}
@@ -80,10 +82,6 @@ behind_pending client c [] none = none
 behind_pending client c (m ∷ ms) none =
     behind_pending client (taken_by client c m) ms (ap (left (is_from client m.client) m) none ∙ nothing_left (is_from client m.client) (is_op m))
 
-front_numbered : (n : ℕ) (xs ys : List Message) → AreNumberedFrom n (xs ++ ys) → AreNumberedFrom n xs
-front_numbered n [] ys h = tt
-front_numbered n (x ∷ xs) ys h = (h.0, front_numbered (suc n) xs ys h.1)
-
 pub behind_quorum : GoesOn → (client : List ℕ) (c : AContainer) (before ms : List Message) → AreFirst (before ++ ms) → c.quorum ≡ quorum_of before → (behind client c ms).quorum ≡ quorum_of (before ++ ms)
 behind_quorum law client c before [] first is = is ∙ ap quorum_of (sym (append-nil before))
 behind_quorum law client c before (m ∷ ms) first is =
@@ -110,19 +108,10 @@ numbers_fit k (m ∷ ms) le numbered back =
 
 -- ---- an honest summary
 
-bind_ok : {A B : Type 0} (r : Result A (List ℕ)) (f : A → Result B (List ℕ)) (b : B) → (r >>= f) ≡ Ok b → (a : A) × ((r ≡ Ok a) × (f a ≡ Ok b))
-bind_ok (Ok a) f b h = (a, (refl, h))
-bind_ok (Err e) f b h = cc
-
 tree_of : (o : Option Object) (es : List ObjectEntry) → entries_of o ≡ Ok es → o ≡ Some (Tree es)
 tree_of None es h = cc
 tree_of (Some (Blob content)) es h = cc
 tree_of (Some (Tree entries)) es h = let is : entries ≡ es = cc in ap (λ l. Some (Tree l)) is
-
-blob_ok : {A : Type 0} (name : List ℕ) (r : Result A BlobFault) (a : A) → blob_under name r ≡ Ok a → r ≡ Ok a
-blob_ok name (Ok b) a h = let same : b ≡ a = cc in ap Ok same
-blob_ok name (Err (BadBlob path)) a h = cc
-blob_ok name (Err NoBlobMemory) a h = cc
 
 quorum_ok : (b : Bool) (r : Result Quorum (List ℕ)) (fault : List ℕ) (q : Quorum) → cond b r (Err fault) ≡ Ok q → r ≡ Ok q
 quorum_ok true r fault q h = h
@@ -199,25 +188,10 @@ module _ (back : IsReadBack) (maps : map_laws.IsReadBack) (counters : counter_la
           protocol_read back held (quorum_of first_ones) only (quorums first_ones numbered read_back) f v.1 rest.1.0 rest.1.1.1.0 parts.1,
         )
 
-    -- the id of the first entry is that of the channels' tree
-    base_by : (es got : List ObjectEntry) → AllStand held es (pair (app_tree (replayed order s.number)) (protocol (blobs_of (quorum_of first_ones)))) → got ≡ in_order es
-        → Stands held (id_named s.handle app_name got) (app_tree (replayed order s.number)) × (length (id_named s.handle app_name got) ≡ 20)
-    base_by [] got stand sorted = absurd stand
-    base_by (e ∷ []) got stand sorted = absurd stand.1.1.1.1
-    base_by (e ∷ f ∷ g ∷ gs) got stand sorted = absurd stand.1.1.1.1.1.1.1.1
-    base_by (e ∷ f ∷ []) got stand sorted =
-        let rest = stand.1.1.1.1 in
-        let as_they_are : in_order (e ∷ f ∷ []) ≡ e ∷ f ∷ [] = two_in_order e f (keys_are e f app_name protocol_name true true stand.0 stand.1.0 rest.0 rest.1.0) in
-        let own : id_named s.handle app_name got ≡ e.id =
-        ap (id_named s.handle app_name) (sorted ∙ as_they_are) ∙ ap (λ n. cond (bytes_eq n app_name) e.id (id_named s.handle app_name (f ∷ []))) stand.0 in
-        (subst (λ i. Stands held i (app_tree (replayed order s.number))) (sym own) stand.1.1.1.0, ap length own ∙ stand.1.1.0)
-
-    -- what is read of it, and where its channels' tree stands
+    -- what is read of it
     record IsRight (v : AVersion) : Type 0 where
       channels : v.channels ≡ replayed order s.number
       quorum : v.quorum ≡ quorum_of first_ones
-      stands : Stands held v.base (app_tree (replayed order s.number))
-      size : length v.base ≡ 20
 
     honest_version : (v : AVersion) → IsHonest held order s → version_at held s ≡ Ok v → IsRight v
     honest_version v stands h =
@@ -230,26 +204,11 @@ module _ (back : IsReadBack) (maps : map_laws.IsReadBack) (counters : counter_la
         let sorted : one.0 ≡ in_order es = cc in
         let read = by_entries es one.0 two.0 stands.1.1.1 sorted two.1.0 in
         let made : record { channels = two.0.0; quorum = two.0.1; base = id_named s.handle app_name one.0 } ≡ v = let k = two.1.1 in cc in
-        let base = base_by es one.0 stands.1.1.1 sorted in
-        record {
-          channels = ap (λ (w : AVersion). w.channels) (sym made) ∙ read.0;
-          quorum = ap (λ (w : AVersion). w.quorum) (sym made) ∙ read.1;
-          stands = subst (λ (w : AVersion). Stands held w.base (app_tree (replayed order s.number))) made base.0;
-          size = ap (λ (w : AVersion). length w.base) (sym made) ∙ base.1;
-        }
+        record { channels = ap (λ (w : AVersion). w.channels) (sym made) ∙ read.0; quorum = ap (λ (w : AVersion). w.quorum) (sym made) ∙ read.1 }
 
-    begun_based : (v : AVersion) → IsRight v → IsBased held (begun v.channels v.quorum s.number v.base)
-    begun_based v right = record {
-      earlier = v.channels;
-      named = subst AreNamed (sym right.channels) (λ at channel is. (kept at channel is).0);
-      size = right.size;
-      stands = subst (λ c. Stands held v.base (app_tree c)) (sym right.channels) right.stands;
-      since = marked v.channels;
-    }
-
-    behind_honest : (client : List ℕ) (ledger : Option Ledger) (v : AVersion) → IsHonest held order s → version_at held s ≡ Ok v
-        → HasReplayed (record { order = order; held = held; ledger = ledger }) (behind client (begun v.channels v.quorum s.number v.base) (drop s.number order))
-    behind_honest client ledger v stands h =
+    behind_honest : (client : List ℕ) (ledger : Option Ledger) (limit : ℕ) (v : AVersion) → IsHonest held order s → version_at held s ≡ Ok v
+        → HasReplayed (record { order = order; held = held; ledger = ledger; limit = limit }) (behind client (begun v.channels v.quorum s.number v.base) (drop s.number order))
+    behind_honest client ledger limit v stands h =
         let right = honest_version v stands h in
         let first = begun v.channels v.quorum s.number v.base in
         let later = drop s.number order in
@@ -259,7 +218,7 @@ module _ (back : IsReadBack) (maps : map_laws.IsReadBack) (counters : counter_la
               behind_channels client first later ∙ ap (λ c. replay c later) right.channels ∙ sym (replayed_on_law no_channels first_ones later) ∙ ap (replay no_channels) all;
           quorum = behind_quorum law client first first_ones later (subst AreFirst (sym all) is_order.numbered) right.quorum ∙ ap quorum_of all;
           pending = behind_pending client first later refl;
-          based = behind_based stays unmarked held client first later (begun_based v right);
+          based = behind_based stays unmarked held client first later (each_drop IsReadAsItself s.number order (each-all IsReadAsItself order is_order.read_back)) (version_based marked held s v h);
         }
 
     -- the version is read, where nothing that is held is too long
@@ -304,7 +263,7 @@ module _ (back : IsReadBack) (maps : map_laws.IsReadBack) (counters : counter_la
     channels = behind_channels client empty document.order;
     quorum = behind_quorum law client empty [] document.order is_order.numbered refl;
     pending = behind_pending client empty document.order refl;
-    based = behind_based stays unmarked document.held client empty document.order refl;
+    based = behind_based stays unmarked document.held client empty document.order (each-all IsReadAsItself document.order is_order.read_back) (record { named = none_named; on = refl });
   }
 
   by_picked : (client : List ℕ) (document : Document) (o : Option SummaryRef) (first : AContainer) → IsOrder document.order
@@ -317,7 +276,7 @@ module _ (back : IsReadBack) (maps : map_laws.IsReadBack) (counters : counter_la
       by_version (Err path) is k = cc
       by_version (Ok v) is k =
           let made : begun v.channels v.quorum s.number v.base ≡ first = cc in
-          subst (λ c. HasReplayed document (behind client c (drop c.number document.order))) made (behind_honest document.order is_order document.held s client document.ledger v (honest s refl) is)
+          subst (λ c. HasReplayed document (behind client c (drop c.number document.order))) made (behind_honest document.order is_order document.held s client document.ledger document.limit v (honest s refl) is)
 
   pub whole_replay : IsWholeReplay
   whole_replay client document Empty first is_order honest h =
@@ -327,4 +286,24 @@ module _ (back : IsReadBack) (maps : map_laws.IsReadBack) (counters : counter_la
   whole_replay client document (Handle id) first is_order honest h = by_picked client document (picked (Handle id) document.order) first is_order honest h
 
   pub honest_read : IsHonestRead
-  honest_read document s is_order within short texts stands = version_read document.order is_order document.held s short within texts stands
+  honest_read document s is within texts stands = version_read document.order is.in_order document.held s is.short within texts stands
+
+  -- one that begins with an honest summary is behind the first messages
+  follows_picked : (document : Document) (o : Option SummaryRef) (first : AContainer) → IsOrder document.order → ((s : SummaryRef) → o ≡ Some s → s.number ≤ length document.order)
+      → ((s : SummaryRef) → o ≡ Some s → IsHonest document.held document.order s) → begun_picked document.held o ≡ Ok first → Follows document.order first
+  follows_picked document None first is_order within honest h = cc
+  follows_picked document (Some s) first is_order within honest h = by_version (version_at document.held s) refl h
+    where
+      by_version : (r : Result AVersion (List ℕ)) → version_at document.held s ≡ r → or_bad (begun_of s.number r) ≡ Ok first → Follows document.order first
+      by_version (Err path) is k = cc
+      by_version (Ok v) is k =
+          let made : begun v.channels v.quorum s.number v.base ≡ first = cc in
+          let right = honest_version document.order is_order document.held s v (honest s refl) is in
+          subst (Follows document.order) made (record { within = within s refl; channels = right.channels; quorum = right.quorum })
+
+  pub follows_honest : (document : Document) (pick : Pick) (first : AContainer) → IsOrder document.order → IsHonestPick pick document → begun_in pick document ≡ Ok first → Follows document.order first
+  follows_honest document Empty first is_order honest h = let made : empty ≡ first = cc in subst (Follows document.order) made (record { within = omega arith; channels = refl; quorum = refl })
+  follows_honest document Latest first is_order honest h =
+      follows_picked document (picked Latest document.order) first is_order (λ s is. picked_within Latest document.order s is_order is) honest h
+  follows_honest document (Handle id) first is_order honest h =
+      follows_picked document (picked (Handle id) document.order) first is_order (λ s is. picked_within (Handle id) document.order s is_order is) honest h

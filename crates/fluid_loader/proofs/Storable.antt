@@ -188,7 +188,7 @@ of_op_some kind.Leave o a is = cc
 of_op_some kind.SummaryAck o a is = cc
 of_op_some kind.SummaryNack o a is = cc
 
-message_kept : (m : Message) (e : Edit) → IsReadAsItself m → edit_of m ≡ Some e → IsKeptEdit e
+pub message_kept : (m : Message) (e : Edit) → IsReadAsItself m → edit_of m ≡ Some e → IsKeptEdit e
 message_kept m e back is =
     edit_kept (body m.contents) e (body_within m.contents (within_more 99 100 m.contents (omega arith) (contents_within m back)))
     (of_op_some m.kind (edit_in (body m.contents)) e is)
@@ -252,7 +252,7 @@ told_kept n (Increment address amount) None kept h = tt
 told_kept n (Increment address amount) (Some (a_map values)) kept h = tt
 told_kept n (Increment address amount) (Some (a_counter total)) kept h = added_kept n total amount (is_in_range amount) refl h
 
-name_of_edit : (e : Edit) → IsKeptEdit e → IsName (address_of e)
+pub name_of_edit : (e : Edit) → IsKeptEdit e → IsName (address_of e)
 name_of_edit (Attach address k) kept = kept
 name_of_edit (Set address key value) kept = kept.0
 name_of_edit (Delete address key) kept = kept

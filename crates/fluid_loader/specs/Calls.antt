@@ -6,6 +6,7 @@ use Rattle.fluid_io.specs.declared.faults.FaultNote.{FaultNote}
 use Rattle.fluid_json.specs.Tree.{null}
 use Rattle.fluid_types.specs.declared.entries.Offered.TheVariants.{Op, Noop, Summarize}
 use Rattle.fluid_types.specs.declared.entries.Submission.{Submission}
+use Rattle.fluid_types.specs.Order.{AreNumberedFrom}
 use Rattle.fluid_types.specs.declared.messages.Message.{Message}
 use Rattle.fluid_edits.specs.declared.edit.Edit.{Edit}
 use Rattle.fluid_edits.specs.Forms.{contents_of}
@@ -16,7 +17,10 @@ use Rattle.fluid_runtime.specs.Refused as refused
 use Rattle.fluid_store.specs.Held.{Held}
 use Rattle.fluid_loader.specs.Version.{AVersion, IsOfVersion, version_at}
 use Rattle.fluid_loader.specs.Container.{AContainer, empty, begun, behind}
-use Rattle.fluid_loader.specs.Link.{Document, Linked, Reads, AreFrom, Changes, IsUploaded, count_handles, picked}
+use Rattle.fluid_loader.specs.Link as link
+use Rattle.fluid_loader.specs.Link.{Document, Linked, Reads, picked}
+use Rattle.fluid_loader.specs.declared.link.Given.{Given}
+use Rattle.fluid_loader.specs.declared.link.Given.TheVariants.{Taken, Nacked}
 use Rattle.fluid_loader.specs.Submitting.{numbered, summarize_tree}
 use Rattle.fluid_tree.specs.Summary.{Summary}
 use Rattle.fluid_tree.specs.declared.id.SummaryRef.{SummaryRef}
@@ -37,7 +41,7 @@ pub record IsNoted (old new : Linked) (note : FaultNote) : Type 0 where
 
 -- the messages behind the container's number, of a told link all of them
 pub record Fetched (number : ℕ) (old new : Linked) (messages : List Message) : Type 0 where
-  pub numbered : AreFrom (number + 1) messages
+  pub numbered : AreNumberedFrom (number + 1) messages
   pub told : Tells old.told (λ document. drop number document.order ≡ messages)
   pub fetched : new ≡ record old { faults = new.faults; messages = old.messages ++ map (λ m. m.number) messages }
 
@@ -74,23 +78,25 @@ pub record PumpReads (old new : Linked) : Type 0 where
 
 -- ---- submissions
 
--- what became of a submission, by the answer: where it was taken it stands behind those taken before, and a refusal is counted
-abbrev pub SubmissionSays : {A : Type 0} → Submission → Linked → Linked → Result A LoadFault → Type 0
-SubmissionSays submission old new (Ok done) = new.taken ≡ old.taken ++ submission ∷ []
-SubmissionSays submission old new (Err (LinkFailed note)) = IsNoted old new note
-SubmissionSays submission old new (Err NoSummary) = ⊥
-SubmissionSays submission old new (Err (BadSummary path)) = ⊥
-SubmissionSays submission old new (Err (EditRefused fault)) = ⊥
-SubmissionSays submission old new (Err (Refused nack)) = (new.taken ≡ old.taken) × Rose old.refusals new.refusals
-SubmissionSays submission old new (Err NoMemory) = ⊤
-SubmissionSays submission old new (Err (Clash id kept bytes)) = ⊥
+-- the fault of a call on a link that failed, with the counts of faults round it
+abbrev pub failure : ℕ → ℕ → LinkFault → LoadFault
+failure before after Failed = LinkFailed (record { before = before; after = after })
+failure before after (Clashes id kept bytes) = Clash id kept bytes
+failure before after NoLinkMemory = NoMemory
 
-pub record Submits {A : Type 0} (submission : Submission) (old new : Linked) (result : Result A LoadFault) : Type 0 where
-  pub changes : Changes old new
-  pub handles : new.handles ≡ old.handles
-  pub says : SubmissionSays submission old new result
+-- what a submission answers: done where it was taken, the nack where it was refused, or the link's fault
+abbrev pub or_refused : ℕ → ℕ → Result Given LinkFault → Result (Unit {0}) LoadFault
+or_refused before after (Ok Taken) = Ok tt
+or_refused before after (Ok (Nacked nack)) = Err (Refused nack)
+or_refused before after (Err fault) = Err (failure before after fault)
 
--- the op of an edit, with the next client number, at the container's number
+-- it was submitted over the link, and this is answered
+pub record Submits (submission : Submission) (old new : Linked) (result : Result (Unit {0}) LoadFault) : Type 0 where
+  pub given : Result Given LinkFault
+  pub submitted : link.Submits submission old new given
+  pub answer : result ≡ or_refused old.faults new.faults given
+
+-- a submission with the next client number, at the container's number: the op of an edit, a noop, and a summarize
 abbrev pub op_of : AContainer → Edit → Submission
 op_of c edit = numbered (c.last + 1) c.number Op (contents_of edit)
 
@@ -100,6 +106,22 @@ noop_of c = numbered (c.last + 1) c.number Noop null
 abbrev pub summarize_of : AContainer → List ℕ → Submission
 summarize_of c id = numbered (c.last + 1) c.number Summarize (summarize_tree id c.head c.number)
 
+-- one more submission
+abbrev pub counted : AContainer → AContainer
+counted c = record c { last = c.last + 1 }
+
+-- a client number counts as used where the submission wasn't refused
+abbrev pub counted_by : AContainer → Result (Unit {0}) LoadFault → AContainer
+counted_by c (Err (Refused nack)) = c
+counted_by c result = counted c
+
+-- nothing has changed
+pub record IsUndone (old new : AContainer) (before after : Linked) : Type 0 where
+  pub container : new ≡ old
+  pub link : after ≡ before
+
+-- ---- edits
+
 -- what the client shows
 abbrev pub shown_channels : AContainer → Channels
 shown_channels c = replay_edits c.channels c.pending
@@ -108,101 +130,82 @@ shown_channels c = replay_edits c.channels c.pending
 abbrev pub with_edit : AContainer → Edit → AContainer
 with_edit c edit = record c { pending = c.pending ++ edit ∷ []; last = c.last + 1 }
 
--- what an edit leaves, by the answer
-abbrev pub EditLeaves : AContainer → AContainer → Edit → Result (Unit {0}) LoadFault → Type 0
-EditLeaves old new edit (Ok done) = new ≡ with_edit old edit
-EditLeaves old new edit (Err (LinkFailed note)) = new ≡ with_edit old edit
-EditLeaves old new edit (Err NoMemory) = (new ≡ old) ⊎ (new ≡ with_edit old edit)
-EditLeaves old new edit (Err NoSummary) = new ≡ old
-EditLeaves old new edit (Err (BadSummary path)) = new ≡ old
-EditLeaves old new edit (Err (EditRefused fault)) = new ≡ old
-EditLeaves old new edit (Err (Refused nack)) = new ≡ old
-EditLeaves old new edit (Err (Clash id kept bytes)) = new ≡ old
+-- a refused one is taken back
+abbrev pub edited_by : AContainer → Edit → Result (Unit {0}) LoadFault → AContainer
+edited_by c edit (Err (Refused nack)) = c
+edited_by c edit result = with_edit c edit
 
--- an edit of the shown channels is refused, and then nothing was submitted; or its op was
-abbrev pub EditSays : AContainer → Edit → Linked → Linked → Result (Unit {0}) LoadFault → Type 0
-EditSays c edit old new (Err (EditRefused fault)) = (refused.answer (shown_channels c) edit ≡ Err fault) × (new ≡ old)
-EditSays c edit old new (Err NoMemory) = ⊤
-EditSays c edit old new result = (refused.answer (shown_channels c) edit ≡ Ok (contents_of edit)) × Submits (op_of c edit) old new result
+-- an edit that what is shown allows, whose op was submitted
+pub record Edits (old new : AContainer) (edit : Edit) (before after : Linked) (result : Result (Unit {0}) LoadFault) : Type 0 where
+  pub allowed : refused.answer (shown_channels old) edit ≡ Ok (contents_of edit)
+  pub submits : Submits (op_of old edit) before after result
+  pub leaves : new ≡ edited_by old edit result
+
+-- it is refused by what is shown, or finds no memory, and nothing has changed; or its op was submitted
+abbrev pub EditDoes : AContainer → AContainer → Edit → Linked → Linked → Result (Unit {0}) LoadFault → Type 0
+EditDoes old new edit before after (Err (EditRefused fault)) = (refused.answer (shown_channels old) edit ≡ Err fault) × IsUndone old new before after
+EditDoes old new edit before after (Err NoMemory) = IsUndone old new before after ⊎ Edits old new edit before after (Err NoMemory)
+EditDoes old new edit before after result = Edits old new edit before after result
 
 -- ---- summaries
-
--- the same of an upload that failed, or what it says where it was done
-abbrev pub UploadedSays : Summary → Option (List ℕ) → Linked → Linked → Result (List ℕ) LoadFault → Type 0
-UploadedSays node base old new (Ok id) = (new.handles ≡ old.handles ++ count_handles node ∷ []) × IsUploaded node base id old.told new.told
-UploadedSays node base old new (Err (LinkFailed note)) = IsNoted old new note
-UploadedSays node base old new (Err NoSummary) = ⊥
-UploadedSays node base old new (Err (BadSummary path)) = ⊥
-UploadedSays node base old new (Err (EditRefused fault)) = ⊥
-UploadedSays node base old new (Err (Refused nack)) = ⊥
-UploadedSays node base old new (Err NoMemory) = ⊤
-UploadedSays node base old new (Err (Clash id kept bytes)) = Rose old.refusals new.refusals
-
-pub record Uploaded (node : Summary) (base : Option (List ℕ)) (old new : Linked) (result : Result (List ℕ) LoadFault) : Type 0 where
-  pub changes : Changes old new
-  pub taken : new.taken ≡ old.taken
-  pub says : UploadedSays node base old new result
-
--- the tree that tells what has changed since the last one is put over that
-abbrev pub UploadsTree : AContainer → Linked → Linked → Result (List ℕ) LoadFault → Type 0
-UploadsTree c old new result = Uploaded (tree_since c.changed c.channels) c.base old new result
-
--- one more submission
-abbrev pub counted : AContainer → AContainer
-counted c = record c { last = c.last + 1 }
-
--- the contents of a submission may find no memory before it is submitted
-abbrev pub ProposeSays : {A : Type 0} → Submission → Linked → Linked → Result A LoadFault → Type 0
-ProposeSays submission old new (Err NoMemory) = Changes old new × (new.handles ≡ old.handles)
-ProposeSays submission old new result = Submits submission old new result
 
 -- from now on the tree with this id is the last one
 abbrev pub since : AContainer → List ℕ → AContainer
 since c id = record c { changed = all_are false c.channels; base = Some id }
 
--- a summarize, by its answer. At Ok its tree was put and its submission taken; else the tree was perhaps put, and where the link failed
--- the submission perhaps taken
+-- what an upload answers: the id, or the link's fault
+abbrev pub or_failed : ℕ → ℕ → Result (List ℕ) LinkFault → Result (List ℕ) LoadFault
+or_failed before after (Ok id) = Ok id
+or_failed before after (Err fault) = Err (failure before after fault)
+
+-- a tree was put over an earlier one, or wasn't, and this is answered
+pub record UploadsOver (node : Summary) (base : Option (List ℕ)) (old new : Linked) (result : Result (List ℕ) LoadFault) : Type 0 where
+  pub put : Result (List ℕ) LinkFault
+  pub uploads : link.Uploads node base old new put
+  pub answer : result ≡ or_failed old.faults new.faults put
+
+-- the tree that tells what has changed since the last one, over that
+abbrev pub UploadsTree : AContainer → Linked → Linked → Result (List ℕ) LoadFault → Type 0
+UploadsTree c old new result = UploadsOver (tree_since c.changed c.channels) c.base old new result
+
+-- it finds no memory, and nothing was put; or it was put
+abbrev pub UploadEnds : AContainer → Linked → Linked → Result (List ℕ) LoadFault → Type 0
+UploadEnds c old new (Err NoMemory) = (new ≡ old) ⊎ UploadsTree c old new (Err NoMemory)
+UploadEnds c old new result = UploadsTree c old new result
+
+-- a summarize that answers this id: its tree was put under it, and then its submission taken
 pub record Summarized (old new : AContainer) (before after : Linked) (id : List ℕ) : Type 0 where
   pub between : Linked
   pub uploaded : UploadsTree old before between (Ok id)
-  pub submitted : Submits (summarize_of old id) between after (Ok id)
+  pub submitted : Submits (summarize_of old id) between after (Ok tt)
   pub leaves : new ≡ counted (since old id)
 
--- what asking for a tree to be acknowledged leaves, by the answer: a client number counts as used but where it was refused, or where no
--- memory was found before
-abbrev pub ProposeLeaves : {A : Type 0} → AContainer → AContainer → Result A LoadFault → Type 0
-ProposeLeaves old new (Ok done) = new ≡ counted old
-ProposeLeaves old new (Err (LinkFailed note)) = new ≡ counted old
-ProposeLeaves old new (Err NoMemory) = (new ≡ old) ⊎ (new ≡ counted old)
-ProposeLeaves old new (Err NoSummary) = new ≡ old
-ProposeLeaves old new (Err (BadSummary path)) = new ≡ old
-ProposeLeaves old new (Err (EditRefused fault)) = new ≡ old
-ProposeLeaves old new (Err (Refused nack)) = new ≡ old
-ProposeLeaves old new (Err (Clash id kept bytes)) = new ≡ old
+-- its tree wasn't put, and counts as none
+pub record NotPut (old new : AContainer) (before after : Linked) (fault : LoadFault) : Type 0 where
+  pub failed : UploadsTree old before after (Err fault)
+  pub leaves : new ≡ old
 
--- its tree was put, and is the last one from now on, and then what asks for it failed
-pub record PutAlone (old new : AContainer) (before : Linked) (fault : LoadFault) : Type 0 where
+-- a submission was made
+pub record IsProposed (old new : AContainer) (submission : Submission) (before after : Linked) (result : Result (Unit {0}) LoadFault) : Type 0 where
+  pub submits : Submits submission before after result
+  pub leaves : new ≡ counted_by old result
+
+-- asking for a tree to be acknowledged finds no memory, and nothing has changed; or it is submitted
+abbrev pub Proposes : AContainer → AContainer → Submission → Linked → Linked → Result (Unit {0}) LoadFault → Type 0
+Proposes old new submission before after (Err NoMemory) = IsUndone old new before after ⊎ IsProposed old new submission before after (Err NoMemory)
+Proposes old new submission before after result = IsProposed old new submission before after result
+
+-- its tree was put, and then its submission wasn't taken, or found no memory before it was submitted
+pub record PutAlone (old new : AContainer) (before after : Linked) (fault : LoadFault) : Type 0 where
   pub id : List ℕ
   pub between : Linked
   pub uploaded : UploadsTree old before between (Ok id)
-  pub leaves : ProposeLeaves {A = Unit {0}} (since old id) new (Err fault)
-
--- what it leaves where it failed: nothing but what such a put leaves
-abbrev pub SummarizeLeaves : AContainer → AContainer → Linked → LoadFault → Type 0
-SummarizeLeaves old new before fault = (new ≡ old) ⊎ PutAlone old new before fault
-
-abbrev pub SummarizeStops : Linked → Linked → LoadFault → Type 0
-SummarizeStops old new (LinkFailed note) = IsNoted old new note
-SummarizeStops old new NoSummary = ⊥
-SummarizeStops old new (BadSummary path) = ⊥
-SummarizeStops old new (EditRefused fault) = ⊥
-SummarizeStops old new (Refused nack) = Rose old.refusals new.refusals
-SummarizeStops old new NoMemory = ⊤
-SummarizeStops old new (Clash id kept bytes) = Rose old.refusals new.refusals
+  pub ends : Proposes (since old id) new (summarize_of old id) between after (Err fault)
 
 abbrev pub SummarizeDoes : AContainer → AContainer → Linked → Linked → Result (List ℕ) LoadFault → Type 0
 SummarizeDoes old new before after (Ok id) = Summarized old new before after id
-SummarizeDoes old new before after (Err fault) = SummarizeLeaves old new before fault × (Changes before after × SummarizeStops before after fault)
+SummarizeDoes old new before after (Err fault) =
+    ((fault ≡ NoMemory) × IsUndone old new before after) ⊎ (NotPut old new before after fault ⊎ PutAlone old new before after fault)
 
 -- ---- loading
 
@@ -213,12 +216,6 @@ PickedSays pick old new (Err fault) = ReadStops old new fault
 pub record Picked (pick : Pick) (old new : Linked) (result : Result (Option SummaryRef) LoadFault) : Type 0 where
   pub reads : Reads old new
   pub says : PickedSays pick old new result
-
--- the fault of a call on a link that failed, with the counts of faults round it
-abbrev pub failure : ℕ → ℕ → LinkFault → LoadFault
-failure before after Failed = LinkFailed (record { before = before; after = after })
-failure before after (Clashes id kept bytes) = Clash id kept bytes
-failure before after NoLinkMemory = NoMemory
 
 -- the link is as it was but for its count of faults and the ids of the objects that were fetched
 pub record LoadReads (old new : Linked) : Type 0 where
@@ -298,7 +295,7 @@ pub record Loaded (pick : Pick) (old new : Linked) (c : AContainer) : Type 0 whe
   pub first : AContainer
   pub messages : List Message
   pub begins : Tells old.told (λ document. begun_in pick document ≡ Ok first)
-  pub numbered : AreFrom (first.number + 1) messages
+  pub numbered : AreNumberedFrom (first.number + 1) messages
   pub all : Tells old.told (λ document. drop first.number document.order ≡ messages)
   pub taken : c ≡ behind old.client first messages
   pub fetched : new.messages ≡ old.messages ++ map (λ m. m.number) messages

@@ -1,10 +1,9 @@
 -- What holds of containers: one that begins with an honest summary and takes in the messages behind it is one that has taken in all.
-use Rattle.std.specs.Prelude.{◌≡◌, ℕ, ◌^◌, ◌<◌, length, List, [], ◌∷◌, take, drop, Bool, All, Option, Some, None, Ok, codes, ◌≤◌, IsUtf8, ◌++◌}
+use Rattle.std.specs.Prelude.{◌≡◌, ℕ, ◌-◌, length, List, [], ◌∷◌, take, drop, Bool, All, Option, Some, None, Ok, codes, ◌≤◌, IsUtf8, ◌++◌}
 use Rattle.std.specs.FinMap.{get}
 use Rattle.fluid_table.specs.Table.{Values}
 use Rattle.fluid_types.specs.Names.{IsName}
 use Rattle.fluid_types.specs.Blobs.{blobs}
-use Rattle.fluid_types.specs.Order.{AreFirst}
 use Rattle.fluid_types.specs.Quorum.{Quorum, quorum, quorum_of}
 use Rattle.fluid_types.specs.declared.messages.Message.{Message}
 use Rattle.fluid_tree.specs.Summary.{Summary, tree, child, no_children}
@@ -12,25 +11,23 @@ use Rattle.fluid_tree.specs.declared.id.SummaryRef.{SummaryRef}
 use Rattle.fluid_readback.specs.Quorums.{IsReadAsItself}
 use Rattle.fluid_rules.specs.Scribe.{protocol, tree_entry}
 use Rattle.fluid_edits.specs.Replay.{Channel, a_map, Channels, no_channels, replay}
-use Rattle.fluid_runtime.specs.Laws.{IsSince, IsUnmarked}
+use Rattle.fluid_runtime.specs.Laws.{IsSince, IsUnmarked, Pairs, IsListOf, tree_in_order}
 use Rattle.fluid_runtime.specs.AppTree.{app_tree, tree_since}
 use Rattle.fluid_map.specs.Content.{content}
 use Rattle.fluid_map.specs.Replay as map
 use Rattle.fluid_quorum.specs.Node as node
 use Rattle.fluid_loader.specs.Version.{AVersion, version_at}
-use Rattle.fluid_store.specs.Held.{Held, Keeps}
+use Rattle.fluid_store.specs.Fetching.{fetched}
+use Rattle.fluid_store.specs.Held.{Held, Keeps, IsShort}
 use Rattle.fluid_store.specs.Standing.{Stands}
 use Rattle.fluid_store.specs.Uploading.{IsEarlier, StandsResolved}
 use Rattle.fluid_tree.specs.Object.{tree_bytes}
 use Rattle.fluid_loader.specs.Calls.{begun_in, since}
-use Rattle.fluid_loader.specs.Container.{AContainer, empty, behind}
-use Rattle.fluid_loader.specs.Link.{Document, picked}
+use Rattle.fluid_loader.specs.declared.fault.LoadFault.{LoadFault}
+use Rattle.fluid_loader.specs.declared.fault.LoadFault.TheVariants.{BadSummary}
+use Rattle.fluid_loader.specs.Container.{AContainer, empty, begun, behind}
+use Rattle.fluid_loader.specs.Link.{Document, IsOrder, IsDocument, Linked, BothTell, picked}
 use Rattle.fluid_loader.specs.declared.link.Pick.{Pick}
-
--- messages are numbered one by one from 1, and each is read back from its printed text as itself
-pub record IsOrder (order : List Message) : Type 0 where
-  pub numbered : AreFirst order
-  pub read_back : All IsReadAsItself order
 
 -- the channels behind the first messages of an order
 abbrev pub replayed : List Message → ℕ → Channels
@@ -49,31 +46,70 @@ IsHonest held order summary = Stands held summary.handle (version_tree (app_tree
 abbrev pub IsHonestPick : Pick → Document → Type 0
 IsHonestPick pick document = (summary : SummaryRef) → picked pick document.order ≡ Some summary → IsHonest document.held document.order summary
 
--- ---- summaries
-
--- no object that is held has 2^53 bytes or more; a longer one isn't read
-abbrev pub IsShort : Held → Type 0
-IsShort held = (id bytes : List ℕ) → get held id ≡ Some bytes → length bytes < 2 ^ 53
+-- ---- the tree since which it is told what has changed
 
 -- channels stand under names
 abbrev pub AreNamed : Channels → Type 0
 AreNamed channels = (at : List ℕ) (channel : Channel) → get channels at ≡ Some channel → IsName at
 
--- earlier channels, whose tree stands under the id, since which it is told what has changed
+-- earlier channels, whose tree is read under the id, with its nodes in whatever order, since which it is told what has changed
 pub record IsSinceTree (held : Held) (base : List ℕ) (channels : Channels) (changed : Values Bool) : Type 0 where
   pub earlier : Channels
-  pub named : AreNamed earlier
-  pub size : length base ≡ 20
-  pub stands : Stands held base (app_tree earlier)
+  pub pairs : Pairs
+  pub are : IsListOf earlier pairs
+  pub reads : fetched held 32 base ≡ Ok (tree_in_order pairs)
   pub since : IsSince earlier changed channels
 
 abbrev pub IsBasedOn : Held → Option (List ℕ) → Channels → Values Bool → Type 0
 IsBasedOn held None channels changed = IsUnmarked channels changed
 IsBasedOn held (Some base) channels changed = IsSinceTree held base channels changed
 
--- the tree since which a container tells what has changed stands under its id; without one all has changed
-abbrev pub IsBased : Held → AContainer → Type 0
-IsBased held c = IsBasedOn held c.base c.channels c.changed
+-- the channels stand under names, and the tree since which a container tells what has changed is held under its id; without one all
+-- has changed
+pub record IsBased (held : Held) (c : AContainer) : Type 0 where
+  pub named : AreNamed c.channels
+  pub on : IsBasedOn held c.base c.channels c.changed
+
+-- ---- a container of a document
+
+-- the messages of an order behind one number, up to another
+abbrev pub between : ℕ → ℕ → List Message → List Message
+between low high order = take (high - low) (drop low order)
+
+-- the same channels, quorum, number and head, whatever edits of its own are laid over
+pub record AreAbreast (c d : AContainer) : Type 0 where
+  pub channels : c.channels ≡ d.channels
+  pub quorum : c.quorum ≡ d.quorum
+  pub number : c.number ≡ d.number
+  pub head : c.head ≡ d.head
+
+-- a container of the document: the messages of the order up to its number have made it of what it began with, and the tree since which
+-- it tells what has changed is held
+pub record IsBehind (client : List ℕ) (first : AContainer) (document : Document) (c : AContainer) : Type 0 where
+  pub begins : first.number ≤ c.number
+  pub within : c.number ≤ length document.order
+  pub abreast : AreAbreast c (behind client first (between first.number c.number document.order))
+  pub based : IsBased document.held c
+
+-- whatever it began with, a container of the document before a call is one of the document behind it
+abbrev pub StaysBehind : AContainer → AContainer → Linked → Linked → Type 0
+StaysBehind old new before after =
+    (first : AContainer) → BothTell (λ d e. IsBehind before.client first d old → IsBehind before.client first e new) before.told after.told
+
+-- ---- a bad summary
+
+-- the contents of the maps and of the quorum's blobs are UTF-8, as what is written of them is
+pub record AreTexts (channels : Channels) (q : Quorum) : Type 0 where
+  pub maps : (at : List ℕ) (values : map.Values) → get channels at ≡ Some (a_map values) → IsUtf8 (content values)
+  pub blobs : node.AreTexts q
+
+-- an honest pick whose contents are UTF-8, as all are that are written
+pub record IsTextPick (pick : Pick) (document : Document) : Type 0 where
+  pub honest : IsHonestPick pick document
+  pub texts : (summary : SummaryRef) → picked pick document.order ≡ Some summary → AreTexts (replayed document.order summary.number) (quorum document.order summary.number)
+
+abbrev pub IsNoBadSummary : LoadFault → Type 0
+IsNoBadSummary fault = (path : List ℕ) → fault ≡ BadSummary path → ⊥
 
 -- ---- a whole replay
 
@@ -97,15 +133,14 @@ pub record Follows (order : List Message) (c : AContainer) : Type 0 where
 abbrev pub IsReplayBehind : Type 0
 IsReplayBehind = (client : List ℕ) (c : AContainer) (messages : List Message) → (behind client c messages).channels ≡ replay c.channels messages
 
--- the contents of the maps and of the quorum's blobs are UTF-8, as what is written of them is
-pub record AreTexts (channels : Channels) (q : Quorum) : Type 0 where
-  pub maps : (at : List ℕ) (values : map.Values) → get channels at ≡ Some (a_map values) → IsUtf8 (content values)
-  pub blobs : node.AreTexts q
+-- the number of an acknowledged summary is one of the order
+abbrev pub ArePickedWithin : Type 0
+ArePickedWithin = (pick : Pick) (order : List Message) (summary : SummaryRef) → IsOrder order → picked pick order ≡ Some summary → summary.number ≤ length order
 
--- an honest summary of a number of the order is read, where no object that is held is too long to be read
+-- an honest summary of a number of the order is read
 abbrev pub IsHonestRead : Type 0
 IsHonestRead =
-    (document : Document) (summary : SummaryRef) → IsOrder document.order → summary.number ≤ length document.order → IsShort document.held
+    (document : Document) (summary : SummaryRef) → IsDocument document → summary.number ≤ length document.order
     → AreTexts (replayed document.order summary.number) (quorum document.order summary.number) → IsHonest document.held document.order summary
     → (v : AVersion) × (version_at document.held summary ≡ Ok v)
 
@@ -116,19 +151,20 @@ IsWholeReplay =
     (client : List ℕ) (document : Document) (pick : Pick) (first : AContainer) → IsOrder document.order → IsHonestPick pick document → begun_in pick document ≡ Ok first
     → HasReplayed document (behind client first (drop first.number document.order))
 
--- what a container uploads is the tree of its channels: where its base stands, the tree that is put over it stands as the whole one
+-- what a container uploads is the tree of its channels: the tree that is put over its base stands as the whole one
 abbrev pub IsWholeUpload : Type 0
 IsWholeUpload =
-    (c : AContainer) (old new : Held) (id : List ℕ) → IsShort old → IsBased old c
+    (c : AContainer) (old new : Held) (id : List ℕ) → IsBased old c
     → ((earlier : Option Summary) → IsEarlier old c.base earlier → StandsResolved new earlier (tree_since c.changed c.channels) id) → Stands new id (app_tree c.channels)
 
--- a container that began with nothing has such a base, and keeps one behind messages and where the store grows; one that has uploaded
--- its tree has that as its base
+-- a container that begins with nothing, or with a version that is read, has such a base, and keeps one behind messages and where the
+-- store grows; one that has uploaded its tree has that as its base
 pub record StayBased : Type 0 where
   pub begins : (held : Held) → IsBased held empty
-  pub behind_messages : (held : Held) (client : List ℕ) (c : AContainer) (messages : List Message) → IsBased held c → IsBased held (behind client c messages)
+  pub loads : (held : Held) (summary : SummaryRef) (v : AVersion) → version_at held summary ≡ Ok v → IsBased held (begun v.channels v.quorum summary.number v.base)
+  pub behind_messages : (held : Held) (client : List ℕ) (c : AContainer) (messages : List Message) → All IsReadAsItself messages → IsBased held c → IsBased held (behind client c messages)
   pub store_grows : (old new : Held) (c : AContainer) → Keeps old new → IsBased old c → IsBased new c
-  pub uploaded : (held : Held) (c : AContainer) (id : List ℕ) → AreNamed c.channels → length id ≡ 20 → Stands held id (app_tree c.channels) → IsBased held (since c id)
+  pub uploaded : (held : Held) (c : AContainer) (id : List ℕ) → IsShort held → AreNamed c.channels → Stands held id (app_tree c.channels) → IsBased held (since c id)
 
 -- a version whose `.app` is the tree that was uploaded at a number of the order, and whose `.protocol` has the blobs there, is honest
 abbrev pub IsHonestVersion : Type 0
@@ -137,10 +173,11 @@ IsHonestVersion =
     → Stands held state (protocol (blobs order summary.number))
     → get held summary.handle ≡ Some (tree_bytes (tree_entry (codes ".app") app ∷ tree_entry (codes ".protocol") state ∷ [])) → IsHonest held order summary
 
--- a container follows an order from nothing on, still does where the order has become longer, and is behind all of it once it has taken
--- in the messages behind its number
+-- a container follows an order from nothing, or from an honest summary, and still does where the order has become longer and where more
+-- of its messages were taken in
 pub record GoOnFollowing : Type 0 where
   pub begins : (order : List Message) → Follows order empty
+  pub honest : (document : Document) (pick : Pick) (first : AContainer) → IsOrder document.order → IsHonestPick pick document → begun_in pick document ≡ Ok first → Follows document.order first
   pub longer : (order more : List Message) (c : AContainer) → Follows order c → Follows (order ++ more) c
-  pub pumps : (client : List ℕ) (order : List Message) (c : AContainer) → IsOrder order → Follows order c
-      → Follows order (behind client c (drop c.number order)) × ((behind client c (drop c.number order)).number ≡ length order)
+  pub goes_on : (client : List ℕ) (document : Document) (first c : AContainer) → IsOrder document.order → Follows document.order first → IsBehind client first document c
+      → Follows document.order c

@@ -1,18 +1,23 @@
 //! A document as one client has it.
-ghost use Rattle.std.specs.Prelude.{◌≡◌, ◌⊎◌, ◌<◌, ◌≤◌, ◌^◌, ◌+◌, ◌-◌, ℕ, List, Some, IfOk, IfErr, OnOk, OnErr, length, option_map};
+ghost use Rattle.std.specs.Prelude.{◌≡◌, ◌⊎◌, ◌<◌, ◌≤◌, ◌^◌, ◌+◌, ◌-◌, ℕ, List, Ok, IfOk, IfErr, OnOk, OnErr, length, option_map};
 ghost use Rattle.fluid_io.specs.Causes.{Tells};
 ghost use Rattle.fluid_rules.specs.Scribe.{handling, is_ack};
 ghost use Rattle.fluid_runtime.specs.AppTree.{app_tree};
 ghost use Rattle.fluid_runtime.specs.Shown.{shown};
 ghost use Rattle.fluid_store.specs.Standing.{Stands};
-ghost use Rattle.fluid_loader.specs.Container.{empty, acknowledged, is_from, taken_by, behind};
-ghost use Rattle.fluid_loader.specs.Calls.{FetchesIn, Answers, LoadsOnly, LoadDoes, LoadReads, begun_in, begun_picked, Fetched, ReadStops, PumpDoes, PumpReads, Submits, IsBehindFront, ProposeLeaves, ProposeSays, op_of, noop_of, summarize_of, shown_channels, EditLeaves, EditSays, Uploaded, UploadsTree, SummarizeDoes, Picked, Begins, since, failure};
-ghost use Rattle.fluid_loader.specs.Laws.{HasReplayed, IsBased, IsHonestPick, IsOrder, IsShort};
+ghost use Rattle.fluid_types.specs.Order.{AreNumberedFrom};
+ghost use Rattle.fluid_loader.specs.Container.{AContainer, empty, acknowledged, is_from, taken_by, behind};
+ghost use Rattle.fluid_loader.specs.Calls.{FetchesIn, Answers, LoadsOnly, LoadDoes, LoadReads, begun_in, begun_picked, Fetched, ReadStops, PumpDoes, PumpReads, Submits, IsBehindFront, Proposes, op_of, noop_of, summarize_of, shown_channels, counted, EditDoes, UploadsTree, UploadsOver, UploadEnds, SummarizeDoes, Picked, Begins, since, failure, or_refused, or_failed};
+ghost use Rattle.fluid_loader.specs.Laws.{HasReplayed, IsBased, IsBehind, IsHonestPick, IsNoBadSummary, IsTextPick, StaysBehind};
 ghost use Rattle.fluid_loader.specs.Version.{IsIn, IsOfVersion};
-ghost use Rattle.fluid_loader.specs.Link.{AreFrom, Document, Fits, picked};
+ghost use Rattle.fluid_loader.specs.Link as links;
+ghost use Rattle.fluid_loader.specs.Link.{Document, Fits, picked};
 
 use crate::following::Following;
-use crate::laws::{honest_summaries_are_replayed, uploads_are_whole};
+use crate::laws::{
+    containers_stay_based, honest_summaries_are_read, honest_summaries_are_replayed,
+    picked_numbers_are_within, uploads_are_whole,
+};
 use crate::submitting::{numbered, summarize};
 use crate::version::{Version, read_version};
 use crate::{Given, Link, LinkFault, LoadFault, Pick};
@@ -54,16 +59,22 @@ impl Model for Container {
 }
 
 impl Container {
-    /// The document from the picked summary and all messages behind it. Where the link tells an order whose messages are read back
-    /// from their texts, and the summary is honest, this is the replay of the whole order.
+    /// The document from the picked summary and all messages behind it. Where the link tells the document, and the summary is
+    /// honest, this is the replay of the whole order.
     pub fn load<L: Link>(alloc: Global, link: &mut L, pick: &Pick) -> Result<Container, LoadFault>
         ensures lent { L.lent link.new ≡ L.lent link.old }
         ensures reads { LoadsOnly (L.seen link.old) (L.seen link.new) }
         ensures does { LoadDoes pick.now (L.seen link.old) (L.seen link.new) result }
-        ensures replays { IfOk result (λ container. (document : Document) → (L.seen link.old).told ≡ Some document → IsOrder document.order →
-            IsHonestPick pick.now document → HasReplayed document container) }
+        ensures begins { IfOk result (λ container. Tells (L.seen link.old).told (λ document. (first : AContainer) → begun_in pick.now document ≡ Ok first →
+            IsBehind (L.seen link.old).client first document container × (container.number ≡ length document.order))) }
+        ensures replays { IfOk result (λ container. Tells (L.seen link.old).told (λ document. IsHonestPick pick.now document → HasReplayed document container)) }
+        ensures honest_is_loaded { IfErr result (λ fault. Tells (L.seen link.old).told (λ document. IsTextPick pick.now document → IsNoBadSummary fault)) }
     {
+        containers_stay_based();
+        honest_summaries_are_read();
         honest_summaries_are_replayed();
+        picked_numbers_are_within();
+        link.id();
         let mut container = begin(alloc, link, pick)?;
         container.pump(alloc, link)?;
         Ok(container)
@@ -92,6 +103,17 @@ impl Container {
         ensures lent { L.lent link.new ≡ L.lent link.old }
         ensures reads { PumpReads (L.seen link.old) (L.seen link.new) }
         ensures does { PumpDoes self.old self.new (L.seen link.old) (L.seen link.new) result }
+        ensures stays { StaysBehind self.old self.new (L.seen link.old) (L.seen link.new) }
+    {
+        containers_stay_based();
+        link.id();
+        self.catch_up(alloc, link)
+    }
+
+    fn catch_up<L: Link>(&mut self, alloc: Global, link: &mut L) -> Result<u64, LoadFault>
+        ensures lent { L.lent link.new ≡ L.lent link.old }
+        ensures reads { PumpReads (L.seen link.old) (L.seen link.new) }
+        ensures does { PumpDoes self.old self.new (L.seen link.old) (L.seen link.new) result }
     {
         let messages = fetch(alloc, link, self.number + 1)?;
         self.take_all(alloc, link.id(), messages)?;
@@ -105,7 +127,7 @@ impl Container {
         own: &ClientId,
         messages: Messages,
     ) -> Result<(), NoMemory>
-        requires numbered { AreFrom (self.old.number + 1) messages }
+        requires numbered { AreNumberedFrom (self.old.number + 1) messages }
         requires fit { self.old.number + length messages < 2 ^ 53 }
         ensures taken { OnOk result (self.new ≡ behind own.now self.old messages) }
         ensures fault { OnErr result (IsBehindFront own.now self.old self.new messages) }
@@ -141,8 +163,21 @@ impl Container {
     ) -> Result<(), LoadFault>
         requires { Fits (L.seen link.old).client (op_of self.old edit) }
         ensures lent { L.lent link.new ≡ L.lent link.old }
-        ensures leaves { EditLeaves self.old self.new edit result }
-        ensures says { EditSays self.old edit (L.seen link.old) (L.seen link.new) result }
+        ensures does { EditDoes self.old self.new edit (L.seen link.old) (L.seen link.new) result }
+        ensures stays { StaysBehind self.old self.new (L.seen link.old) (L.seen link.new) }
+    {
+        self.lay_over(alloc, link, edit)
+    }
+
+    fn lay_over<L: Link>(
+        &mut self,
+        alloc: Global,
+        link: &mut L,
+        edit: Edit,
+    ) -> Result<(), LoadFault>
+        requires { Fits (L.seen link.old).client (op_of self.old edit) }
+        ensures lent { L.lent link.new ≡ L.lent link.old }
+        ensures does { EditDoes self.old self.new edit (L.seen link.old) (L.seen link.new) result }
     {
         let contents = match self.app.edit(alloc, edit) {
             Ok(contents) => contents,
@@ -163,18 +198,21 @@ impl Container {
     }
 
     /// Uploads the tree of the channels and asks for it to be acknowledged, at the container's number. A channel that hasn't
-    /// changed since the last upload, or since the summary that was loaded, is a handle. Where the link tells what is held, and the
-    /// tree since which it is told what has changed stands there, the whole tree of the channels stands under the id that is answered.
+    /// changed since the last upload, or since the summary that was loaded, is a handle. Where the link tells the document, of
+    /// which this is a container, the whole tree of the channels stands under the id that is answered.
     pub fn summarize<L: Link>(&mut self, alloc: Global, link: &mut L) -> Result<Id, LoadFault>
         requires { (id : List ℕ) → length id ≡ 20 → Fits (L.seen link.old).client (summarize_of self.old id) }
         ensures lent { L.lent link.new ≡ L.lent link.old }
         ensures does { SummarizeDoes self.old self.new (L.seen link.old) (L.seen link.new) result }
-        ensures stands { IfOk result (λ id. (document : Document) → (L.seen link.old).told ≡ Some document → IsShort document.held → IsBased document.held self.old →
-            Tells (L.seen link.new).told (λ now. Stands now.held id (app_tree self.old.channels))) }
+        ensures stands { IfOk result (λ id. Tells (L.seen link.old).told (λ document. IsBased document.held self.old →
+            Tells (L.seen link.new).told (λ now. Stands now.held id (app_tree self.old.channels)))) }
+        ensures stays { StaysBehind self.old self.new (L.seen link.old) (L.seen link.new) }
     {
+        containers_stay_based();
         uploads_are_whole();
         what_stands_goes_on_standing();
         let id = self.upload(alloc, link)?;
+        link.id();
         id.as_bytes();
         self.propose(alloc, link, &id)?;
         Ok(id)
@@ -184,8 +222,7 @@ impl Container {
     fn propose<L: Link>(&mut self, alloc: Global, link: &mut L, id: &Id) -> Result<(), LoadFault>
         requires { Fits (L.seen link.old).client (summarize_of self.old id.now) }
         ensures lent { L.lent link.new ≡ L.lent link.old }
-        ensures leaves { ProposeLeaves self.old self.new result }
-        ensures says { ProposeSays (summarize_of self.old id.now) (L.seen link.old) (L.seen link.new) result }
+        ensures does { Proposes self.old self.new (summarize_of self.old id.now) (L.seen link.old) (L.seen link.new) result }
     {
         let contents = summarize(alloc, id, &self.head, self.number)?;
         let submission = numbered(self.last + 1, self.number, Offered::Summarize, contents);
@@ -203,7 +240,7 @@ impl Container {
         ensures lent { L.lent link.new ≡ L.lent link.old }
         ensures done { IfOk result (λ id. self.new ≡ since self.old id) }
         ensures unchanged { OnErr result (self.new ≡ self.old) }
-        ensures does { UploadsTree self.old (L.seen link.old) (L.seen link.new) result }
+        ensures does { UploadEnds self.old (L.seen link.old) (L.seen link.new) result }
     {
         let tree = self.app.to_tree_since(alloc)?;
         let id = upload(alloc, link, &tree, self.base.as_ref())?;
@@ -217,7 +254,18 @@ impl Container {
     pub fn beat<L: Link>(&mut self, alloc: Global, link: &mut L) -> Result<(), LoadFault>
         requires { Fits (L.seen link.old).client (noop_of self.old) }
         ensures lent { L.lent link.new ≡ L.lent link.old }
-        ensures taken { OnOk result (self.new ≡ record self.old { last = self.old.last + 1 }) }
+        ensures taken { OnOk result (self.new ≡ counted self.old) }
+        ensures unchanged { OnErr result (self.new ≡ self.old) }
+        ensures says { Submits (noop_of self.old) (L.seen link.old) (L.seen link.new) result }
+        ensures stays { StaysBehind self.old self.new (L.seen link.old) (L.seen link.new) }
+    {
+        self.submit_noop(alloc, link)
+    }
+
+    fn submit_noop<L: Link>(&mut self, alloc: Global, link: &mut L) -> Result<(), LoadFault>
+        requires { Fits (L.seen link.old).client (noop_of self.old) }
+        ensures lent { L.lent link.new ≡ L.lent link.old }
+        ensures taken { OnOk result (self.new ≡ counted self.old) }
         ensures unchanged { OnErr result (self.new ≡ self.old) }
         ensures says { Submits (noop_of self.old) (L.seen link.old) (L.seen link.new) result }
     {
@@ -353,7 +401,8 @@ fn picked<L: Link>(
 }
 
 fn fetch<L: Link>(alloc: Global, link: &mut L, from: u64) -> Result<Messages, LoadFault>
-    requires { 0 < from }
+    requires above { 0 < from }
+    requires fits { from ≤ 2 ^ 53 }
     ensures lent { L.lent link.new ≡ L.lent link.old }
     ensures reads { PumpReads (L.seen link.old) (L.seen link.new) }
     ensures messages { IfOk result (λ messages. Fetched (from - 1) (L.seen link.old) (L.seen link.new) messages × (from + length messages ≤ 2 ^ 53)) }
@@ -373,7 +422,7 @@ fn upload<L: Link>(
     base: Option<&Id>,
 ) -> Result<Id, LoadFault>
     ensures lent { L.lent link.new ≡ L.lent link.old }
-    ensures does { Uploaded tree.now (option_map (λ id. id.now) base.entry) (L.seen link.old) (L.seen link.new) result }
+    ensures does { UploadsOver tree.now (option_map (λ id. id.now) base.entry) (L.seen link.old) (L.seen link.new) result }
 {
     let before = link.faults();
     match link.upload(alloc, tree, base) {

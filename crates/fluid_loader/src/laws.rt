@@ -1,5 +1,5 @@
 //! What holds of the definitions, said by functions that do nothing.
-ghost use Rattle.fluid_loader.specs.Laws.{GoOnFollowing, IsHonestRead, IsHonestVersion, IsReplayBehind, IsWholeReplay, IsWholeUpload, StayBased};
+ghost use Rattle.fluid_loader.specs.Laws.{ArePickedWithin, GoOnFollowing, IsHonestRead, IsHonestVersion, IsReplayBehind, IsWholeReplay, IsWholeUpload, StayBased};
 
 use fluid_counter::laws::content_is_read_back as counters_are_read_back;
 use fluid_handles::laws::a_tree_without_handles_is_itself;
@@ -7,7 +7,6 @@ use fluid_map::laws::content_is_read_back as maps_are_read_back;
 use fluid_quorum::laws::{only_blobs_are_read, quorum_goes_on};
 use fluid_readback::blobs_of_messages_are_read_back;
 use fluid_runtime::laws::{unchanged_channels_stay, unmarked_apps_give_no_handle};
-use fluid_store::laws::what_stands_goes_on_standing;
 use fluid_tree::laws::objects_are_read_back;
 
 /// The channels of a container behind messages are the replay of these from its channels.
@@ -34,11 +33,22 @@ pub fn honest_summaries_are_replayed()
 pub fn containers_go_on_following()
     ensures { GoOnFollowing }
 {
+    objects_are_read_back();
+    maps_are_read_back();
+    counters_are_read_back();
+    only_blobs_are_read();
     quorum_goes_on();
+    blobs_of_messages_are_read_back();
+    unchanged_channels_stay();
+    unmarked_apps_give_no_handle();
 }
 
-/// An honest summary of a number of the order is read, where no object that is held is too long to be read, and the contents
-/// of its blobs are UTF-8.
+/// The number of an acknowledged summary is one of the order.
+pub fn picked_numbers_are_within()
+    ensures { ArePickedWithin }
+{}
+
+/// An honest summary of a number of the order is read, where the contents of its blobs are UTF-8.
 pub fn honest_summaries_are_read()
     ensures { IsHonestRead }
 {
@@ -56,7 +66,6 @@ pub fn honest_summaries_are_read()
 pub fn uploads_are_whole()
     ensures { IsWholeUpload }
 {
-    objects_are_read_back();
     a_tree_without_handles_is_itself();
     unmarked_apps_give_no_handle();
 }
@@ -65,9 +74,9 @@ pub fn uploads_are_whole()
 pub fn containers_stay_based()
     ensures { StayBased }
 {
+    objects_are_read_back();
     unchanged_channels_stay();
     unmarked_apps_give_no_handle();
-    what_stands_goes_on_standing();
 }
 
 /// A version that is made of a tree that was uploaded is honest.

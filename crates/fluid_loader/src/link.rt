@@ -1,7 +1,8 @@
 //! How a container reaches its document.
-ghost use Rattle.std.specs.Prelude.{◌≡◌, ◌<◌, List, option_map};
+ghost use Rattle.std.specs.Prelude.{◌≡◌, ◌<◌, ◌≤◌, ◌^◌, List, option_map};
 ghost use Rattle.std.specs.Borrow.{GName};
-ghost use Rattle.fluid_loader.specs.Link.{Linked, Fits, Picks, Gets, Fetches, Submits, Uploads};
+ghost use Rattle.fluid_io.specs.Causes.{Tells};
+ghost use Rattle.fluid_loader.specs.Link.{Linked, IsDocument, Fits, Picks, Gets, Fetches, Submits, Uploads};
 
 use fluid_json::Bytes;
 use fluid_tree::{Id, Node, SummaryRef};
@@ -37,7 +38,7 @@ pub enum LinkFault {
     NoMemory,
 }
 
-/// One client's way to a document. Whether a link tells the document's order and objects never changes.
+/// One client's way to a document. Whether a link tells the document, and its ledger, never changes.
 pub trait Link {
     /// What it tells, its counts, and what was fetched and taken.
     ghost seen: { Self → Linked };
@@ -47,7 +48,8 @@ pub trait Link {
 
     /// The client's id.
     fn id(&self) -> &ClientId
-        ensures { result.now ≡ (seen self.now).client };
+        ensures id { result.now ≡ (seen self.now).client }
+        ensures document { Tells (seen self.now).told IsDocument };
 
     /// The acknowledged summary that is picked, with its number; none where there is none.
     fn summary(&mut self, alloc: Global, pick: &Pick) -> Result<Option<SummaryRef>, LinkFault>
@@ -61,11 +63,12 @@ pub trait Link {
 
     /// All messages from this number on.
     fn deltas(&mut self, alloc: Global, from: u64) -> Result<Messages, LinkFault>
-        requires { 0 < from }
+        requires above { 0 < from }
+        requires fits { from ≤ 2 ^ 53 }
         ensures lent { lent self.new ≡ lent self.old }
         ensures does { Fetches from (seen self.old) (seen self.new) result };
 
-    /// Submits it as this client.
+    /// Submits it as this client. A full document refuses it by a nack of the rule `Full`.
     fn submit(&mut self, alloc: Global, submission: Submission) -> Result<Given, LinkFault>
         requires { Fits (seen self.old).client submission }
         ensures lent { lent self.new ≡ lent self.old }

@@ -8,3 +8,4 @@ pub mod Waits
 pub mod Judged
 pub mod Taken
 pub mod Handled
+pub mod Alike

@@ -5,4 +5,5 @@ pub mod Ledger
 pub mod Jobs
 pub mod Laws
 pub mod Versions
+pub mod Within
 pub use Rattle.fluid_rules.specs.Scribe

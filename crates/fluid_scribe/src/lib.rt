@@ -9,13 +9,14 @@
 //! - `scribe`: `Scribe`. `ready`: a prepared message, `ScribeReady`. `job`: what is to be done about the pending summarize, `Job`.
 //! - `tail`: the quorum at the base and what stands behind it. `waiting`: the summarize messages that wait.
 //! - `answering`: the answer and the job. `judging`: whether a summary may be acknowledged. `version`: the tree of a version.
-//! - `reading`: what one message says. `laws`: what holds of the definitions.
+//! - `parts`: what of a scribe's parts lies within an order. `reading`: what one message says. `laws`: what holds of the definitions.
 #![tactic(auto)]
 
 mod answering;
 mod job;
 mod judging;
 pub mod laws;
+mod parts;
 mod reading;
 mod ready;
 mod scribe;

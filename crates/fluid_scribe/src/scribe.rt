@@ -8,11 +8,13 @@ ghost use Rattle.fluid_rules.specs.Rules.{IsLegal};
 ghost use Rattle.fluid_rules.specs.Scribe.{acks as acks_by_rules, answer as answer_by_rules};
 ghost use Rattle.fluid_scribe.specs.State.{start, after, ack_in};
 ghost use Rattle.fluid_scribe.specs.Scribing.{prepared, kept_of, IsPreparedIn};
+ghost use Rattle.fluid_scribe.specs.Within.{within};
 ghost use Rattle.fluid_scribe.specs.Ledger.{StandsFor};
 ghost use Rattle.fluid_scribe.specs.Jobs.{answer_in, job_in, job, pending_in, last_ack_in, answer_to_in, job_of_in};
 
 use crate::answering::{answer_now, job_now};
 use crate::job::Job;
+use crate::parts::within;
 use crate::reading::{ack_of, answered_by, kept_of};
 use crate::ready::ScribeReady;
 use crate::tail::{Parts, Tail};
@@ -80,7 +82,8 @@ impl Scribe {
         }
     }
 
-    /// A scribe that keeps this, whatever it is. A part that lies outside the order counts for nothing. Takes no memory.
+    /// A scribe that keeps what of these parts lies within an order: a message of number 0, one that refers ahead of itself, or a
+    /// minimum ahead of its message counts for nothing. Takes no memory.
     pub fn of_parts(
         base: Quorum,
         behind: Messages,
@@ -88,8 +91,29 @@ impl Scribe {
         pending: Messages,
         acks: Acks,
     ) -> Scribe
-        ensures { result.state ≡ record { base = base; behind = behind; minima = minima; pending = pending; acks = acks } }
+        ensures { result.state ≡ within (2 ^ 64 - 1) (record { base = base; behind = behind; minima = minima; pending = pending; acks = acks }) }
     {
+        let state = ScribeState {
+            base,
+            behind,
+            minima,
+            pending,
+            acks,
+        };
+        Scribe::of_order(u64::MAX, state)
+    }
+
+    /// The same within an order of so many messages: what has a higher number counts for nothing too. Takes no memory.
+    pub fn of_order(last: u64, state: ScribeState) -> Scribe
+        ensures { result.state ≡ within last state }
+    {
+        let ScribeState {
+            base,
+            behind,
+            minima,
+            pending,
+            acks,
+        } = within(last, state);
         let waiting = pending.into_vec();
         let least = least_reference(&waiting);
         Scribe {

@@ -1,13 +1,22 @@
 -- The worked examples, computed.
 use Rattle.std.proofs.Common.{refl}
+use Rattle.hex.specs.Hex.{decode_pairs}
+use Rattle.json.specs.Json.{items, members, value}
+use Rattle.json.specs.Lex.{lex, punctuate}
+use Rattle.json.specs.Text.{content}
+use Rattle.json.specs.Word.{after_number, word}
+use Rattle.serde_json.specs.Read.{number_of}
+use Rattle.fast_float.specs.Text.{scan}
+use Rattle.fluid_json.specs.Spelled.{reaches, answer_within}
 use Rattle.fluid_types.specs.Names.{is_name}
+use Rattle.fluid_edits.specs.Forms.{edit_in}
 use Rattle.fluid_tree.specs.Ids.{id_read}
 use Rattle.fluid_words.specs.Numbers.{is_decimal}
 use Rattle.fluid_steps.specs.Names.{is_script_name}
-use Rattle.fluid_steps.specs.Examples.{OneOfEach, Blanks, Outside}
+use Rattle.fluid_steps.specs.Examples.{OneOfEach, Blanks, Outside, Edits}
 
 pub one_of_each : OneOfEach
-unfolding is_name is_script_name is_decimal
+unfolding is_name is_script_name is_decimal id_read decode_pairs
 one_of_each = record {
   send = refl;
   collect = refl;
@@ -20,6 +29,7 @@ one_of_each = record {
   count = refl;
   load = refl;
   latest = refl;
+  handle = refl;
   pump = refl;
   beat = refl;
   summarize = refl;
@@ -28,7 +38,7 @@ one_of_each = record {
 
 pub blanks : Blanks
 unfolding is_name is_script_name is_decimal
-blanks = record { leading = refl; doubled = refl; trailing = refl; empty_text = refl; no_text = refl }
+blanks = record { tab = refl; tab_in_text = refl; leading = refl; doubled = refl; trailing = refl; empty_text = refl; no_text = refl }
 
 pub outside : Outside
 unfolding is_name is_script_name is_decimal id_read
@@ -46,3 +56,7 @@ outside = record {
   no_document = refl;
   no_pick = refl;
 }
+
+pub edits : Edits
+unfolding is_name is_script_name items members value lex punctuate content after_number word number_of scan reaches answer_within edit_in
+edits = record { attach = refl; set = refl; delete = refl; clear = refl; increment = refl; not_json = refl; another_form = refl; text_of_an_op = refl; name_before_fault = refl }

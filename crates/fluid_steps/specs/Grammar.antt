@@ -1,19 +1,19 @@
--- The grammar of steps: a line is words with one blank between them. Names, numbers and picks have no blank; the last part of
--- `send` and `edit` runs to the line's end, and may be empty behind its blank.
-use Rattle.std.specs.Prelude.{ℕ, ◌==◌, nat_lt, List, length, Bool, Option, Some, None, option_map, option_and_then, find, bytes_eq, codes, Result, Err, if◌then◌else◌}
+-- The grammar of steps: a line is words with one blank between them, a space or a tab. Names, numbers and picks have no blank; the
+-- last part of `send` and `edit` runs to the line's end, and may be empty behind its blank.
+use Rattle.std.specs.Prelude.{ℕ, ◌==◌, nat_lt, List, length, Bool, ◌||◌, Option, Some, None, option_map, option_and_then, find, bytes_eq, codes, Result, Err, if◌then◌else◌}
 use Rattle.std.specs.List.{position_or_len, before_first, after_first}
 use Rattle.std.specs.Option.{ok_or}
 use Rattle.fluid_json.specs.declared.value.TheConstants.{LARGEST}
 use Rattle.fluid_types.specs.Names.{is_name}
 use Rattle.fluid_tree.specs.Ids.{id_read}
+use Rattle.fluid_loader.specs.declared.link.Pick.{Pick}
+use Rattle.fluid_loader.specs.declared.link.Pick.TheVariants.{Empty, Latest, Handle}
 use Rattle.fluid_words.specs.Numbers.{number_within}
 use Rattle.fluid_steps.specs.Names.{is_script_name}
 use Rattle.fluid_steps.specs.Words.{step_word, step_words}
 use Rattle.fluid_steps.specs.Ops.{op_spelled}
 use Rattle.fluid_steps.specs.declared.steps.Step.{Step}
 use Rattle.fluid_steps.specs.declared.steps.Step.TheVariants as step
-use Rattle.fluid_steps.specs.declared.steps.Pick.{Pick}
-use Rattle.fluid_steps.specs.declared.steps.Pick.TheVariants.{Empty, Latest, Handle}
 use Rattle.fluid_steps.specs.declared.steps.StepWord.{StepWord}
 use Rattle.fluid_steps.specs.declared.steps.StepWord.TheVariants as word
 use Rattle.fluid_steps.specs.declared.refusal.LineWhy.{LineWhy}
@@ -27,7 +27,7 @@ first >>= next = option_and_then next first
 -- ---- words
 
 abbrev pub is_blank : ℕ → Bool
-is_blank byte = byte == 32
+is_blank byte = byte == 32 || byte == 9
 
 -- what stands before the first blank, which is all of it where there is none
 abbrev pub first_word : List ℕ → List ℕ

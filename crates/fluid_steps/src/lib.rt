@@ -1,4 +1,4 @@
-//! The steps of a script: one line each, words with one blank between them.
+//! The steps of a script: one line each, words with one blank between them, a space or a tab.
 //!
 //! - `steps`: `Step`, which is everything that a line may ask for. `names`: the names of connections and containers.
 //! - `reading`: the step that a line spells; the grammar is `specs/Grammar.antt`. `ops`: the edit in the JSON of an `edit`.
@@ -14,7 +14,8 @@ mod refusal;
 mod steps;
 
 pub use fluid_edits::{ChannelKind, Edit};
+pub use fluid_loader::Pick;
 pub use names::ScriptName;
 pub use reading::read_step;
 pub use refusal::LineWhy;
-pub use steps::{Pick, Step, StepWord};
+pub use steps::{Step, StepWord};

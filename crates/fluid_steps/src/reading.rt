@@ -1,13 +1,15 @@
 //! The step that a line spells.
 ghost use Rattle.std.specs.Prelude.{◌≡◌, ℕ, List, Option, IfOk, option_map};
-ghost use Rattle.fluid_steps.specs.Grammar.{first_word, cut, script_name, document_name, number, pick, form, step_spelled};
+ghost use Rattle.std.specs.List.{position};
+ghost use Rattle.fluid_steps.specs.Grammar.{is_blank, first_word, cut, script_name, document_name, number, pick, form, step_spelled};
 ghost use Rattle.fluid_steps.specs.Grammar as grammar;
 
 use crate::names::ScriptName;
 use crate::ops::read_op;
 use crate::refusal::LineWhy;
-use crate::steps::{Pick, Step, StepWord};
+use crate::steps::{Step, StepWord};
 use fluid_json::{LARGEST, NoMemory, Text};
+use fluid_loader::Pick;
 use fluid_tree::Id;
 use fluid_types::{DocName, NameFault, of_word};
 use fluid_words::read_number;
@@ -33,14 +35,30 @@ pub fn read_step(alloc: Global, line: &str) -> Result<Result<Step, LineWhy>, NoM
 fn cut(text: &str) -> Option<(&str, &str)>
     ensures { option_map (λ parts. (parts.0.now, parts.1.now)) result ≡ cut text.now }
 {
-    text.split_once(' ')
+    let Some(place) = blank_place(text.as_bytes()) else {
+        return None;
+    };
+    Some((&text[..place], &text[place + 1..]))
+}
+
+// The place of the first blank.
+fn blank_place(text: &[u8]) -> Option<usize>
+    ensures { result ≡ position is_blank text.now }
+{
+    text.iter().position(|byte| is_blank(*byte))
+}
+
+fn is_blank(byte: u8) -> bool
+    ensures { result ≡ is_blank byte }
+{
+    byte == b' ' || byte == b'\t'
 }
 
 // What stands before the first blank, which is all of it where there is none.
 fn first_word(line: &str) -> &str
     ensures { result.now ≡ first_word line.now }
 {
-    match line.split_once(' ') {
+    match cut(line) {
         Some((word, _)) => word,
         None => line,
     }

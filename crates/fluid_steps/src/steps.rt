@@ -2,7 +2,7 @@
 use crate::names::ScriptName;
 use fluid_edits::Edit;
 use fluid_json::{JsonFault, Text};
-use fluid_tree::Id;
+use fluid_loader::Pick;
 use fluid_types::{DocName, Word};
 
 /// What one line asks for.
@@ -39,17 +39,6 @@ pub enum Step {
     Summarize(ScriptName),
     /// What a container shows.
     Show(ScriptName),
-}
-
-/// Which summary a container is loaded from.
-#[derive(Clone, Copy, Debug, PartialEq, Eq)]
-pub enum Pick {
-    /// None: from number 0.
-    Empty,
-    /// The last acknowledged one.
-    Latest,
-    /// The last acknowledged one with this handle.
-    Handle(Id),
 }
 
 /// The words with which steps begin.

@@ -1,6 +1,6 @@
 -- What the definitions say of a store that grows, and of the smallest stores.
-use Rattle.std.specs.Prelude.{◌≡◌, ℕ, zero, ◌^◌, ◌<◌, ◌≤◌, List, length, true, false, Option, Ok}
-use Rattle.std.specs.FinMap.{empty, insert}
+use Rattle.std.specs.Prelude.{◌≡◌, ℕ, zero, ◌^◌, ◌<◌, ◌≤◌, List, ◌∷◌, ◌++◌, length, true, false, Option, Some, Ok}
+use Rattle.std.specs.FinMap.{empty, get, insert}
 use Rattle.std.specs.Str.{IsUtf8}
 use Rattle.fluid_tree.specs.Identity.{id_answer}
 use Rattle.fluid_tree.specs.Object.{object_bytes}
@@ -9,7 +9,9 @@ use Rattle.fluid_tree.specs.declared.object.Object.TheVariants.{Blob}
 use Rattle.fluid_store.specs.Held.{Held, Keeps}
 use Rattle.fluid_store.specs.Parts.{part_over}
 use Rattle.fluid_store.specs.Uploading.{IsEarlier, IsSizedIf, StandsResolved}
+use Rattle.fluid_store.specs.Putting.{Putting, putting}
 use Rattle.fluid_store.specs.declared.listing.Part.{Part}
+use Rattle.fluid_store.specs.declared.listing.StoredObject.{StoredObject}
 use Rattle.fluid_store.specs.Keeping.{Holds}
 use Rattle.fluid_store.specs.Listed.{own_bytes, objects}
 use Rattle.fluid_store.specs.Standing.{Stands}
@@ -58,3 +60,14 @@ abbrev pub IsResolvedStanding : Type 0
 IsResolvedStanding =
     (old new : Held) (base : Option (List ℕ)) (earlier : Option Summary) (node : Summary) (part : Part) → IsSizedIf base → Ok part ≡ part_over old base node → IsEarlier old base earlier
     → Keeps old new → Holds new part.objects → StandsResolved new earlier node part.place.id
+
+-- an object that is held already may be left out of those that are put, wherever it stands: what is held then and the first clash are
+-- the same
+pub record IsLeftOut (with_it without : Putting) : Type 0 where
+  pub held : with_it.held ≡ without.held
+  pub clash : with_it.clash ≡ without.clash
+
+abbrev pub HeldOnesAreLeftOut : Type 0
+HeldOnesAreLeftOut =
+    (held : Held) (before behind : List StoredObject) (object : StoredObject) → get held object.id ≡ Some object.bytes
+    → IsLeftOut (putting held (before ++ object ∷ behind)) (putting held (before ++ behind))

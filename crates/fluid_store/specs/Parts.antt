@@ -103,3 +103,7 @@ earlier_if held (Some id) = earlier_at held id >>= λ earlier. Ok (Some earlier)
 -- the part of a summary tree, over the earlier tree of this id, if there is one
 abbrev pub part_over : Held → Option (List ℕ) → Summary → Result Part StoreFault
 part_over held base node = earlier_if held base >>= λ earlier. part_within (leads_in held earlier) 32 node
+
+-- the id of the tree, and the objects that are put for it
+abbrev pub objects_over : Held → Option (List ℕ) → Summary → Result (List ℕ × List StoredObject) StoreFault
+objects_over held base node = part_over held base node >>= λ part. Ok (part.place.id, part.objects)

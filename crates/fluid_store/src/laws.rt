@@ -1,6 +1,6 @@
 //! What holds of the definitions, said by functions that do nothing.
 
-ghost use Rattle.fluid_store.specs.Laws.{GoesOnStanding, IsCompleteWhereHeld, IsFetchedStanding, IsResolvedStanding, NothingIsComplete, OneBlob, StaysComplete};
+ghost use Rattle.fluid_store.specs.Laws.{GoesOnStanding, IsCompleteWhereHeld, IsFetchedStanding, IsResolvedStanding, NothingIsComplete, OneBlob, StaysComplete, HeldOnesAreLeftOut};
 
 use fluid_tree::laws::{
     names_that_are_read_are_names, objects_are_read_back, only_objects_are_read,
@@ -51,3 +51,8 @@ pub fn what_is_resolved_stands()
     only_objects_are_read();
     names_that_are_read_are_names();
 }
+
+/// An object that is held already may be left out of those that are put, wherever it stands.
+pub fn held_objects_are_left_out()
+    ensures { HeldOnesAreLeftOut }
+{}

@@ -1,6 +1,7 @@
 //! Objects in memory.
 ghost use Rattle.std.specs.Prelude.{◌≡◌, length};
 ghost use Rattle.std.specs.FinMap.{empty, len};
+ghost use Rattle.fluid_store.specs.Held.{IsShort};
 ghost use Rattle.fluid_store.specs.Storing.{Gets, Puts};
 ghost use Rattle.fluid_store.specs.Memory.{memory_seen, MemoryGets, MemoryPuts};
 
@@ -11,6 +12,9 @@ use fluid_tree::Id;
 use std::alloc::Global;
 use std::collections::BTreeMap;
 use std::marker::Model;
+
+/// An object has less than so many bytes.
+const LONGEST: usize = 1 << 53;
 
 /// A store in memory, in which an id is found in a number of comparisons that grows with the logarithm of the objects.
 /// It tells what it holds.
@@ -24,7 +28,7 @@ pub struct MemoryObjects {
 impl Model for MemoryObjects {
     ghost use Rattle.std.specs.Prelude.{IsTrue};
     ghost use Rattle.std.specs.FinMap.{from_sorted, is_sorted};
-    ghost use Rattle.fluid_store.specs.Held.{byte_order};
+    ghost use Rattle.fluid_store.specs.Held.{byte_order, IsShort};
     ghost use Rattle.fluid_store.specs.Memory.{MemoryStoring, memory_code};
 
     ghost Value = { MemoryStoring };
@@ -33,7 +37,7 @@ impl Model for MemoryObjects {
 
     ghost view = { λ m. record { held = from_sorted m.held.entries; gets = m.gets; plan = m.plan } };
 
-    ghost invariant = { λ m. IsTrue (is_sorted byte_order m.held.entries) };
+    ghost invariant = { λ m. IsTrue (is_sorted byte_order m.held.entries) × IsShort (from_sorted m.held.entries) };
 }
 
 impl MemoryObjects {
@@ -59,9 +63,10 @@ impl MemoryObjects {
         self.held.len()
     }
 
-    /// How many gets were made. The count stands still at `u64::MAX`.
+    /// How many gets were made. What is held has less than 2^53 bytes under each id: there is no memory for more. The count stands still at `u64::MAX`.
     pub fn gets(&self) -> u64
-        ensures { result ≡ self.now.gets }
+        ensures gets { result ≡ self.now.gets }
+        ensures short { IsShort self.now.held }
     {
         self.gets
     }
@@ -94,6 +99,9 @@ impl Objects for MemoryObjects {
         let fails = self.plan.fails();
         if fails {
             return Err(ObjectFault::Failed);
+        }
+        if bytes.len() >= LONGEST {
+            return Err(ObjectFault::NoMemory);
         }
         let copy = Bytes::copied(alloc, bytes)?;
         drop(self.held.insert(*id, copy)?);

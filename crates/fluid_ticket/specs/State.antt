@@ -225,11 +225,15 @@ pub record IsSound (s : State) : Type 0 where
   pub few : s.sequence ≤ 2 ^ 53 - 1
   pub rows : (id : List ℕ) (row : Row) → get s.rows id ≡ Some row → row.reference ≤ s.sequence
 
+-- a minimum ahead of the order counts for nothing
+abbrev pub minimum_up_to : (last minimum : ℕ) → ℕ
+minimum_up_to last minimum = if nat_le minimum last then minimum else 0
+
 -- what of a state lies within the order: no number is above the largest, and a reference ahead of the order is its last number
 abbrev pub within_order : State → State
 within_order s =
     let last = min s.sequence (2 ^ 53 - 1) in
-    record { sequence = last; last_minimum = s.last_minimum; rows = rows_up_to last s.rows }
+    record { sequence = last; last_minimum = minimum_up_to last s.last_minimum; rows = rows_up_to last s.rows }
 
 -- a sound state with its minimum
 pub record IsKept (s : State) (least : ℕ) : Type 0 where

@@ -6,7 +6,7 @@ ghost use Rattle.fluid_types.specs.Forms.{largest};
 ghost use Rattle.fluid_types.specs.Ledger.{Ledger, seq as last_sequence};
 ghost use Rattle.fluid_rules.specs.Rules.{minimum as minimum_by_rules, verdict as verdict_by_rules, IsLegal};
 ghost use Rattle.fluid_rules.specs.Scribe.{ack_contents, refusal_contents};
-ghost use Rattle.fluid_ticket.specs.State.{start, minimum, outcome, is_absorbed, lifted, after, changed, heard, HasMinimumUpTo, IsSound, within_order, prepared, answered, IsPreparedIn, CanApply};
+ghost use Rattle.fluid_ticket.specs.State.{start, minimum, outcome, is_absorbed, lifted, after, changed, heard, HasMinimumUpTo, IsSound, minimum_up_to, within_order, prepared, answered, IsPreparedIn, CanApply};
 ghost use Rattle.fluid_ticket.specs.Ledger.{StandsFor, IsAnswered};
 
 use crate::answers::{ack_contents, refusal_contents};
@@ -68,10 +68,10 @@ impl Sequencer {
     }
 
     /// The sequencer that goes on from these parts. What lies outside the order counts for nothing: a number above the largest is
-    /// taken as that one, a reference ahead of the order as the last sequence number. Takes no memory.
+    /// taken as that one, a reference ahead of the order as the last sequence number, and a minimum ahead of it as none. Takes no memory.
     pub fn of_parts(sequence: u64, minimum: u64, clients: Clients) -> Sequencer
         ensures within { result.state ≡ within_order (record { sequence = sequence; last_minimum = minimum; rows = clients.rows }) }
-        ensures sound { IsSound (record { sequence = sequence; last_minimum = minimum; rows = clients.rows }) →
+        ensures sound { IsSound (record { sequence = sequence; last_minimum = minimum; rows = clients.rows }) → minimum ≤ sequence →
             result.state ≡ record { sequence = sequence; last_minimum = minimum; rows = clients.rows } }
         ensures stands { (ledger : Ledger) → IsLegal ledger → sequence ≤ 2 ^ 53 - 1 →
             StandsFor (record { sequence = sequence; last_minimum = minimum; rows = clients.rows }) ledger → StandsFor result.state ledger }
@@ -83,7 +83,7 @@ impl Sequencer {
         Sequencer {
             sequence,
             minimum: least,
-            last_minimum: minimum,
+            last_minimum: minimum_up_to(sequence, minimum),
             clients,
         }
     }
@@ -482,4 +482,11 @@ fn apply<L: Ledger>(clients: &mut Clients, change: Change, blank: Blank)
         }
         Change::Hears { id, moment } => clients.hear(&id, moment),
     }
+}
+
+// The minimum, where it isn't ahead of the last number.
+fn minimum_up_to(last: u64, minimum: u64) -> u64
+    ensures { result ≡ minimum_up_to last minimum }
+{
+    if minimum <= last { minimum } else { 0 }
 }

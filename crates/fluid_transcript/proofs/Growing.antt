@@ -1,7 +1,9 @@
 -- One line more at the end.
 use Rattle.std.proofs.Common.{◌≡◌, ℕ, List, [], ◌∷◌, ◌++◌, refl, sym, ap, ◌∙◌, append_assoc, append-nil}
+use Rattle.fluid_pipe.specs.declared.refusal.Refusal.TheVariants.{TooLong, NotUtf8, TooManyLines, Text}
+use Rattle.fluid_steps.specs.Refusals.{why_text}
 use Rattle.fluid_transcript.specs.Transcript.{taken, behind, lines_of, written}
-use Rattle.fluid_transcript.specs.Laws.{WorldGrows, LinesGrow, TranscriptGrows}
+use Rattle.fluid_transcript.specs.Laws.{WorldGrows, LinesGrow, TranscriptGrows, WordsAreOne}
 
 pub world_grows : WorldGrows
 world_grows limits w [] line = refl
@@ -21,3 +23,11 @@ written_both (line ∷ first) second =
 pub transcript_grows : TranscriptGrows
 transcript_grows limits w lines line =
     ap written (lines_grow limits w lines line) ∙ written_both (lines_of limits w lines) (taken limits (behind limits w lines) line).lines
+
+-- the words of a refusal are those of why
+pub words_are_one : WordsAreOne
+unfolding why_text
+words_are_one limits w TooLong = refl
+words_are_one limits w NotUtf8 = refl
+words_are_one limits w TooManyLines = refl
+words_are_one limits w (Text why) = refl

@@ -1,5 +1,14 @@
 mod Computed
 mod LinesComputed
+mod OneLine
+mod ScriptComputed
 mod Growing
 mod Rowed
 mod Leaving
+mod Begins
+mod Acks
+mod Sounds
+mod Fitting
+mod Holding
+mod Stepping
+mod Steady

@@ -18,12 +18,12 @@ use Rattle.fluid_voice.specs.declared.actions.Act.TheVariants as act
 use Rattle.fluid_voice.specs.Heard.{submission_acts}
 use Rattle.fluid_transcript.specs.World.{Document}
 use Rattle.fluid_transcript.specs.Connections.{hear, hear_act}
-use Rattle.fluid_transcript.specs.Laws.{raws_of, verdict_lines, full_line, submission_lines, writing, ledger_with, behind_all, SubmissionsAreOneRow}
+use Rattle.fluid_transcript.specs.Laws.{raws_of, verdict_lines, full_reply_line, submission_lines, writing, ledger_with, behind_all, SubmissionsAreOneRow}
 
 module _ (limits : Limits) (opened : List (List ℕ)) (c : List ℕ) (d : Document) (name id : List ℕ) (next : ℕ) (store : Held) (moment : ℕ) where
   one_full : (s : Submission) (before : List Raw) (lines : List (List ℕ)) → nat_le limits.entries (counted (ledger_with d before)) ≡ true
-      → hear_act limits opened c d (writing name id next store before lines) (act.Enter (Submit id s moment)) ≡ writing name id next store before (lines ++ full_line c name ∷ [])
-  one_full s before lines is = rw is (ap (λ raws. writing name id next store raws (lines ++ full_line c name ∷ [])) (append-nil before))
+      → hear_act limits opened c d (writing name id next store before lines) (act.Enter (Submit id s moment)) ≡ writing name id next store before (lines ++ full_reply_line c name ∷ [])
+  one_full s before lines is = rw is (ap (λ raws. writing name id next store raws (lines ++ full_reply_line c name ∷ [])) (append-nil before))
 
   one_entered : (s : Submission) (before : List Raw) (lines : List (List ℕ)) → nat_le limits.entries (counted (ledger_with d before)) ≡ false
       → hear_act limits opened c d (writing name id next store before lines) (act.Enter (Submit id s moment))
@@ -32,12 +32,12 @@ module _ (limits : Limits) (opened : List (List ℕ)) (c : List ℕ) (d : Docume
 
   all_full : (submissions : List Submission) (before : List Raw) (lines : List (List ℕ)) → nat_le limits.entries (counted (ledger_with d before)) ≡ true
       → hear limits opened c d (writing name id next store before lines) (submission_acts moment id submissions)
-      ≡ writing name id next store before (lines ++ map (λ raw. full_line c name) (raws_of moment id submissions))
+      ≡ writing name id next store before (lines ++ map (λ raw. full_reply_line c name) (raws_of moment id submissions))
   all_full [] before lines is = ap (writing name id next store before) (sym (append-nil lines))
   all_full (s ∷ rest) before lines is =
       ap (λ h. hear limits opened c d h (submission_acts moment id rest)) (one_full s before lines is)
-      ∙ all_full rest before (lines ++ full_line c name ∷ []) is
-      ∙ ap (writing name id next store before) (append_assoc lines (full_line c name ∷ []) (map (λ raw. full_line c name) (raws_of moment id rest)))
+      ∙ all_full rest before (lines ++ full_reply_line c name ∷ []) is
+      ∙ ap (writing name id next store before) (append_assoc lines (full_reply_line c name ∷ []) (map (λ raw. full_reply_line c name) (raws_of moment id rest)))
 
   -- the ledger with one entry more
   ledger_more : (before : List Raw) (raw : Raw) → ledger_with d (before ++ raw ∷ []) ≡ ledger_with d before ++ (raw, verdict (ledger_with d before) raw) ∷ []
@@ -68,7 +68,7 @@ module _ (limits : Limits) (opened : List (List ℕ)) (c : List ℕ) (d : Docume
       (ap₂ (writing name id next store) (append_assoc before (raw ∷ []) (take most rest))
       (append_assoc lines (verdict_lines c name (verdict l raw)) (submission_lines c name (l ++ (raw, verdict l raw) ∷ []) rest most)
       ∙ ap (λ more. lines ++ more) (sym (append_assoc (verdict_lines c name (verdict l raw))
-      (flat_map (λ entry. verdict_lines c name entry.1) (entries_behind (l ++ (raw, verdict l raw) ∷ []) (take most rest))) (map (λ raw. full_line c name) (drop most rest))))))
+      (flat_map (λ entry. verdict_lines c name entry.1) (entries_behind (l ++ (raw, verdict l raw) ∷ []) (take most rest))) (map (λ raw. full_reply_line c name) (drop most rest))))))
 
   -- the first of several, by whether the document is full
   rowed_by : (s : Submission) (rest : List Submission) (before : List Raw) (lines : List (List ℕ)) (full : Bool) → nat_le limits.entries (counted (ledger_with d before)) ≡ full

@@ -12,13 +12,11 @@ use Rattle.fluid_voice.specs.declared.states.VoiceState.{VoiceState}
 use Rattle.fluid_voice.specs.declared.states.VoiceState.TheVariants.{Fresh, Used}
 use Rattle.fluid_voice.specs.declared.actions.Act.{Act}
 use Rattle.fluid_voice.specs.declared.actions.Act.TheVariants as act
-use Rattle.fluid_voice.specs.declared.refusals.ConnectRefusal.TheVariants.{TooManyDocuments}
 use Rattle.fluid_voice.specs.States as states
 use Rattle.fluid_voice.specs.Heard.{acts_of}
 use Rattle.fluid_voice.specs.Ends.{Found, Outcome, outcome, held_behind}
 use Rattle.fluid_voice.specs.Ends.Outcome.{ends, clashes}
 use Rattle.fluid_voice.specs.Replies.{replies_to, state_after}
-use Rattle.fluid_voice.specs.Refusals.{refused}
 use Rattle.fluid_voice.specs.Feed as feed
 use Rattle.fluid_transcript.specs.World.{Document, Name, connection, container, used_up, World, ledger_of, raws_added, Effect, says}
 use Rattle.fluid_transcript.specs.Lines.{reply_line, clash_line, closed_line}
@@ -78,8 +76,8 @@ abbrev pub effect_of : List ℕ → Hearing → Effect
 effect_of c h = record { entries = h.entries; checkpoints = []; store = h.store; name = Some (c, connection h.voice); lines = h.lines }
 
 -- a connection hears a text
-abbrev pub heard : Limits → World → Document → (c text : List ℕ) → Effect
-heard limits w d c text = effect_of c (hear limits w.opened c d (hearing w c) (acts_for w c text))
+abbrev pub sent : Limits → World → Document → (c text : List ℕ) → Effect
+sent limits w d c text = effect_of c (hear limits w.opened c d (hearing w c) (acts_for w c text))
 
 -- the document that an act connects to
 abbrev pub connects : Act → Option (List ℕ)
@@ -87,22 +85,18 @@ connects (act.Connect name write scopes detail moment) = Some name
 connects act = None
 
 -- a text reaches the document that it connects to, or else that of its connection
-abbrev pub heard_of : World → (c text : List ℕ) → Option (List ℕ)
-heard_of w c text = option_or (slice_get (filter_map connects (acts_for w c text)) 0) (states.document_name (voice_of w c))
-
--- as many documents as may be are open: the connection stays as it is
-abbrev pub heard_beyond : World → (c : List ℕ) → Effect
-heard_beyond w c = record (says w (reply_line c (refused TooManyDocuments) ∷ [])) { name = Some (c, connection (voice_of w c)) }
+abbrev pub sent_to : World → (c text : List ℕ) → Option (List ℕ)
+sent_to w c text = option_or (slice_get (filter_map connects (acts_for w c text)) 0) (states.document_name (voice_of w c))
 
 -- ---- collect
 
 -- the connection is given the messages from its next one to the last; one without a document is given none
-abbrev pub brought : World → Ledger → (c : List ℕ) → VoiceState → Effect
-brought w l c voice =
+abbrev pub delivered : World → Ledger → (c : List ℕ) → VoiceState → Effect
+delivered w l c voice =
     record (says w (map (reply_line c) (feed.collected (order l) voice))) { name = Some (c, connection (feed.collected_state (order l) voice)) }
 
 abbrev pub collected : World → Document → (c : List ℕ) → Effect
-collected w d c = brought w (ledger_of d) c (voice_of w c)
+collected w d c = delivered w (ledger_of d) c (voice_of w c)
 
 -- ---- close
 

@@ -1,5 +1,5 @@
 -- The steps of a container: `load`, `pump`, `edit`, `beat`, `summarize` and `show`.
-use Rattle.std.specs.Prelude.{ℕ, ◌+◌, ◌-◌, Bool, true, false, ◌&&◌, List, [], ◌∷◌, ◌++◌, take, drop, length, count_by, Option, Some, None, is_some, option_map, bytes_eq, Result, Ok, Err, if◌then◌else◌}
+use Rattle.std.specs.Prelude.{ℕ, ◌+◌, Bool, true, false, ◌&&◌, List, [], ◌∷◌, ◌++◌, take, drop, length, count_by, Option, Some, None, is_some, option_map, bytes_eq, Result, Ok, Err, if◌then◌else◌}
 use Rattle.sha1.specs.Sha1.{sha1}
 use Rattle.fluid_json.specs.Tree.{Tree, null}
 use Rattle.fluid_types.specs.declared.entries.Raw.{Raw}
@@ -27,12 +27,12 @@ use Rattle.fluid_runtime.specs.declared.fault.EditFault.{EditFault}
 use Rattle.fluid_store.specs.Held.{Held}
 use Rattle.fluid_store.specs.Listed.{own_bytes, objects}
 use Rattle.fluid_store.specs.Putting.{Putting, Clashing, putting}
+use Rattle.fluid_loader.specs.Container.{is_from}
 use Rattle.fluid_loader.specs.Link.{picked}
 use Rattle.fluid_loader.specs.Submitting.{numbered, summarize_tree}
 use Rattle.fluid_loader.specs.Version.{AVersion, version_at}
-use Rattle.fluid_loader.specs.declared.link.Pick.TheVariants as loader
-use Rattle.fluid_steps.specs.declared.steps.Pick.{Pick}
-use Rattle.fluid_steps.specs.declared.steps.Pick.TheVariants.{Empty, Latest, Handle}
+use Rattle.fluid_loader.specs.declared.link.Pick.{Pick}
+use Rattle.fluid_loader.specs.declared.link.Pick.TheVariants.{Empty, Latest, Handle}
 use Rattle.fluid_voice.specs.declared.ends.ActEnd.{ActEnd}
 use Rattle.fluid_voice.specs.declared.ends.ActEnd.TheVariants.{Entered, FullNow, TooMany}
 use Rattle.fluid_voice.specs.declared.refusals.ConnectRefusal.{ConnectRefusal}
@@ -45,9 +45,13 @@ use Rattle.fluid_transcript.specs.Lines.{refused_line, turned_away_line, clash_l
 
 -- ---- what a container has
 
+-- the id of its client, which is made of the number of entries before its join
+abbrev pub id_of : Container → List ℕ
+id_of k = entry_name k.entries
+
 -- its channels: those that it was loaded from, and the messages behind their number up to its own
 abbrev pub channels : Ledger → Container → Channels
-channels l k = replay k.from (take (k.number - k.base) (drop k.base (order l)))
+channels l k = replay k.from (drop k.base (take k.number (order l)))
 
 -- what it shows: its own edits on their way, as if they were next in the order
 abbrev pub visible : Ledger → Container → Channels
@@ -59,16 +63,20 @@ is_taken Absorbed = true
 is_taken (Nacked nack) = false
 is_taken Dropped = false
 
--- an entry is a submission of this client that was sequenced or absorbed
-abbrev pub is_taken_from : List ℕ → Raw × Verdict → Bool
-is_taken_from id (Submit own submission moment, verdict) = bytes_eq own id && is_taken verdict
-is_taken_from id (Join own scopes detail moment, verdict) = false
-is_taken_from id (Leave own moment, verdict) = false
-is_taken_from id (Report summary found moment, verdict) = false
+-- an entry is a submission of this client
+abbrev pub is_submission_of : List ℕ → Raw → Bool
+is_submission_of id (Submit own submission moment) = bytes_eq own id
+is_submission_of id (Join own scopes detail moment) = false
+is_submission_of id (Leave own moment) = false
+is_submission_of id (Report summary found moment) = false
 
--- the client number of its last submission: so many were taken
+-- one that was sequenced or absorbed
+abbrev pub is_taken_from : List ℕ → Raw × Verdict → Bool
+is_taken_from id entry = is_submission_of id entry.0 && is_taken entry.1
+
+-- the client number of its last submission: so many were taken since its join
 abbrev pub last : Ledger → Container → ℕ
-last l k = count_by (is_taken_from k.id) l
+last l k = count_by (is_taken_from (id_of k)) (drop k.entries l)
 
 -- ---- submissions
 
@@ -90,9 +98,13 @@ submitted_as l raw end = record { entries = raws_added l (act.Enter raw) (ends e
 abbrev pub submission_of : Ledger → Container → Offered → Tree → Submission
 submission_of l k kind contents = numbered (last l k + 1) k.number kind contents
 
+-- as an entry of its client
+abbrev pub entry_of : World → Ledger → Container → Offered → Tree → Raw
+entry_of w l k kind contents = Submit (id_of k) (submission_of l k kind contents) w.moment
+
 abbrev pub submitting : Limits → World → Ledger → Container → Offered → Tree → Submitted
 submitting limits w l k kind contents =
-    submitted_as l (Submit k.id (submission_of l k kind contents) w.moment) (entry_end limits l (Submit k.id (submission_of l k kind contents) w.moment))
+    submitted_as l (entry_of w l k kind contents) (entry_end limits l (entry_of w l k kind contents))
 
 -- what is written, by why it was refused, if it was
 abbrev pub line_for : (p line : List ℕ) → Option NackRule → List ℕ
@@ -133,28 +145,28 @@ join_refusal TooMany = Some TooManyClients
 join_refusal end = None
 
 -- a container of these channels with this number, brought to the last message
-abbrev pub begun : (name id : List ℕ) → Ledger → Channels → ℕ → Loading
-begun name id l from base = loaded (record { document = name; id = id; from = from; base = base; number = seq l; pending = [] })
+abbrev pub begun : (name : List ℕ) → (entries : ℕ) → Ledger → Channels → ℕ → Loading
+begun name entries l from base = loaded (record { document = name; entries = entries; from = from; base = base; number = seq l; pending = [] })
 
-abbrev pub begun_with : (name id : List ℕ) → Ledger → ℕ → Result AVersion (List ℕ) → Loading
-begun_with name id l base (Ok version) = begun name id l version.channels base
-begun_with name id l base (Err path) = bad_summary path
+abbrev pub begun_with : (name : List ℕ) → (entries : ℕ) → Ledger → ℕ → Result AVersion (List ℕ) → Loading
+begun_with name entries l base (Ok version) = begun name entries l version.channels base
+begun_with name entries l base (Err path) = bad_summary path
 
 -- from the version of the picked summary
-abbrev pub begun_from : Held → (name id : List ℕ) → Ledger → Option SummaryRef → Loading
-begun_from held name id l None = no_summary
-begun_from held name id l (Some summary) = begun_with name id l summary.number (version_at held summary)
+abbrev pub begun_from : Held → (name : List ℕ) → (entries : ℕ) → Ledger → Option SummaryRef → Loading
+begun_from held name entries l None = no_summary
+begun_from held name entries l (Some summary) = begun_with name entries l summary.number (version_at held summary)
 
 -- behind the client's join
-abbrev pub begun_at : Held → (name id : List ℕ) → Ledger → Pick → Loading
-begun_at held name id l Empty = begun name id l no_channels 0
-begun_at held name id l Latest = begun_from held name id l (picked loader.Latest (order l))
-begun_at held name id l (Handle handle) = begun_from held name id l (picked (loader.Handle handle) (order l))
+abbrev pub begun_at : Held → (name : List ℕ) → (entries : ℕ) → Ledger → Pick → Loading
+begun_at held name entries l Empty = begun name entries l no_channels 0
+begun_at held name entries l Latest = begun_from held name entries l (picked Latest (order l))
+begun_at held name entries l (Handle handle) = begun_from held name entries l (picked (Handle handle) (order l))
 
 abbrev pub loading_by : World → Document → (name : List ℕ) → Pick → Option ConnectRefusal → Loading
 loading_by w d name pick (Some refusal) = turned_away refusal
 loading_by w d name pick None =
-    begun_at w.store name (entry_name (length d.raws)) (ledger_of (with_entries (join_for w (ledger_of d) ∷ []) d)) pick
+    begun_at w.store name (length d.raws) (ledger_of (with_entries (join_for w (ledger_of d) ∷ []) d)) pick
 
 -- the client joins, and then the container is loaded
 abbrev pub loading : Limits → World → Document → (name : List ℕ) → Pick → Loading
@@ -189,13 +201,9 @@ load_beyond w p = record (says w (turned_away_line p TooManyDocuments ∷ [])) {
 
 -- ---- pump
 
-abbrev pub is_own : List ℕ → Option (List ℕ) → Bool
-is_own id None = false
-is_own id (Some client) = bytes_eq client id
-
 -- so many ops of its own stand behind its number
 abbrev pub own_ops : Ledger → Container → ℕ
-own_ops l k = count_by (λ m. is_own k.id m.client && is_op m) (drop k.number (order l))
+own_ops l k = count_by (λ m. is_from (id_of k) m.client && is_op m) (drop k.number (order l))
 
 -- with the messages up to the last; its own edits that stand in the order now are no longer on their way
 abbrev pub caught_up : Ledger → Container → Container

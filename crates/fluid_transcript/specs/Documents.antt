@@ -1,5 +1,5 @@
 -- The steps of a document: `scribe`, `checkpoint`, `restart`, `reopen`, `sweep` and `count`.
-use Rattle.std.specs.Prelude.{ℕ, ◌+◌, nat_le, nat_lt, Bool, false, ◌&&◌, List, [], ◌∷◌, ◌++◌, length, find, codes, Option, Some, None, if◌then◌else◌}
+use Rattle.std.specs.Prelude.{ℕ, nat_le, nat_lt, Bool, false, ◌&&◌, List, [], ◌∷◌, ◌++◌, length, codes, Option, Some, None, if◌then◌else◌}
 use Rattle.std.specs.Option.{option_map_or}
 use Rattle.fluid_types.specs.declared.entries.Raw.TheVariants.{Leave, Report}
 use Rattle.fluid_types.specs.Ledger.{Ledger, order}
@@ -7,13 +7,8 @@ use Rattle.fluid_types.specs.Blobs.{blobs}
 use Rattle.fluid_tree.specs.Object.{object_bytes}
 use Rattle.fluid_tree.specs.declared.object.Object.{Object}
 use Rattle.fluid_tree.specs.declared.object.Object.TheVariants.{Tree}
-use Rattle.fluid_rules.specs.Rules.{joined, heard}
-use Rattle.fluid_rules.specs.Counted.{counted}
 use Rattle.fluid_rules.specs.Scribe.{answer, tree_entry, protocol_id}
 use Rattle.fluid_rules.specs.declared.limits.Limits.{Limits}
-use Rattle.fluid_clients.specs.Table.{Parts}
-use Rattle.fluid_ticket.specs.Ledger as sequencer
-use Rattle.fluid_scribe.specs.State as scribe
 use Rattle.fluid_scribe.specs.Jobs.{job}
 use Rattle.fluid_scribe.specs.declared.job.Job.{Job}
 use Rattle.fluid_store.specs.Held.{Held}
@@ -21,20 +16,21 @@ use Rattle.fluid_store.specs.Listed.{object_of, objects}
 use Rattle.fluid_store.specs.Complete.{is_complete}
 use Rattle.fluid_store.specs.Putting.{Putting, Clashing, putting}
 use Rattle.fluid_store.specs.declared.listing.StoredObject.{StoredObject}
-use Rattle.fluid_checkpoint.specs.Heard as checkpoint
-use Rattle.fluid_checkpoint.specs.Text.{state_printed}
+use Rattle.fluid_document.specs.Entries.{entries_of}
+use Rattle.fluid_document.specs.Kept.{checkpoint_text}
+use Rattle.fluid_lane.specs.Laws.{first_silent_in}
 use Rattle.fluid_transcript.specs.World.{Document, World, ledger_of, with_entries, farewells, Effect, says}
 use Rattle.fluid_transcript.specs.Lines.{idle_line, answer_line, scribe_clash_line, stored_line, full_line, large_line, restarted_line, no_checkpoint_line, reopened_line, swept_line, nobody_swept_line, count_line}
 
 -- ---- scribe
 
--- the tree of a version: `.app` with this id, and `.protocol` with these blobs
-abbrev pub version_tree : List ℕ → List (List ℕ × List ℕ) → Object
-version_tree app blobs = Tree (tree_entry (codes ".app") app ∷ tree_entry (codes ".protocol") (protocol_id blobs) ∷ [])
+-- the tree object of a version: `.app` with this id, and `.protocol` with these blobs
+abbrev pub version_object : List ℕ → List (List ℕ × List ℕ) → Object
+version_object app blobs = Tree (tree_entry (codes ".app") app ∷ tree_entry (codes ".protocol") (protocol_id blobs) ∷ [])
 
 -- the objects that are put for a version, in this order: the four blobs, the tree of `.protocol`, and the version's
 abbrev pub version_objects : Ledger → Job → (app : List ℕ) → List StoredObject
-version_objects l j app = objects j.protocol ++ object_of (object_bytes (version_tree app (blobs (order l) j.reference))) ∷ []
+version_objects l j app = objects j.protocol ++ object_of (object_bytes (version_object app (blobs (order l) j.reference))) ∷ []
 
 -- the tree of a summary is found where the answer depends on it and all of it is held
 abbrev pub is_found : Held → Job → Bool
@@ -66,13 +62,9 @@ scribed w d name = scribed_by w (ledger_of d) name (job (order (ledger_of d)))
 
 -- ---- checkpoint, restart
 
--- what a checkpoint keeps of the clients of a ledger: the last number, the minimum of the last message, and a row for each
-abbrev pub parts_of : Ledger → Parts
-parts_of l = record { sequence = (sequencer.state_of l).sequence; minimum = (sequencer.state_of l).last_minimum; rows = (sequencer.state_of l).rows }
-
 -- the text of a checkpoint of all entries of a ledger
 abbrev pub checkpoint_of : Ledger → List ℕ
-checkpoint_of l = state_printed (checkpoint.state_of (length l) (counted l) (parts_of l) (scribe.state_of (order l)))
+checkpoint_of l = checkpoint_text (entries_of l)
 
 -- a text of so many bytes is stored, unless it is too large
 abbrev pub stored : Limits → World → Document → (name : List ℕ) → (bytes : ℕ) → Effect
@@ -99,20 +91,13 @@ abbrev pub reopened : World → Document → (name : List ℕ) → Effect
 reopened w d name =
     record (says w (reopened_line name (ledger_of (with_entries (farewells w.moment d) d)) ∷ [])) { entries = farewells w.moment d }
 
--- a client was last heard of more than so long before the moment
-abbrev pub is_silent : (moment silence : ℕ) → Ledger → List ℕ → Bool
-is_silent moment silence l id = nat_lt (heard l id + silence) moment
-
--- the first joined client in byte order of ids that is silent
-abbrev pub first_silent : (moment silence : ℕ) → Ledger → Option (List ℕ)
-first_silent moment silence l = find (is_silent moment silence l) (joined l)
-
+-- the first joined client in byte order of ids that is silent leaves
 abbrev pub swept_by : World → (name : List ℕ) → Option (List ℕ) → Effect
 swept_by w name None = says w (nobody_swept_line name ∷ [])
 swept_by w name (Some id) = record (says w (swept_line name id ∷ [])) { entries = Leave id w.moment ∷ [] }
 
 abbrev pub swept : World → Document → (name : List ℕ) → (silence : ℕ) → Effect
-swept w d name silence = swept_by w name (first_silent w.moment silence (ledger_of d))
+swept w d name silence = swept_by w name (first_silent_in w.moment silence (ledger_of d))
 
 abbrev pub counted_up : World → Document → (name : List ℕ) → Effect
 counted_up w d name = says w (count_line name (ledger_of d) ∷ [])

@@ -14,7 +14,7 @@ use Rattle.fluid_loader.specs.Submitting.{numbered}
 use Rattle.fluid_transcript.specs.World.{World, Document, Container, new_document}
 use Rattle.fluid_transcript.specs.Documents.{scribed, checkpointed, restarted, reopened, swept, counted_up}
 use Rattle.fluid_transcript.specs.Containers.{load, pumped, beaten, all_scopes}
-use Rattle.fluid_steps.specs.declared.steps.Pick.TheVariants as pick
+use Rattle.fluid_loader.specs.declared.link.Pick.TheVariants as pick
 
 -- ---- a world at line 20, where nothing is held and no name is given
 
@@ -48,7 +48,7 @@ one_client = record { raws = take 2 raws; checkpoints = [] }
 
 -- the first container, which was loaded at number 1, with its two edits on their way
 abbrev pub p : Container
-p = record { document = d; id = codes "c0"; from = no_channels; base = 0; number = 1; pending = Attach (codes "m") Map ∷ Clear (codes "m") ∷ [] }
+p = record { document = d; entries = 0; from = no_channels; base = 0; number = 1; pending = Attach (codes "m") Map ∷ Clear (codes "m") ∷ [] }
 
 -- ---- documents
 

@@ -5,6 +5,8 @@ pub mod Documents
 pub mod Containers
 pub mod Steps
 pub mod Transcript
+pub mod Sound
 pub mod Laws
 pub mod Examples
 pub mod LineExamples
+pub mod ScriptExamples

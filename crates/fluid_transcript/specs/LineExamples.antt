@@ -13,15 +13,15 @@ use Rattle.fluid_edits.specs.Replay.{no_channels}
 use Rattle.fluid_loader.specs.Submitting.{numbered}
 use Rattle.fluid_steps.specs.declared.refusal.LineWhy.TheVariants.{UnknownStep, BadStep, NameInUse, UnknownName}
 use Rattle.fluid_steps.specs.declared.steps.Step.TheVariants.{Count, Load, Sweep}
-use Rattle.fluid_steps.specs.declared.steps.Pick.TheVariants as pick
+use Rattle.fluid_loader.specs.declared.link.Pick.TheVariants as pick
 use Rattle.fluid_voice.specs.declared.actions.Act.TheVariants as act
 use Rattle.fluid_voice.specs.declared.states.VoiceState.TheVariants.{Fresh, Reading, Writing}
 use Rattle.fluid_transcript.specs.World.{Document, Container, new_document, connection, used_up, ledger_of}
 use Rattle.fluid_transcript.specs.Lines.{clash_line, answer_line, scribe_clash_line, stored_line, large_line, bad_summary_line, summarized_line, shown_line, refused_line}
-use Rattle.fluid_transcript.specs.Connections.{Hearing, hear, brought, closed}
+use Rattle.fluid_transcript.specs.Connections.{Hearing, hear, delivered, closed}
 use Rattle.fluid_transcript.specs.Containers.{all_scopes, edited}
 use Rattle.fluid_transcript.specs.Steps.{beyond}
-use Rattle.fluid_transcript.specs.Transcript.{line_refusal, lines_of}
+use Rattle.fluid_transcript.specs.Transcript.{text_refusal, lines_of}
 use Rattle.fluid_transcript.specs.Examples.{nothing, few, d, two_clients}
 
 -- ---- forms
@@ -76,11 +76,11 @@ pub record Hears : Type 0 where
 
 pub record Collects : Type 0 where
   pub join :
-      (brought nothing (ledger_of one_joined) (codes "c") (Writing d (codes "c0") 1)).lines
+      (delivered nothing (ledger_of one_joined) (codes "c") (Writing d (codes "c0") 1)).lines
       ≡ codes "c < [\"op\",\"d\",[{\"clientId\":null,\"clientSequenceNumber\":-1,\"contents\":null,\"data\":\"{\\\"clientId\\\":\\\"c0\\\",\\\"detail\\\":null}\",\"minimumSequenceNumber\":0,\"referenceSequenceNumber\":-1,\"sequenceNumber\":1,\"timestamp\":7,\"type\":\"join\"}]]" ∷ []
-  pub goes_on : (brought nothing (ledger_of one_joined) (codes "c") (Writing d (codes "c0") 1)).name ≡ Some (codes "c", connection (Writing d (codes "c0") 2))
-  pub nothing_more : (brought nothing (ledger_of one_joined) (codes "c") (Writing d (codes "c0") 2)).lines ≡ []
-  pub unconnected : (brought nothing [] (codes "c") Fresh).lines ≡ []
+  pub goes_on : (delivered nothing (ledger_of one_joined) (codes "c") (Writing d (codes "c0") 1)).name ≡ Some (codes "c", connection (Writing d (codes "c0") 2))
+  pub nothing_more : (delivered nothing (ledger_of one_joined) (codes "c") (Writing d (codes "c0") 2)).lines ≡ []
+  pub unconnected : (delivered nothing [] (codes "c") Fresh).lines ≡ []
   pub closes : (closed nothing (codes "c")).lines ≡ codes "c closed" ∷ []
 
 -- ---- edits
@@ -90,7 +90,7 @@ n = codes "n"
 
 -- a container of that document, with nothing on its way
 abbrev pub k : Container
-k = record { document = d; id = codes "c0"; from = no_channels; base = 0; number = 1; pending = [] }
+k = record { document = d; entries = 0; from = no_channels; base = 0; number = 1; pending = [] }
 
 -- with an attach on its way
 abbrev pub attached : Container
@@ -107,20 +107,20 @@ pub record Edits : Type 0 where
 -- ---- refusals
 
 pub record Refusals : Type 0 where
-  pub empty_line : line_refusal nothing [] ≡ None
-  pub step : line_refusal nothing (codes "dance p") ≡ Some UnknownStep
-  pub form : line_refusal nothing (codes "pump p q") ≡ Some BadStep
-  pub no_container : line_refusal nothing (codes "pump p") ≡ Some UnknownName
-  pub no_connection : line_refusal nothing (codes "collect c") ≡ Some UnknownName
-  pub new_one : line_refusal nothing (codes "send c x") ≡ None
-  pub used : line_refusal (record nothing { names = insert empty (codes "c") used_up }) (codes "send c x") ≡ Some UnknownName
-  pub in_use : line_refusal (record nothing { names = insert empty (codes "c") used_up }) (codes "load c d none") ≡ Some NameInUse
+  pub empty_line : text_refusal nothing [] ≡ None
+  pub step : text_refusal nothing (codes "dance p") ≡ Some UnknownStep
+  pub form : text_refusal nothing (codes "pump p q") ≡ Some BadStep
+  pub no_container : text_refusal nothing (codes "pump p") ≡ Some UnknownName
+  pub no_connection : text_refusal nothing (codes "collect c") ≡ Some UnknownName
+  pub new_one : text_refusal nothing (codes "send c x") ≡ None
+  pub used : text_refusal (record nothing { names = insert empty (codes "c") used_up }) (codes "send c x") ≡ Some UnknownName
+  pub in_use : text_refusal (record nothing { names = insert empty (codes "c") used_up }) (codes "load c d none") ≡ Some NameInUse
 
 -- as many documents as may be are open
 pub record Beyond : Type 0 where
-  pub count : (beyond nothing d (Count d)).lines ≡ codes "d refused 429: too many documents" ∷ []
-  pub sweep : (beyond nothing d (Sweep d 0)).lines ≡ codes "d refused 429: too many documents" ∷ []
-  pub load : (beyond nothing d (Load (codes "p") d pick.Empty)).lines ≡ codes "p refused 429: too many documents" ∷ []
+  pub count : (beyond few nothing d (Count d)).lines ≡ codes "d refused 429: too many documents" ∷ []
+  pub sweep : (beyond few nothing d (Sweep d 0)).lines ≡ codes "d refused 429: too many documents" ∷ []
+  pub load : (beyond few nothing d (Load (codes "p") d pick.Empty)).lines ≡ codes "p refused 429: too many documents" ∷ []
 
 -- the first use of a document
 pub record FirstUse : Type 0 where

@@ -10,9 +10,9 @@ use Rattle.fluid_steps.specs.declared.refusal.LineWhy.{LineWhy}
 use Rattle.fluid_steps.specs.declared.refusal.LineWhy.TheVariants.{NameInUse, UnknownName, Json}
 use Rattle.fluid_voice.specs.declared.refusals.ConnectRefusal.TheVariants.{TooManyDocuments}
 use Rattle.fluid_voice.specs.States as states
-use Rattle.fluid_transcript.specs.World.{Document, Container, Name, connection, container, used_up, World, Effect, says}
+use Rattle.fluid_transcript.specs.World.{Document, new_document, Container, Name, connection, container, used_up, World, Effect, says}
 use Rattle.fluid_transcript.specs.Lines.{turned_away_line}
-use Rattle.fluid_transcript.specs.Connections.{voice_of, heard, heard_of, heard_beyond, collected, closed}
+use Rattle.fluid_transcript.specs.Connections.{voice_of, sent, sent_to, collected, closed}
 use Rattle.fluid_transcript.specs.Documents.{scribed, checkpointed, restarted, reopened, swept, counted_up}
 use Rattle.fluid_transcript.specs.Containers.{load, load_beyond, pumped, edited, beaten, summarized, showing}
 
@@ -85,7 +85,7 @@ container_document w p = option_and_then (λ k. Some k.document) (container_of w
 
 -- the document that a step reaches, which is open while the step is done
 abbrev pub about : World → Step → Option (List ℕ)
-about w (Send c text) = heard_of w c text
+about w (Send c text) = sent_to w c text
 about w (Collect c) = states.document_name (voice_of w c)
 about w (Close c) = states.document_name (voice_of w c)
 about w (Scribe name) = Some name
@@ -114,7 +114,7 @@ edit_effect limits w d p (Err fault) k = says w []
 
 -- read from the world before it, in which its document is open
 abbrev pub effect : Limits → World → Document → Step → Effect
-effect limits w d (Send c text) = heard limits w d c text
+effect limits w d (Send c text) = sent limits w d c text
 effect limits w d (Collect c) = collected w d c
 effect limits w d (Close c) = closed w c
 effect limits w d (Scribe name) = scribed w d name
@@ -130,8 +130,9 @@ effect limits w d (Beat p) = on_container w (container_of w p) (beaten limits w 
 effect limits w d (Summarize p) = on_container w (container_of w p) (summarized limits w d p)
 effect limits w d (Show p) = on_container w (container_of w p) (showing w d p)
 
--- what is done in its place where its document isn't open and as many as may be are
-abbrev pub beyond : World → (name : List ℕ) → Step → Effect
-beyond w name (Send c text) = heard_beyond w c
-beyond w name (Load p other pick) = load_beyond w p
-beyond w name step = says w (turned_away_line name TooManyDocuments ∷ [])
+-- what is done in its place where its document isn't open and as many as may be are. Steps of connections but for a connect, and those
+-- of containers, speak to a document that is open
+abbrev pub beyond : Limits → World → (name : List ℕ) → Step → Effect
+beyond limits w name (Send c text) = sent limits w new_document c text
+beyond limits w name (Load p other pick) = load_beyond w p
+beyond limits w name step = says w (turned_away_line name TooManyDocuments ∷ [])

@@ -7,15 +7,18 @@ use Rattle.fluid_rules.specs.Scribe.{last_ack}
 use Rattle.fluid_rules.specs.declared.limits.Limits.{Limits}
 use Rattle.fluid_runtime.specs.Shown.{shown}
 use Rattle.fluid_pipe.specs.Meaning.{Meaning}
+use Rattle.fluid_pipe.specs.declared.refusal.Refusal.{Refusal}
+use Rattle.fluid_pipe.specs.declared.refusal.Refusal.TheVariants as pipe
 use Rattle.fluid_steps.specs.Grammar.{step_spelled}
 use Rattle.fluid_steps.specs.Refusals.{why_text}
 use Rattle.fluid_steps.specs.declared.steps.Step.{Step}
-use Rattle.fluid_steps.specs.declared.steps.Pick.{Pick}
-use Rattle.fluid_steps.specs.declared.steps.Pick.TheVariants.{Empty, Latest}
+use Rattle.fluid_loader.specs.declared.link.Pick.{Pick}
+use Rattle.fluid_loader.specs.declared.link.Pick.TheVariants.{Empty, Latest}
 use Rattle.fluid_steps.specs.declared.refusal.LineWhy.{LineWhy}
+use Rattle.fluid_steps.specs.declared.refusal.LineWhy.TheVariants.{TooLong, NotUtf8, TooMany}
 use Rattle.fluid_voice.specs.declared.refusals.ConnectRefusal.TheVariants.{TooManyDocuments}
 use Rattle.fluid_voice.specs.Ends.{is_beyond}
-use Rattle.fluid_transcript.specs.World.{Document, World, document, with_entries, farewells, is_open, ledger_of, Effect, says, Told, does}
+use Rattle.fluid_transcript.specs.World.{Document, new_document, World, document, with_entries, farewells, is_open, ledger_of, Effect, says, Told, does}
 use Rattle.fluid_transcript.specs.Lines.{turned_away_line, no_summary_line, bad_summary_line, shown_line}
 use Rattle.fluid_transcript.specs.Containers.{Loading, turned_away, no_summary, bad_summary, loaded, visible, loading, joined_for}
 use Rattle.fluid_transcript.specs.Steps.{refusal, about, effect, beyond}
@@ -38,9 +41,9 @@ abbrev pub done_in : Limits → World → (name : List ℕ) → Step → Told
 done_in limits w name step = does (effect limits w (document w name) step) (Some name) w
 
 abbrev pub done_on : Limits → World → Option (List ℕ) → Step → Told
-done_on limits w None step = does (effect limits w (record { raws = []; checkpoints = [] }) step) None w
+done_on limits w None step = does (effect limits w new_document step) None w
 done_on limits w (Some name) step =
-    if is_beyond w.opened name then does (beyond w name step) None w else done_in limits (readied w name) name step
+    if is_beyond w.opened name then does (beyond limits w name step) None w else done_in limits (readied w name) name step
 
 -- the world behind a step, and what it writes
 abbrev pub done : Limits → World → Step → Told
@@ -56,7 +59,7 @@ abbrev pub done_as : Limits → World → Result Step LineWhy → Told
 done_as limits w (Ok step) = done limits w step
 done_as limits w (Err why) = record { world = w; lines = [] }
 
--- an empty line is passed over
+-- an empty line is passed over. A line that is refused isn't taken: what this says of one means nothing
 abbrev pub taken : Limits → World → List ℕ → Told
 taken limits w line = if length line == 0 then record { world = at_line w; lines = [] } else done_as limits (at_line w) (step_spelled line)
 
@@ -65,8 +68,8 @@ abbrev pub refused_as : World → Result Step LineWhy → Option LineWhy
 refused_as w (Ok step) = refusal w step
 refused_as w (Err why) = Some why
 
-abbrev pub line_refusal : World → List ℕ → Option LineWhy
-line_refusal w line = if length line == 0 then None else refused_as w (step_spelled line)
+abbrev pub text_refusal : World → List ℕ → Option LineWhy
+text_refusal w line = if length line == 0 then None else refused_as w (step_spelled line)
 
 -- ---- lines
 
@@ -90,11 +93,22 @@ transcript limits w lines = written (lines_of limits w lines)
 -- what the lines of a script mean, from a world on
 abbrev pub meaning : Limits → World → Meaning LineWhy
 meaning limits w = record {
-  refusal = λ before line. line_refusal (behind limits w before) line;
+  refusal = λ before line. text_refusal (behind limits w before) line;
   words = why_text;
   output = transcript limits w;
   none = refl;
 }
+
+-- the same of lines that are taken before a container is loaded: what they say isn't written
+abbrev pub silent : Limits → World → Meaning LineWhy
+silent limits w = record (meaning limits w) { output = λ lines. []; none = refl }
+
+-- why a line is refused, where a line that isn't read is among the causes
+abbrev pub why_of : Refusal LineWhy → LineWhy
+why_of pipe.TooLong = TooLong
+why_of pipe.NotUtf8 = NotUtf8
+why_of pipe.TooManyLines = TooMany
+why_of (pipe.Text why) = why
 
 -- ---- the last container
 
@@ -123,3 +137,7 @@ loaded_last_in limits w name =
 
 abbrev pub loaded_last : Limits → World → (name : List ℕ) → Told
 loaded_last limits w name = loaded_last_in limits (at_line w) name
+
+-- the one line that is written behind these lines
+abbrev pub last_line : Limits → World → (name : List ℕ) → List (List ℕ) → List ℕ
+last_line limits w name lines = written (loaded_last limits (behind limits w lines) name).lines

@@ -1,7 +1,7 @@
 -- The world of a script: what was entered and what was stored, and nothing that is made of it.
 use Rattle.std.specs.Prelude.{ℕ, List, [], ◌++◌, map, Bool, Option, Some, None, unwrap_or, bytes_eq}
 use Rattle.std.specs.List.{list_any}
-use Rattle.std.specs.FinMap.{FinMap, get, insert}
+use Rattle.std.specs.FinMap.{FinMap, get, insert, empty}
 use Rattle.fluid_table.specs.Table.{byte_order}
 use Rattle.fluid_types.specs.declared.entries.Raw.{Raw}
 use Rattle.fluid_types.specs.declared.entries.Raw.TheVariants.{Leave}
@@ -19,11 +19,11 @@ pub record Document : Type 0 where
   pub raws : List Raw
   pub checkpoints : List ℕ
 
--- a container: its document and its client's id, the channels that it was loaded from with their number, its own number, and the
--- edits that are on their way, oldest first
+-- a container: its document, how many entries of it stood before its client's join, the channels that it was loaded from with their
+-- number, its own number, and the edits that are on their way, oldest first
 pub record Container : Type 0 where
   pub document : List ℕ
-  pub id : List ℕ
+  pub entries : ℕ
   pub from : Channels
   pub base : ℕ
   pub number : ℕ
@@ -71,6 +71,10 @@ farewells moment d = map (λ id. Leave id moment) (joined (ledger_of d))
 -- a document is open
 abbrev pub is_open : World → List ℕ → Bool
 is_open w name = list_any (bytes_eq name) w.opened
+
+-- as a script finds it: no document is open, no name is given, and no line was read
+abbrev pub first_world : FinMap byte_order Document → Held → World
+first_world documents store = record { documents = documents; opened = []; store = store; names = empty; moment = 0 }
 
 -- ---- what a step does
 

@@ -1,6 +1,7 @@
 //! Worked examples, each computed from the definitions.
 ghost use Rattle.fluid_transcript.specs.Examples.{NewDocument, TwoClients, Sweeps, Loads, GoesOn};
 ghost use Rattle.fluid_transcript.specs.LineExamples.{Forms, Hears, Collects, Edits, Refusals, Beyond, FirstUse};
+ghost use Rattle.fluid_transcript.specs.ScriptExamples.{SweepScript, ReopenScript, Last, Closes, LoadNames, Again, Pumps, Stores, Summarizes, Scribes};
 
 /// The steps of a document that is new.
 pub fn new_document()
@@ -52,4 +53,26 @@ pub fn refusals()
 /// A document's first use.
 pub fn first_use()
     ensures { FirstUse }
+{}
+
+/// Whole scripts.
+pub fn scripts()
+    ensures sweep { SweepScript }
+    ensures reopen { ReopenScript }
+    ensures last { Last }
+{}
+
+/// What single steps leave.
+pub fn single_steps()
+    ensures closes { Closes }
+    ensures load_names { LoadNames }
+    ensures again { Again }
+    ensures pumps { Pumps }
+    ensures stores { Stores }
+{}
+
+/// Steps that put objects.
+pub fn putting()
+    ensures summarizes { Summarizes }
+    ensures scribes { Scribes }
 {}

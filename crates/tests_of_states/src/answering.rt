@@ -354,11 +354,28 @@ const ANY_NUMBERS: &[Step] = &[
     ),
     Step::Ask(40, false, MISSING),
     Step::Ask(1, true, Told::Dropped),
-    Step::Take(0, "summarize", 0, "null"),
-    Step::Ask(40, false, MISSING),
     Step::Take(7, "summaryNack", -1, REFUSAL_OF_40),
     Step::Ask(40, false, Told::Dropped),
-    Step::Ask(0, true, MALFORMED),
+];
+
+// What lies outside any order counts for nothing in a scribe that is put together: a number 0, a reference ahead of its message.
+const OUTSIDE: &[Step] = &[
+    Step::Fresh,
+    Step::Take(0, "summarize", 0, PROPOSAL),
+    Step::Renew,
+    Step::NoJob,
+    Step::Ask(0, true, Told::Dropped),
+    Step::Take(3, "summarize", 4, PROPOSAL),
+    Step::Renew,
+    Step::NoJob,
+    Step::Ask(3, true, Told::Dropped),
+    Step::Take(5, "summarize", 4, PROPOSAL),
+    Step::Renew,
+    Step::Job(5, 4, EMPTY_TREE, true),
+    Step::Blob(
+        "attributes",
+        r#"{"minimumSequenceNumber":1,"sequenceNumber":4}"#,
+    ),
 ];
 
 #[test]
@@ -369,6 +386,7 @@ fn summaries_are_answered(rt: HostRuntime) {
     assert_steps(&rt, alloc, &mut scribe, NEXT_SUMMARIES);
     assert_steps(&rt, alloc, &mut scribe, LAST_SUMMARIES);
     assert_steps(&rt, alloc, &mut scribe, ANY_NUMBERS);
+    assert_steps(&rt, alloc, &mut scribe, OUTSIDE);
     assert!(rt; scribe.acks().is_empty());
     drop(scribe);
 }

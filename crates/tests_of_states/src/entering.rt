@@ -127,3 +127,44 @@ fn a_pending_summarize_is_answered_once(rt: HostRuntime) {
     assert!(rt; acknowledged(&rt, &core) == Some((version, 3)));
     drop(core);
 }
+
+// The numbers with which a core is put together behind the summarize at 2, which refers to 1; the minimum that it keeps then, and
+// what is pending.
+const AHEAD: &[(u64, u64, u64, Pending)] = &[
+    (2, 1, 1, Some((2, 1, true))),
+    (2, 3, 0, Some((2, 1, true))),
+    (1, 1, 1, None),
+];
+
+// Puts the core together again with these numbers.
+fn renumber(rt: &impl Abort, alloc: Global, core: &mut Core, sequence: u64, minimum: u64) {
+    let CoreParts { sequencer, scribe } = core.parts(alloc).expect(rt, "memory");
+    let mut sequencer = sequencer;
+    sequencer.sequence = sequence;
+    sequencer.minimum = minimum;
+    *core = Core::of_parts(sequencer, scribe);
+}
+
+fn assert_minimum(rt: &impl Abort, alloc: Global, core: &Core, wanted: u64) {
+    let parts = core.parts(alloc).expect(rt, "memory");
+    assert!(rt; parts.sequencer.minimum == wanted, "in place of {wanted}");
+    drop(parts);
+}
+
+#[test]
+fn what_is_ahead_of_the_order_counts_for_nothing(rt: HostRuntime) {
+    let alloc = rt.alloc();
+    for (sequence, minimum, kept, waits) in AHEAD {
+        let mut core = Core::new(alloc);
+        for (entry, wanted, _) in &STORY[..3] {
+            assert_entered(&rt, alloc, &mut core, entry, *wanted);
+        }
+        renumber(&rt, alloc, &mut core, *sequence, *minimum);
+        assert!(rt;
+            pending(&rt, alloc, &mut core) == *waits,
+            "{sequence}, {minimum}"
+        );
+        assert_minimum(&rt, alloc, &core, *kept);
+        drop(core);
+    }
+}

@@ -2,7 +2,7 @@ use Rattle.std.proofs.Common.{ap, ◌∙◌}
 use Rattle.std.proofs.lemmas.Result.{err_from_is_err_and}
 use Rattle.fluid_core.specs.Entering.{verdict_in}
 use Rattle.fluid_document.proofs.Levels.{verdict_prepared}
-use Rattle.fluid_document.proofs.Entering.{IsPrepared, enters_one, enters_none, enters_unread, enters_nowhere}
+use Rattle.fluid_document.proofs.Entering.{enters_one, enters_none, enters_unread, enters_nowhere}
 use Rattle.fluid_document.proofs.entry.enter.Goals as goal
 
 pub returns-in_err-record-clause-enters : goal.returns-in_err-record-clause-enters

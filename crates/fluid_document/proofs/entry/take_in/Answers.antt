@@ -1,6 +1,6 @@
-use Rattle.std.proofs.Common.{rules, ◌≡◌, ◌∙◌}
+use Rattle.std.proofs.Common.{◌∙◌}
 use Rattle.std.proofs.lemmas.Result.{err_from_is_err_and}
-use Rattle.fluid_document.proofs.Entering.{IsPrepared, enters_by, enters_nowhere}
+use Rattle.fluid_document.proofs.Entering.{enters_by, enters_nowhere}
 use Rattle.fluid_document.proofs.entry.take_in.Goals as goal
 
 pub returns-in_err-record : goal.returns-in_err-record

@@ -12,7 +12,7 @@ pub loop-place-preserved : goal.loop-place-preserved
 loop-place-preserved g c =
     let took = c.in_ok-take_next.ensures in
     has_folded_more _ (g.K.Keeper.seen c.loop-place.keeper) _ _ _ _ _ c.loop-place.invariant (omega (arith, c.if-place-ge-MOST.false)) (omega (arith, c.loop-place-test.true, c.len-end.ensures)) (g.K.Keeper.sized c.loop-place.keeper)
-    took.later took.reads took.puts took.reached took.takes
+    took.later took.reads took.puts took.reached took.early took.lacked took.takes
 
 pub returns-then-place-ge-MOST-clause-loaded : goal.returns-then-place-ge-MOST-clause-loaded
 returns-then-place-ge-MOST-clause-loaded g c =
@@ -51,3 +51,14 @@ pub returns-clause-kept : goal.returns-clause-kept
 returns-clause-kept g c = λ l stands.
     let has = c.loop-place.invariant in
     takes_all {A = Unit {0}} (λ _. c.loop-place.document) tt l c.loop-place.place (g.K.Keeper.seen c.loop-place.keeper) (omega (arith, c.loop-place-test.false, c.len-end.ensures, has.puts.kept.records)) (g.K.Keeper.sized c.loop-place.keeper) (has.stands l stands)
+
+pub returns-in_err-take_next-clause-lacked : goal.returns-in_err-take_next-clause-lacked
+returns-in_err-take_next-clause-lacked g c =
+    let has = c.loop-place.invariant in
+    omega (arith, has.early, has.lacked, c.in_err-take_next.ensures.lacked, c.loop-place-test.true, c.len-end.ensures)
+
+pub returns-then-place-ge-MOST-clause-lacked : goal.returns-then-place-ge-MOST-clause-lacked
+returns-then-place-ge-MOST-clause-lacked g c = omega (arith, c.loop-place.invariant.lacked, c.loop-place-test.true, c.len-end.ensures)
+
+pub returns-clause-lacked : goal.returns-clause-lacked
+returns-clause-lacked g c = omega (arith, c.loop-place.invariant.lacked, c.loop-place.auto.place-end, c.len-end.ensures)

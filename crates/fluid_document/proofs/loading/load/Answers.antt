@@ -1,10 +1,8 @@
-use Rattle.std.proofs.Common.{sym}
+use Rattle.std.proofs.Common.{sym, arith}
 use Rattle.std.proofs.lemmas.Result.{err_from_is_err_and}
 use Rattle.fluid_deltas.proofs.Telling.{tells_along}
-use Rattle.fluid_document.specs.Kept.{IsKept}
-use Rattle.fluid_document.specs.Taking.{StandsAt}
 use Rattle.fluid_document.proofs.Beginnings.{reads_behind, bad_behind}
-use Rattle.fluid_document.proofs.Progress.{puts_none, puts_both, cause_behind}
+use Rattle.fluid_document.proofs.Progress.{puts_none, puts_both}
 use Rattle.fluid_document.proofs.loading.load.Goals as goal
 
 pub returns-in_err-document-clause-puts : goal.returns-in_err-document-clause-puts
@@ -39,3 +37,15 @@ returns-in_err-fold_behind-clause-loaded g c =
     let e = err_from_is_err_and c.from_residual-in_err-fold_behind.result c.from_residual-in_err-fold_behind.ensures.1 in
     rw (e.1, e.2)
     (bad_behind _ c.args.from _ c.in_err-fold_behind.field-0.0 c.in_ok-document.ensures.begun (tells_along _ _ _ c.in_ok-document.ensures.same.content c.in_err-fold_behind.ensures.loaded))
+
+pub returns-in_err-document-clause-lacked : goal.returns-in_err-document-clause-lacked
+returns-in_err-document-clause-lacked g c = omega (arith, c.in_err-document.ensures.same.deltas)
+
+pub returns-in_err-fold_behind-clause-lacked : goal.returns-in_err-fold_behind-clause-lacked
+returns-in_err-fold_behind-clause-lacked g c = omega (arith, c.in_ok-document.ensures.same.deltas, c.in_ok-document.ensures.same.records, c.in_err-fold_behind.ensures.lacked)
+
+pub returns-clause-lacked : goal.returns-clause-lacked
+returns-clause-lacked g c = omega (arith, c.in_ok-document.ensures.same.deltas, c.in_ok-document.ensures.same.records, c.in_ok-fold_behind.ensures.lacked)
+
+pub returns-clause-early : goal.returns-clause-early
+returns-clause-early g c = omega (arith, c.in_ok-document.ensures.same.deltas, c.in_ok-fold_behind.ensures.early)

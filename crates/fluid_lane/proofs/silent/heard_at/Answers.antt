@@ -1,9 +1,10 @@
-use Rattle.std.proofs.Common.{sym}
-use Rattle.fluid_lane.proofs.Quiet.{id_there, row_absent}
+use Rattle.std.proofs.Common.{arith}
+use Rattle.fluid_lane.proofs.Quiet.{at_place, row_absent}
+use Rattle.fluid_lane.proofs.Ids.{length-keys}
 use Rattle.fluid_lane.proofs.silent.heard_at.Goals as goal
 
 pub unreachable-requires : goal.unreachable-requires
-unreachable-requires c = row_absent c.args.clients.now.rows c.in-Some.id.now c.args.place (sym c.in-Some.ensures) c.in-None-row.ensures
-
-pub unreachable-requires-in-None : goal.unreachable-requires-in-None
-unreachable-requires-in-None c = id_there c.args.clients.now.rows c.args.place c.requires c.in-None.ensures
+unreachable-requires c =
+    let rows = c.args.clients.now.rows in
+    let here = at_place _ c.args.place (omega (arith, c.requires, length-keys rows)) in
+    row_absent rows here.0 c.args.place here.1 (c.in-None.ensures here.0 here.1)

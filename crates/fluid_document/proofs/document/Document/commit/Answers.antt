@@ -1,4 +1,4 @@
-use Rattle.std.proofs.Common.{◌≡◌, sym, subst, ap, ◌∙◌}
+use Rattle.std.proofs.Common.{sym, subst, ◌∙◌}
 use Rattle.std.specs.List.{All}
 use Rattle.fluid_deltas.specs.Pushed.{IsKeepable}
 use Rattle.fluid_types.specs.Ledger.{messages_of}

@@ -45,6 +45,7 @@ returns-in-Ok-reload-clause-restarts g c =
     (sym (ap (λ u. u.keeping.records) c.self.view_is) ∙ c.self.invariant.level (ap (λ u. u.owed) c.self.view_is ∙ s.done) ∙ ap (λ u. u.entries.entered) c.self.view_is ∙ ap (λ e. e.entered) s.same.0)
     (r.whole.0 ∙ ap (λ e. e.entered) s.same.0, r.clients ∙ ap (λ e. keys e.state.sequencer.rows) s.same.0) (ap (λ u. u.owed) c.self-2.view_is ∙ r.level) r.loaded
     (subst (λ u. Tells c.settle.new.self.keeping.content (ReadsBehind (Some c.args.number) c.settle.new.self.keeping.records c.settle.new.self.keeping.reads u.keeping.reads)) (sym c.self-2.view_is) r.reads)
+    (omega (arith, r.early, ap (λ u. u.keeping.deltas) c.self-2.view_is)) (omega (arith, r.lacked, ap (λ u. u.keeping.deltas) c.self-2.view_is))
 
 pub returns-in-Err-reload-clause-never : goal.returns-in-Err-reload-clause-never
 returns-in-Err-reload-clause-never g c = λ l h.

@@ -10,20 +10,20 @@ answered false found held none is = inr (ap Ok is)
 
 pub returns-in_default-clause-gets : goal.returns-in_default-clause-gets
 returns-in_default-clause-gets c =
-    let found = c.in_default.ensures.value ∙ held_at _ c.self.invariant c.args.id.now in
+    let found = c.in_default.ensures.value ∙ held_at _ c.self.invariant.0 c.args.id.now in
     rw (← c.self.view_is) (record { content = refl; gets = search rules; later = c.fails.ensures.later; says = found })
 
 pub returns-in_default-clause-exact : goal.returns-in_default-clause-exact
 returns-in_default-clause-exact c =
-    let found = c.in_default.ensures.value ∙ held_at _ c.self.invariant c.args.id.now in
+    let found = c.in_default.ensures.value ∙ held_at _ c.self.invariant.0 c.args.id.now in
     rw (← c.self.view_is) (record { held = refl; gets = search rules; plan = c.fails.ensures.after; answer = answered _ _ _ c.if-fails.ensures.answer found })
 
 pub returns-clause-gets : goal.returns-clause-gets
 returns-clause-gets c =
-    let found = ap Some c.in_ok-copy.ensures ∙ c.in-Some.ensures.value ∙ held_at _ c.self.invariant c.args.id.now in
+    let found = ap Some c.in_ok-copy.ensures ∙ c.in-Some.ensures.value ∙ held_at _ c.self.invariant.0 c.args.id.now in
     rw (← c.self.view_is) (record { content = refl; gets = search rules; later = c.fails.ensures.later; says = found })
 
 pub returns-clause-exact : goal.returns-clause-exact
 returns-clause-exact c =
-    let found = ap Some c.in_ok-copy.ensures ∙ c.in-Some.ensures.value ∙ held_at _ c.self.invariant c.args.id.now in
+    let found = ap Some c.in_ok-copy.ensures ∙ c.in-Some.ensures.value ∙ held_at _ c.self.invariant.0 c.args.id.now in
     rw (← c.self.view_is) (record { held = refl; gets = search rules; plan = c.fails.ensures.after; answer = answered _ _ _ c.if-fails.ensures.answer found })

@@ -1,0 +1,75 @@
+-- What a door's call makes of a pass, from what its parts say.
+use Rattle.std.proofs.Common.{◌≡◌, ℕ, suc, ◌+◌, ◌≤◌, Bool, List, [], ◌∷◌, ◌++◌, length, is_some, Option, Some, None, Result, Ok, Err, refl, sym, ap, subst, ◌∙◌, append-nil, arith}
+use Rattle.std.specs.Prelude.{IfOk}
+use Rattle.fluid_types.specs.declared.entries.Raw.{Raw}
+use Rattle.fluid_types.specs.declared.entries.Scopes.{Scopes}
+use Rattle.fluid_types.specs.declared.messages.Message.{Message}
+use Rattle.fluid_types.specs.declared.verdicts.Verdict.TheVariants.{Sequenced}
+use Rattle.fluid_json.specs.Tree.{Tree}
+use Rattle.fluid_rules.specs.declared.limits.Limits.{Limits}
+use Rattle.fluid_turn.specs.declared.view.Numbered.{Numbered}
+use Rattle.fluid_turn.specs.Entries.{IsPrefix, entries}
+use Rattle.fluid_turn.specs.Seats.{seeing}
+use Rattle.fluid_document.specs.Entries.{most}
+use Rattle.fluid_lane.specs.declared.fault.LaneFault.{LaneFault}
+use Rattle.fluid_lane.specs.declared.steps.Step.{Step}
+use Rattle.fluid_lane.specs.declared.steps.Step.TheVariants.{Entered}
+use Rattle.fluid_lane.specs.Standing.{Standing, LaneStands, Goes}
+use Rattle.fluid_lane.specs.Steps.{steps_of, joined_by, swept_by}
+use Rattle.fluid_doors.specs.declared.bench.Terms.{Terms}
+use Rattle.fluid_doors.specs.Passing.{APass, adding, Grows, Continues}
+use Rattle.fluid_doors.specs.Entering.{joined_as, swept_as, with_id, with_left, verdict_left, IsJoinOf, IsLeaveAt}
+
+-- ---- the bench
+
+abbrev terms : Limits → ℕ → Bool → Terms
+terms limits opened told = record { limits = limits; opened = opened; told = told }
+
+pub continues : (old new : Standing) (added : List Step) → Goes old new added → Continues old new added
+continues old new added goes = record {
+  terms =
+      ap (λ x. terms x new.opened (is_some new.keeping.content)) goes.limits
+      ∙ ap (λ x. terms old.limits x (is_some new.keeping.content)) goes.opened
+      ∙ ap (λ x. terms old.limits old.opened x) goes.told;
+  list = goes.list;
+}
+
+pub continues_same : (s : Standing) → Continues s s []
+continues_same s = record { terms = refl; list = λ l stands. subst (LaneStands s) (sym (append-nil l)) stands }
+
+-- ---- the pass
+
+entries_length : (l : List (Numbered Step)) → length (entries l) ≡ length l
+entries_length [] = refl
+entries_length (x ∷ xs) = ap suc (entries_length xs)
+
+-- the list that a pass has seen is no longer than the steps for which a lane stands
+pub few_seen : (s : Standing) (l : List (Numbered Step)) → LaneStands s (entries l) → s.entries.entered + s.sides ≤ most → length l ≤ most
+few_seen s l stands few = let e = stands.number in let n = entries_length l in omega (arith, e, n, few)
+
+pub grows_by : (p q seat : APass) (list : List (Numbered Step)) (added : List Step) (holds : List Step → Type 0) → seat ≡ seeing list p → q ≡ adding added seat → length q.seen ≤ most → IsPrefix p.seen list → holds (entries list) → Grows p q added holds
+grows_by p q seat list added holds saw is few begins says =
+    let same : q ≡ adding added (seeing list p) = is ∙ ap (adding added) saw in record {
+      turn = ap (λ k. k.turn) same;
+      number = ap (λ k. k.number) same;
+      before = list;
+      begins = begins;
+      seen = ap (λ k. k.seen) same;
+      mine = ap (λ k. k.mine) same;
+      few = few;
+      says = says;
+    }
+
+pub adding_none : (k : APass) → k ≡ adding [] k
+adding_none k = ap (λ l. record k { seen = l }) (sym (append-nil k.seen)) ∙ ap (λ m. record k { seen = k.seen ++ []; mine = m }) (sym (append-nil k.mine))
+
+-- ---- steps by the answer
+
+pub joined_steps : (scopes : Scopes) (detail : Tree) (moment : ℕ) (result : Result (Raw × Message) LaneFault) → IfOk result (IsJoinOf scopes detail moment) → steps_of joined_by result ≡ steps_of (joined_as scopes detail moment) (with_id result)
+joined_steps scopes detail moment (Ok (raw, message)) join = ap (λ r. Entered r (Sequenced message) ∷ []) join
+joined_steps scopes detail moment (Err fault) join = refl
+
+pub swept_steps : (moment : ℕ) (result : Result (Option (Raw × Message)) LaneFault) → IfOk result (IsLeaveAt moment) → steps_of swept_by result ≡ steps_of (swept_as moment (verdict_left result)) (with_left result)
+swept_steps moment (Ok None) leave = refl
+swept_steps moment (Ok (Some (raw, message))) leave = ap (λ r. Entered r (Sequenced message) ∷ []) leave
+swept_steps moment (Err fault) leave = refl

@@ -1,0 +1,5 @@
+use Rattle.fluid_doors.proofs.Answering.{legal_seen}
+use Rattle.fluid_doors.proofs.laws.know.Goals as goal
+
+pub returns-clause-legal : goal.returns-clause-legal
+returns-clause-legal g c = λ told. let s = c.know.ensures.history.stood in legal_seen _ _ _ c.lanes_say_their_ledgers.ensures.says s.1.0 s.1.1 told

@@ -1,0 +1,38 @@
+-- Messages that a reader gets.
+use Rattle.std.specs.Prelude.{◌≡◌, ⊤, ℕ, ◌+◌, ◌-◌, min, true, List, length, Result, IfOk, IfErr}
+use Rattle.fluid_types.specs.Ledger.{order}
+use Rattle.fluid_types.specs.declared.messages.Message.{Message}
+use Rattle.fluid_rules.specs.Rules.{IsLegal}
+use Rattle.fluid_deltas.specs.Pushed.{slice}
+use Rattle.fluid_deltas.specs.declared.fault.DeltaFault.{DeltaFault}
+use Rattle.fluid_deltas.specs.declared.fault.DeltaFault.TheVariants.{DeltaFailed, NoMemory, BadDelta, Worn}
+use Rattle.fluid_lane.specs.declared.steps.Step.{Step}
+use Rattle.fluid_lane.specs.Steps.{ledger}
+use Rattle.fluid_doors.specs.declared.bench.Terms.{Terms}
+use Rattle.fluid_doors.specs.Answers.{is_worn_behind}
+
+-- the messages from the number `next` on, at most so many; none where the order ends before it
+abbrev pub batch : (next atmost : ℕ) → List Message → List Message
+batch next atmost order = slice order next (next + min atmost (length order + 1 - next))
+
+-- the keeper failed, memory was wanting, or the document is worn
+abbrev pub IsReadFault : DeltaFault → Type 0
+IsReadFault (DeltaFailed note) = ⊤
+IsReadFault NoMemory = ⊤
+IsReadFault (BadDelta number) = ⊥
+IsReadFault Worn = ⊤
+
+abbrev pub IsWornDelta : DeltaFault → Type 0
+IsWornDelta Worn = ⊤
+IsWornDelta other = ⊥
+
+pub record CollectsTold {V : Type 0} (messages : V → List Message) (next atmost : ℕ) (result : Result V DeltaFault) (l : List Step) : Type 0 where
+  pub legal : IsLegal (ledger l)
+  pub given : IfOk result (λ v. messages v ≡ batch next atmost (order (ledger l)))
+  -- a delta is never bad
+  pub faults : IfErr result IsReadFault
+
+-- the next messages of the ledger's order. Worn comes only where the list is as long as may be
+pub record Collects {V : Type 0} (messages : V → List Message) (t : Terms) (next atmost : ℕ) (result : Result V DeltaFault) (l : List Step) : Type 0 where
+  pub worn : IfErr result (λ fault. IsWornDelta fault → is_worn_behind l ≡ true)
+  pub told : t.told ≡ true → CollectsTold messages next atmost result l

@@ -1,0 +1,135 @@
+//! What is done to a document by whoever has its lane in hand. Each clause speaks of every list of steps for which the lane stands.
+ghost use Rattle.std.specs.Prelude.{◌≡◌, ℕ, ◌<◌, ◌≤◌, List, IfOk, IfSome};
+ghost use Rattle.fluid_types.specs.Fits.{Fits};
+ghost use Rattle.fluid_types.specs.Names.{entry_name};
+ghost use Rattle.fluid_document.specs.Entries.{most};
+ghost use Rattle.fluid_core.specs.Entering.{IsUpTo};
+ghost use Rattle.fluid_lane.specs.declared.steps.Step.{Step as AStep};
+ghost use Rattle.fluid_lane.specs.Steps.{steps_of, range_steps, entered_by, joined_by, stored_by, restarted_by, swept_by};
+ghost use Rattle.fluid_lane.specs.Standing.{LaneStands, IsLeaveOrSubmission};
+ghost use Rattle.fluid_doors.specs.Terms.{terms_of};
+ghost use Rattle.fluid_doors.specs.Passing.{Continues};
+ghost use Rattle.fluid_doors.specs.Entering.{Submits, Joins, Reports, Sweeps, IsJoinOf, IsLeaveAt, with_id, with_left, verdict_left};
+ghost use Rattle.fluid_doors.specs.Storing.{Checkpoints, Restarts};
+ghost use Rattle.fluid_doors.specs.Collecting.{Collects};
+ghost use Rattle.fluid_doors.specs.Scribing.{IsJobOf};
+
+use crate::bench::Bench;
+use fluid_cast::Cursor;
+use fluid_deltas::DeltaFault;
+use fluid_json::{Json, NoMemory};
+use fluid_lane::{LaneFault, lanes_say_their_ledgers};
+use fluid_log::Keeper;
+use fluid_scribe::Job;
+use fluid_types::{Message, Raw, Scopes, Verdict};
+use std::alloc::Global;
+
+impl<K: Keeper> Bench<K> {
+    /// Enters a leave or a submission.
+    pub fn submit(&mut self, alloc: Global, raw: &Raw) -> Result<Verdict, LaneFault>
+        requires fits { Fits raw.now }
+        requires kind { IsLeaveOrSubmission raw.now }
+        ensures goes { Continues self.old.lane self.new.lane (steps_of (entered_by raw.now) result) }
+        ensures says { (l : List AStep) → LaneStands self.old.lane l → Submits (terms_of self.old.lane) raw.now result l }
+    {
+        lanes_say_their_ledgers();
+        self.lane.submit(alloc, raw)
+    }
+
+    /// Enters a join under the id `c` and the number of the entry.
+    pub fn join(
+        &mut self,
+        alloc: Global,
+        scopes: Scopes,
+        detail: Json,
+        moment: u64,
+    ) -> Result<(Raw, Message), LaneFault>
+        requires fits { (n : ℕ) → n ≤ most → Fits (Raw.Join (entry_name n) scopes detail moment) }
+        ensures goes { Continues self.old.lane self.new.lane (steps_of joined_by result) }
+        ensures raw { IfOk result (IsJoinOf scopes detail moment) }
+        ensures says { (l : List AStep) → LaneStands self.old.lane l → Joins (terms_of self.old.lane) scopes detail moment (with_id result) l }
+    {
+        lanes_say_their_ledgers();
+        let _number = self.lane.entered();
+        self.lane.join(alloc, scopes, detail, moment)
+    }
+
+    /// Enters a report on the summarize of this number.
+    pub fn conclude(
+        &mut self,
+        alloc: Global,
+        summary: u64,
+        found: bool,
+        moment: u64,
+    ) -> Result<Verdict, LaneFault>
+        requires fits { Fits (Raw.Report summary found moment) }
+        ensures goes { Continues self.old.lane self.new.lane (steps_of (entered_by (Raw.Report summary found moment)) result) }
+        ensures says { (l : List AStep) → LaneStands self.old.lane l → Reports (terms_of self.old.lane) (Raw.Report summary found moment) result l }
+    {
+        lanes_say_their_ledgers();
+        self.lane.conclude(alloc, summary, found, moment)
+    }
+
+    /// Enters a leave for the first client in byte order of ids that was last heard of more than `silence` before this moment.
+    pub fn sweep(
+        &mut self,
+        alloc: Global,
+        moment: u64,
+        silence: u64,
+    ) -> Result<Option<(Raw, Message)>, LaneFault>
+        requires moment { moment ≤ most }
+        ensures goes { Continues self.old.lane self.new.lane (steps_of swept_by result) }
+        ensures raw { IfOk result (IsLeaveAt moment) }
+        ensures says { (l : List AStep) → LaneStands self.old.lane l → Sweeps (terms_of self.old.lane) moment silence (verdict_left result) (with_left result) l }
+    {
+        lanes_say_their_ledgers();
+        self.lane.sweep(alloc, moment, silence)
+    }
+
+    /// What is to be done about the pending summarize. Nothing is entered.
+    pub fn job(&mut self, alloc: Global) -> Result<Option<Job>, NoMemory>
+        ensures same { self.new.lane ≡ self.old.lane }
+        ensures number { IfOk result (λ given. IfSome given (λ job. IsUpTo most job.summary)) }
+        ensures says { (l : List AStep) → LaneStands self.old.lane l → IfOk result (λ given. IsJobOf (terms_of self.old.lane) given l) }
+    {
+        lanes_say_their_ledgers();
+        self.lane.job(alloc)
+    }
+
+    /// The next messages of a cursor, at most so many.
+    pub fn collect(
+        &mut self,
+        alloc: Global,
+        cursor: &Cursor,
+        most: u64,
+    ) -> Result<Vec<Message>, DeltaFault>
+        requires first { 0 < cursor.now.next }
+        ensures goes { Continues self.old.lane self.new.lane (range_steps result) }
+        ensures says { (l : List AStep) → LaneStands self.old.lane l → Collects (λ v. v.items) (terms_of self.old.lane) cursor.now.next most result l }
+    {
+        lanes_say_their_ledgers();
+        let range = cursor.batch(self.lane.seq(), most);
+        if range.start >= range.end {
+            return Ok(Vec::new(alloc));
+        }
+        self.lane.range(alloc, range.start, range.end)
+    }
+
+    /// Stores a checkpoint, whose number it gives.
+    pub fn checkpoint(&mut self, alloc: Global) -> Result<u64, LaneFault>
+        ensures goes { Continues self.old.lane self.new.lane (steps_of stored_by result) }
+        ensures says { (l : List AStep) → LaneStands self.old.lane l → Checkpoints (terms_of self.old.lane) result l }
+    {
+        lanes_say_their_ledgers();
+        self.lane.checkpoint(alloc)
+    }
+
+    /// Builds the lane's state anew from the checkpoint of this number.
+    pub fn restart(&mut self, alloc: Global, number: u64) -> Result<(), LaneFault>
+        ensures goes { Continues self.old.lane self.new.lane (steps_of (restarted_by number) result) }
+        ensures says { (l : List AStep) → LaneStands self.old.lane l → Restarts (terms_of self.old.lane) number result l }
+    {
+        lanes_say_their_ledgers();
+        self.lane.restart(alloc, number)
+    }
+}
