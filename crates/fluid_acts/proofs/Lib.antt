@@ -1,0 +1,5 @@
+pub mod Putting
+pub mod Limited
+pub mod Entering
+pub mod Reading
+pub mod Arms

@@ -1,0 +1,66 @@
+//! Why an act of a connection fails.
+ghost use Rattle.std.specs.Prelude.{◌≡◌};
+ghost use Rattle.fluid_acts.specs.declared.fault.TalkFault.TheVariants.{NoMemory as TalkNoMemory};
+ghost use Rattle.fluid_acts.specs.Faults.{of_delta, of_door, of_store};
+
+use fluid_deltas::DeltaFault;
+use fluid_json::NoMemory;
+use fluid_lane::LaneFault;
+use fluid_opening::DoorFault;
+use fluid_store::StoreFault;
+
+/// Why an act of a connection fails. That a document is full, or has too many clients, is no fault but an end of the act.
+#[derive(Drop)]
+pub enum TalkFault {
+    /// The document wasn't opened.
+    Door(DoorFault),
+    /// The document's lane failed at an entry.
+    Lane(LaneFault),
+    /// The document's messages weren't given.
+    Delta(DeltaFault),
+    /// The store failed, or holds other bytes under an object's id.
+    Store(StoreFault),
+    /// Whatever lacked it.
+    NoMemory,
+}
+
+impl From<NoMemory> for TalkFault {
+    ghost from_gives = { λ _ fault. fault ≡ TalkNoMemory };
+
+    fn from(_refused: NoMemory) -> TalkFault {
+        TalkFault::NoMemory
+    }
+}
+
+impl From<DoorFault> for TalkFault {
+    ghost from_gives = { λ door fault. fault ≡ of_door door };
+
+    fn from(fault: DoorFault) -> TalkFault {
+        match fault {
+            DoorFault::NoMemory => TalkFault::NoMemory,
+            other => TalkFault::Door(other),
+        }
+    }
+}
+
+impl From<DeltaFault> for TalkFault {
+    ghost from_gives = { λ delta fault. fault ≡ of_delta delta };
+
+    fn from(fault: DeltaFault) -> TalkFault {
+        match fault {
+            DeltaFault::NoMemory => TalkFault::NoMemory,
+            other => TalkFault::Delta(other),
+        }
+    }
+}
+
+impl From<StoreFault> for TalkFault {
+    ghost from_gives = { λ store fault. fault ≡ of_store store };
+
+    fn from(fault: StoreFault) -> TalkFault {
+        match fault {
+            StoreFault::NoMemory => TalkFault::NoMemory,
+            other => TalkFault::Store(other),
+        }
+    }
+}

@@ -1,0 +1,14 @@
+//! What a connection's acts do: an act is one call on a lane or on the store of objects.
+//!
+//! Its end is the one that the document's ledger and the store give it (`fluid_voice`'s `outcome`), or the fault of that call.
+//!
+//! - `doing`: `do_act`. `asking`: the acts that enter nothing. `fault`: why an act fails.
+#![tactic(auto)]
+
+mod asking;
+mod doing;
+mod fault;
+
+pub use asking::{get_object, put_object};
+pub use doing::do_act;
+pub use fault::TalkFault;
