@@ -78,6 +78,15 @@ def records(clients, operations, contents, numbered=False):
     return path
 
 
+def summaries(records, waiting):
+    """A file of raw records with summaries, of which so many wait for their reports, written anew."""
+    OUT.mkdir(exist_ok=True)
+    path = OUT / f"summaries-{records}-records-{waiting}-waiting.jsonl"
+    with path.open("wb") as out:
+        subprocess.run([TOP / "bench" / "summaries", "--records", str(records), "--waiting", str(waiting)], stdout=out, check=True)
+    return path
+
+
 def run(program, source, written):
     """Runs a program once over the file `source`; what it writes goes to the file `written`.
 
@@ -89,12 +98,12 @@ def run(program, source, written):
     return Run(float(user) + float(system), int(kilobytes) * 1024)
 
 
-def peak(program, clients, operations, contents, behind, trees=False):
-    """The most memory, in bytes, that a program holds over records that come by a pipe, since they may be many."""
+def peak(program, *words):
+    """The most memory, in bytes, that a program holds over records that come by a pipe from one of the generators, since they
+    may be many."""
     figures = OUT / "figures"
     OUT.mkdir(exist_ok=True)
-    words = [TOP / "bench" / "records", "--clients", str(clients), "--operations", str(operations), "--contents", str(contents),
-             "--behind", str(behind), *(["--trees"] if trees else [])]
+    words = [TOP / "bench" / words[0], *[str(word) for word in words[1:]]]
     with subprocess.Popen(words, stdout=subprocess.PIPE) as source:
         subprocess.run(["/usr/bin/time", "-f", "%M", "-o", figures, *program.words], stdin=source.stdout,
                        stdout=subprocess.DEVNULL, check=True)

@@ -1,11 +1,15 @@
 //! The sequencer of `fluidd sequence`, written by hand in plain Rust over serde_json: raw records of one document
 //! on standard input, one verdict line for each on standard output. It is what the proved program is measured against,
-//! and an independent reading of the same rules: both must write the same bytes.
+//! and an independent reading of the same rules: both must write the same bytes. `scribe` answers reports; `sha1` has ids.
 //!
 //! It is tuned: lines are found by memchr and read where they stand in the input's buffer, members are taken out of an object
 //! in one pass, ids are hashed by few steps, and output goes straight into one buffer.
+mod scribe;
+mod sha1;
+
 use memchr::memchr;
-use serde_json::{Map, Value};
+use scribe::{Answer, Heard, Scribe};
+use serde_json::{Map, Value, json};
 use std::collections::{BTreeMap, HashMap};
 use std::hash::{BuildHasherDefault, Hasher};
 use std::io::{self, BufRead, BufReader, Write};
@@ -41,7 +45,7 @@ enum Raw {
     Join { id: String, scopes: Scopes, detail: Value, moment: i64 },
     Leave { id: String, moment: i64 },
     Submit { id: String, submission: Submission, moment: i64 },
-    Report,
+    Report { summary: i64, found: bool, moment: i64 },
 }
 
 struct Row {
@@ -359,15 +363,37 @@ fn read(line: &str) -> Result<Raw, Why> {
             Ok(Raw::Submit { id, submission, moment })
         }
         "report" => {
-            match present(found, "found")? {
-                Value::Bool(_) => {}
+            let found = match present(found, "found")? {
+                Value::Bool(found) => found,
                 _ => return Err(fault("found", "not a truth value")),
-            }
-            whole(moment, "moment", 0)?;
-            whole(summary, "summary", 1)?;
-            Ok(Raw::Report)
+            };
+            let moment = whole(moment, "moment", 0)?;
+            let summary = whole(summary, "summary", 1)?;
+            Ok(Raw::Report { summary, found, moment })
         }
         _ => Err(fault("raw", "not allowed")),
+    }
+}
+
+/// The value for which contents stand: where they are a text that is JSON of this profile, that which it spells.
+fn body(contents: Value) -> Value {
+    match &contents {
+        Value::String(text) if !too_deep(text) => match serde_json::from_str(text) {
+            Ok(value) if all_whole(&value) => value,
+            _ => contents,
+        },
+        _ => contents,
+    }
+}
+
+/// What the order's state hears of a propose.
+fn proposed(contents: Value) -> Option<Heard> {
+    let Value::Object(object) = body(contents) else {
+        return None;
+    };
+    match open(object, ["key", "value"]) {
+        [Some(Value::String(key)), Some(value)] => Some(Heard::Propose { key, value }),
+        _ => None,
     }
 }
 
@@ -379,6 +405,7 @@ struct Document {
     last_minimum: u64,
     counted: u64,
     clients: Clients,
+    scribe: Scribe,
 }
 
 impl Document {
@@ -388,7 +415,7 @@ impl Document {
 
     fn enter(&mut self, raw: Raw, out: &mut Out) -> Result<(), Why> {
         match raw {
-            Raw::Report => return Err("not a record".into()),
+            Raw::Report { summary, found, moment } => self.report(summary as u64, found, moment, out),
             Raw::Join { .. } | Raw::Submit { .. } if self.counted >= ENTRIES => {
                 return Err("document is full".into())
             }
@@ -406,9 +433,10 @@ impl Document {
                 let data = format!("{{\"clientId\":\"{id}\",\"detail\":{detail}}}");
                 self.clients.put(self.minimum);
                 let row = Row { last: 0, reference: self.minimum, nacked: false, scopes };
-                self.clients.rows.insert(id, row);
+                self.clients.rows.insert(id.clone(), row);
                 self.minimum = self.minimum_now();
-                self.system(out, data, moment, "join");
+                self.scribe.hear(self.number, self.minimum, Some(Heard::Join { id, detail }));
+                self.system(out, &Value::Null, Some(data), moment, "join");
             }
             Raw::Leave { id, moment } => {
                 let Some(row) = self.clients.rows.remove(&id) else {
@@ -419,7 +447,8 @@ impl Document {
                 self.number += 1;
                 self.minimum = self.minimum_now();
                 let data = format!("\"{id}\"");
-                self.system(out, data, moment, "leave");
+                self.scribe.hear(self.number, self.minimum, Some(Heard::Leave { id }));
+                self.system(out, &Value::Null, Some(data), moment, "leave");
             }
             Raw::Submit { id, submission, moment } => {
                 self.counted += 1;
@@ -429,13 +458,26 @@ impl Document {
         Ok(())
     }
 
-    fn system(&mut self, out: &mut Out, data: String, timestamp: i64, kind: &'static str) {
+    fn report(&mut self, summary: u64, found: bool, moment: i64, out: &mut Out) {
+        let proposal = json!({"summarySequenceNumber": summary});
+        let (contents, kind) = match self.scribe.answer(summary, found) {
+            Answer::Dropped => return out.put(DROPPED),
+            Answer::Ack(handle) => (json!({"handle": handle, "summaryProposal": proposal}), "summaryAck"),
+            Answer::Refused(text) => (json!({"code": 400, "message": text, "summaryProposal": proposal}), "summaryNack"),
+        };
+        self.number += 1;
+        self.minimum = self.minimum_now();
+        self.scribe.hear(self.number, self.minimum, None);
+        self.system(out, &contents, None, moment, kind);
+    }
+
+    fn system(&mut self, out: &mut Out, contents: &Value, data: Option<String>, timestamp: i64, kind: &'static str) {
         self.last_minimum = self.minimum;
         let message = Message {
             client: None,
             client_number: -1,
-            contents: &Value::Null,
-            data: Some(data),
+            contents,
+            data,
             metadata: None,
             minimum: self.minimum,
             reference: -1,
@@ -509,7 +551,13 @@ impl Document {
                     timestamp: moment,
                     kind: operation.kind,
                 };
-                return out.sequenced(&message);
+                out.sequenced(&message);
+                let (number, minimum) = (self.number, self.minimum);
+                return match operation.kind {
+                    "summarize" => self.scribe.wait(number, reference, minimum, operation.contents),
+                    "propose" => self.scribe.hear(number, minimum, proposed(operation.contents)),
+                    _ => self.scribe.hear(number, minimum, None),
+                };
             }
         };
         out.nacked(&id, (code, kind, message), &operation, minimum);

@@ -329,8 +329,9 @@ records_are_read_back r h = read_back raw_record (raw_tree r) r (raw_nested r h)
 pub short_records_fit : ShortRecordsFit
 short_records_fit r h k = record { short = k; read_back = records_are_read_back r h }
 
+pub message_is : (m : Message) → IsMessage m → message field.Message (message_tree m) ≡ Ok m
+message_is m h =
+    message_read field.Message (message_tree m) m (message_spelled_by m.client m.client_number m.reference m.number m.minimum m.kind m.contents m.system m.metadata m.moment h)
+
 pub messages_are_read_back : MessagesAreReadBack
-messages_are_read_back m h =
-    read_back (message field.Message) (message_tree m) m (message_nested m h)
-    (message_read field.Message (message_tree m) m (
-    message_spelled_by m.client m.client_number m.reference m.number m.minimum m.kind m.contents m.system m.metadata m.moment h))
+messages_are_read_back m h = read_back (message field.Message) (message_tree m) m (message_nested m h) (message_is m h)

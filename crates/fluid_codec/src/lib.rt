@@ -21,7 +21,7 @@ mod verdicts;
 pub use events::{Asked, Event, read_event};
 pub use fluid_types::{Messages, Submissions};
 pub use laws::{answers_are_spelled, printed_is_read_back};
-pub use messages::{print_message, read_message};
+pub use messages::{message_of, print_message, read_message};
 pub use names::{EventName, Mode};
 pub use records::{print_raw, read_raw};
 pub use replies::{Reply, print_event};

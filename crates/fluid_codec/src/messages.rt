@@ -2,6 +2,7 @@ ghost use Rattle.std.specs.Prelude.{◌≡◌, ◌++◌, Ok, Err, IfOk, OnOk};
 ghost use Rattle.fluid_json.specs.Unless.{IsUnless};
 ghost use Rattle.fluid_types.specs.Messages.{message_spelled, message};
 ghost use Rattle.fluid_types.specs.Printed.{message_printed};
+ghost use Rattle.fluid_types.specs.declared.fault.Field.TheVariants as field;
 ghost use Rattle.fluid_codec.specs.Rows.{rows_tokens};
 ghost use Rattle.fluid_codec.specs.Parts.{first_rows, last_rows};
 
@@ -19,8 +20,15 @@ pub fn read_message(alloc: Global, text: &str) -> Result<Message, CodecFault>
     ensures { IsUnless CodecFault.NoMemory result (message_spelled text.now) }
 {
     let value = read_value(alloc, text)?;
-    let message = message(alloc, value, Field::Message)?;
+    let message = message_of(alloc, value)?;
     Ok(message)
+}
+
+/// The message that a value is, however deep the value.
+pub fn message_of(alloc: Global, value: Json) -> Result<Message, CodecFault>
+    ensures { IsUnless CodecFault.NoMemory result (message field.Message value) }
+{
+    message(alloc, value, Field::Message)
 }
 
 #[tactic(auto, unfolding(fluid_types::specs::Messages::message))]

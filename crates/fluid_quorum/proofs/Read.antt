@@ -20,7 +20,7 @@ use Rattle.fluid_types.specs.Blobs.{blob_text, attributes_tree, member_tree, pro
 use Rattle.fluid_quorum.specs.declared.accepting.KeyValue.{KeyValue}
 use Rattle.fluid_quorum.specs.Lists.{members_of, values_of}
 use Rattle.fluid_quorum.specs.Reading.{text_in, said_by, attributes_form, member_form, members_form, proposals_form, value_form, values_form, each, attributes_in, members_in, proposals_in, values_in, or_bad, answer}
-use Rattle.fluid_quorum.specs.Laws.{IsOnlyBlobs}
+use Rattle.fluid_quorum.specs.Laws.{IsOnlyBlobs, AreAttributes}
 use Rattle.fluid_quorum.proofs.Sorted.{its_own}
 
 same_if : {A : Type 0} (b : Bool) (P : Type 0) (a c : A) → (b ≡ true → P) → cond b (Some a) None ≡ Some c → P × (a ≡ c)
@@ -125,3 +125,12 @@ only_blobs t q is =
     let values = in_blob (values_form one.0.1) (λ vs. list_tree value_tree (pairs_of (λ v. v.key) (λ v. v.accepted) vs)) (text_in t blob.Values) four.0 four.1.0 in
     subst (λ r. (b : QuorumBlob) → text_in t b ≡ Some (blob_text r b)) made (λ b. by_blob t one.0 two.0 three.0 four.0 attributes.0 members.0 proposals.0 values.0
     (members_ordered one.0.1 (as_trees members.1.0) two.0 members.1.1) (values_ordered one.0.1 (as_trees values.1.0) four.0 values.1.1) b)
+
+pub attributes_said : AreAttributes
+unfolding answer
+attributes_said t q is =
+    let one = there (attributes_in t) blob.Attributes _ q is in
+    let two = there (members_in one.0.1 t) blob.Members _ q one.1.1 in
+    let three = there (proposals_in one.0.1 t) blob.Proposals _ q two.1.1 in
+    let four = there (values_in one.0.1 t) blob.Values _ q three.1.1 in
+    one.1.0 ∙ ap (λ (r : Quorum). Some (r.minimum, r.number)) (own _ q four.1.1)

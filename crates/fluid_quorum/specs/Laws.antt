@@ -9,7 +9,7 @@ use Rattle.fluid_quorum.specs.Stored.{of_parts, IsStored}
 use Rattle.fluid_quorum.specs.declared.accepting.KeyValue.{KeyValue}
 use Rattle.fluid_types.specs.declared.quorum.Member.{Member}
 use Rattle.fluid_types.specs.declared.quorum.Proposal.{Proposal}
-use Rattle.fluid_quorum.specs.Reading.{text_in, answer}
+use Rattle.fluid_quorum.specs.Reading.{text_in, attributes_in, answer}
 use Rattle.fluid_types.specs.Quorum.{Quorum, quorum_of}
 use Rattle.fluid_quorum.specs.Order.{AreFirst}
 use Rattle.fluid_quorum.specs.After.{after}
@@ -21,6 +21,10 @@ GoesOn = (ms : List Message) (m : Message) → AreFirst ms → quorum_of (ms ++ 
 -- a tree that is read as a quorum has the four texts of this quorum, byte for byte
 abbrev pub IsOnlyBlobs : Type 0
 IsOnlyBlobs = (t : Summary) (q : Quorum) → answer t ≡ Ok q → (b : QuorumBlob) → text_in t b ≡ Some (blob_text q b)
+
+-- a tree that is read as a quorum has attributes that say the numbers of this quorum
+abbrev pub AreAttributes : Type 0
+AreAttributes = (t : Summary) (q : Quorum) → answer t ≡ Ok q → attributes_in t ≡ Some (q.minimum, q.number)
 
 -- what is written of a quorum is read back as the quorum
 abbrev pub AreReadBack : Type 0

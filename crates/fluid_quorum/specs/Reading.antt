@@ -1,6 +1,6 @@
 -- The quorum that the four blobs of a tree say, or the first of them that is missing or outside its form. A blob is in its
 -- form where its text is the one that is printed for what it says.
-use Rattle.std.specs.Prelude.{ℕ, ℤ, pos, negsuc, ◌==◌, nat_le, ◌&&◌, List, [], ◌∷◌, map, Option, Some, None, option_and_then, Result, Ok, Err, if◌then◌else◌, bytes_eq}
+use Rattle.std.specs.Prelude.{ℕ, ℤ, pos, negsuc, ◌==◌, nat_le, ◌&&◌, List, [], ◌∷◌, map, Option, Some, None, option_and_then, option_map, Result, Ok, Err, if◌then◌else◌, bytes_eq}
 use Rattle.std.specs.Result.{result_ok}
 use Rattle.std.specs.Str.{is_utf8}
 use Rattle.std.specs.Ordering.{nat_cmp}
@@ -148,6 +148,10 @@ blob_in t b form tree_of = do
 
 unfoldable pub attributes_in : Summary → Option (ℕ × ℕ)
 attributes_in t = blob_in t blob.Attributes attributes_form (λ a. attributes_tree a.0 a.1)
+
+-- the number of messages that the attributes say
+abbrev pub number_in : Summary → Option ℕ
+number_in t = option_map (λ a. a.1) (attributes_in t)
 
 unfoldable pub members_in : ℕ → Summary → Option (List Member)
 members_in last t = blob_in t blob.Members (members_form last) (list_tree member_tree)

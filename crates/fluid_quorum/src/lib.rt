@@ -22,4 +22,5 @@ pub use accepting::KeyValue;
 pub use fluid_types::{Accepted, BlobFault, Member, Proposal, QuorumBlob};
 pub use members::Members;
 pub use quorum::Quorum;
+pub use reading::number_in;
 pub use state::{Acks, Minima, ScribeState};

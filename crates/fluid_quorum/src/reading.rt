@@ -9,7 +9,7 @@ ghost use Rattle.fluid_json.specs.Spelled.{answer_stored};
 ghost use Rattle.fluid_tree.specs.Summary.{children};
 ghost use Rattle.fluid_types.specs.declared.fault.BlobFault.TheVariants.{NoMemory as no_memory};
 ghost use Rattle.fluid_quorum.specs.Lists.{IsInIdOrder, IsInKeyOrder, AreRising, AreUpTo};
-ghost use Rattle.fluid_quorum.specs.Reading.{as_utf8, find_child, text_in, within, count_at, text_at, attributes_form, member_form, proposal_form, value_form, each, members_form, proposals_form, values_form, attributes_in, members_in, proposals_in, values_in, bad, answer};
+ghost use Rattle.fluid_quorum.specs.Reading.{as_utf8, find_child, text_in, within, count_at, text_at, attributes_form, member_form, proposal_form, value_form, each, members_form, proposals_form, values_form, attributes_in, number_in, members_in, proposals_in, values_in, bad, answer};
 
 use crate::accepting::KeyValue;
 use crate::members::Members;
@@ -48,6 +48,15 @@ impl Quorum {
             values,
         })
     }
+}
+
+/// The number that the attributes among the blobs of a tree say; None where they are missing or outside their form. It is that of
+/// the quorum, where the blobs say one (`laws::attributes_are_read`).
+pub fn number_in(alloc: Global, tree: &Node) -> Result<Option<u64>, NoMemory>
+    ensures { IfOk result (λ number. number ≡ number_in tree.now) }
+{
+    let attributes = read_attributes(alloc, tree)?;
+    Ok(attributes.map(|(_, number)| number))
 }
 
 // The fault that names a blob.

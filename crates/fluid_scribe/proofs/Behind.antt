@@ -8,6 +8,7 @@ use Rattle.fluid_types.specs.Quorum.{Quorum, member_of, left_by, proposal_of}
 use Rattle.fluid_quorum.specs.After.{after, is_due}
 use Rattle.fluid_quorum.specs.Noops.{noop, advanced}
 use Rattle.fluid_quorum.proofs.Advanced.{IsSettled, idle-run, are_noops, stays-later, none_left, idle, same_after, after-number}
+use Rattle.fluid_scribe.specs.Waiting.{AreAbove}
 use Rattle.fluid_scribe.specs.State.{is_heard, heard, Minima, changes, Reached, risen, reached, with_next, brought}
 use Rattle.fluid_scribe.proofs.Sequenced.{IsNext, AreSequenced, sequenced-same}
 
@@ -48,10 +49,6 @@ pub unheard : (q : Quorum) (m : Message) → is_heard m.kind ≡ false → after
 unheard q m h = by_kind m.kind q m refl h
 
 -- ---- what is kept lies behind
-
-abbrev pub AreAbove : ℕ → List Message → Type 0
-AreAbove n [] = Unit {0}
-AreAbove n (m ∷ ms) = (n < m.number) × AreAbove n ms
 
 -- and the minimum doesn't fall
 abbrev pub AreRisen : ℕ → ℕ → Minima → Type 0

@@ -5,6 +5,7 @@ pub mod Grown
 pub mod ByRules
 pub mod Walked
 pub mod Waits
+pub mod Lowest
 pub mod Judged
 pub mod Taken
 pub mod Handled

@@ -1,5 +1,5 @@
 -- What is kept behind a message that was prepared.
-use Rattle.std.proofs.Common.{◌≡◌, ℕ, ◌-◌, ◌^◌, ◌<◌, ◌≤◌, arith, Bool, true, false, ◌==◌, if◌then◌else◌, List, [], ◌∷◌, ◌++◌, min, append-nil, Option, Some, None, option_map, refl, sym, ap, ap₂, ◌∙◌}
+use Rattle.std.proofs.Common.{◌≡◌, ℕ, ◌<◌, arith, Bool, true, false, ◌==◌, if◌then◌else◌, List, [], ◌∷◌, ◌++◌, append-nil, Option, Some, None, option_map, refl, sym, ap, ap₂, ◌∙◌}
 use Rattle.std.specs.Prelude.{unwrap_or, option_to_list}
 use Rattle.std.specs.List.{last_or}
 use Rattle.fluid_types.specs.declared.entries.Raw.{Raw}
@@ -18,7 +18,7 @@ use Rattle.fluid_scribe.specs.Ledger.{StandsFor}
 use Rattle.fluid_scribe.specs.declared.ready.ScribeReady.{ScribeReady}
 use Rattle.fluid_scribe.proofs.Grown.{same_state, state-start, state-grows}
 use Rattle.fluid_scribe.proofs.ByRules.{kept-acks}
-use Rattle.fluid_scribe.proofs.Waits.{left-behind, kept-heard, kept-waits, least-of}
+use Rattle.fluid_scribe.proofs.Waits.{left-behind, kept-heard, kept-waits}
 
 -- nothing lags behind where there is room
 pub up_to_date : (due : Option ℕ) (room : ℕ) → 0 < spare_at due room → due ≡ None
@@ -47,17 +47,15 @@ changes-one false c = refl
 
 -- ---- the state
 
-pub record HasTaken (s : ScribeState) (ready : ScribeReady) (behind : List Message) (minima : Minima) (pending : List Message) (known : List SummaryRef) (number least : ℕ) : Type 0 where
+pub record HasTaken (s : ScribeState) (ready : ScribeReady) (behind : List Message) (minima : Minima) (pending : List Message) (known : List SummaryRef) (number : ℕ) : Type 0 where
   pub behind_is : behind ≡ s.behind ++ option_to_list (heard_in ready.kept)
   pub minima_is : minima ≡ s.minima ++ (if ready.minimum == minimum_in s then [] else (ready.number, ready.minimum) ∷ [])
   pub pending_is : pending ≡ unanswered_at ready.answered s.pending ++ option_to_list (summarize_in ready.kept)
   pub acks_are : known ≡ s.acks ++ option_to_list ready.ack
-  pub least_is : least ≡ least_with (2 ^ 64 - 1) pending
-  pub number_is : number ≡ min ready.minimum least
-  pub fits : ready.minimum ≤ 2 ^ 64 - 1
+  pub number_is : number ≡ least_with ready.minimum pending
 
-module _ (s : ScribeState) (m : Message) (behind : List Message) (minima : Minima) (pending : List Message) (known : List SummaryRef) (number least : ℕ)
-    (has : HasTaken s (prepared s m) behind minima pending known number least) where
+module _ (s : ScribeState) (m : Message) (behind : List Message) (minima : Minima) (pending : List Message) (known : List SummaryRef) (number : ℕ)
+    (has : HasTaken s (prepared s m) behind minima pending known number) where
   abbrev taken : ScribeState
   taken = record { base = s.base; behind = behind; minima = minima; pending = pending; acks = known }
 
@@ -79,18 +77,15 @@ module _ (s : ScribeState) (m : Message) (behind : List Message) (minima : Minim
   taken-base : base_in taken ≡ number
   unfolding prepared
   taken-base =
-      ap (λ n. least_with n pending) taken-minimum
-      ∙ least-of pending m.minimum (2 ^ 64 - 1) has.fits
-      ∙ ap (min m.minimum) (sym has.least_is)
-      ∙ sym has.number_is
+      ap (λ n. least_with n pending) taken-minimum ∙ sym has.number_is
 
   pub taken-after : state_with (brought number s.base behind minima) pending known ≡ after s m
   unfolding with_base after
   taken-after = ap (λ n. with_base n taken) (sym taken-base) ∙ ap (λ t. with_base (base_in t) t) taken-is
 
-pub after-taken : (s : ScribeState) (m : Message) (ready : ScribeReady) (behind : List Message) (minima : Minima) (pending : List Message) (known : List SummaryRef) (number least : ℕ) →
-    ready ≡ prepared s m → HasTaken s ready behind minima pending known number least → state_with (brought number s.base behind minima) pending known ≡ after s m
-after-taken s m ready behind minima pending known number least is has = taken-after s m behind minima pending known number least (rw is at has)
+pub after-taken : (s : ScribeState) (m : Message) (ready : ScribeReady) (behind : List Message) (minima : Minima) (pending : List Message) (known : List SummaryRef) (number : ℕ) →
+    ready ≡ prepared s m → HasTaken s ready behind minima pending known number → state_with (brought number s.base behind minima) pending known ≡ after s m
+after-taken s m ready behind minima pending known number is has = taken-after s m behind minima pending known number (rw is at has)
 
 -- ---- ledgers
 

@@ -1,15 +1,13 @@
 -- Summarize messages that wait.
-use Rattle.std.proofs.Common.{◌≡◌, ℕ, suc, ◌-◌, ◌<◌, ◌≤◌, arith, true, List, [], ◌∷◌, ◌++◌, length, min, Option, Some, None, refl, sym, ap, ◌∙◌}
+use Rattle.std.proofs.Common.{◌≡◌, ℕ, suc, ◌-◌, ◌<◌, arith, true, List, [], ◌∷◌, length, Option, Some, None, refl, sym, ap}
 use Rattle.std.specs.Prelude.{filter, slice_get, slice_index_or, option_to_list}
 use Rattle.std.specs.List.{last_or}
-use Rattle.std.proofs.lemmas.List.Sums.{fold-append}
 use Rattle.fluid_types.specs.declared.messages.Kind.{Kind}
 use Rattle.fluid_types.specs.declared.messages.Kind.TheVariants.{Op, Noop, Propose, Reject, Summarize, Join, Leave, SummaryAck, SummaryNack}
 use Rattle.fluid_types.specs.declared.messages.Message.{Message}
-use Rattle.fluid_rules.specs.Scribe.{answered_by, reference_of, unless_answered}
+use Rattle.fluid_rules.specs.Scribe.{answered_by, unless_answered}
 use Rattle.fluid_rules.specs.ScribeLaws.{unanswered_by}
-use Rattle.fluid_scribe.specs.State.{heard, least_with}
-use Rattle.fluid_scribe.proofs.Grown.{least-within}
+use Rattle.fluid_scribe.specs.State.{heard}
 use Rattle.fluid_scribe.specs.Scribing.{kept_of, unanswered_at, heard_in, summarize_in}
 
 filter_all : {X : Type 0} (xs : List X) → filter (λ x. true) xs ≡ xs
@@ -38,34 +36,6 @@ kept-heard m = (by_kind m.kind m refl).0
 
 pub kept-waits : (m : Message) → option_to_list (summarize_in (kept_of m)) ≡ unless_answered [] m
 kept-waits m = (by_kind m.kind m refl).1
-
--- ---- the least reference
-
-pub least-min : (ws : List Message) (a b : ℕ) → least_with (min a b) ws ≡ min a (least_with b ws)
-least-min [] a b = refl
-least-min (w ∷ ws) a b = ap (λ n. least_with n ws) (min_assoc a b (reference_of w)) ∙ least-min ws a (min b (reference_of w))
-  where
-    min_assoc : (x y z : ℕ) → min (min x y) z ≡ min x (min y z)
-    min_assoc x y z = omega arith
-
--- with the minimum
-pub least-of : (ws : List Message) (minimum top : ℕ) → minimum ≤ top → least_with minimum ws ≡ min minimum (least_with top ws)
-least-of ws minimum top le = ap (λ n. least_with n ws) (sym (low minimum top le)) ∙ least-min ws minimum top
-  where
-    low : (x y : ℕ) → x ≤ y → min x y ≡ x
-    low x y h = omega (arith, h)
-
--- with one more
-pub least-more : (ws : List Message) (o : Option Message) (top : ℕ) → least_with top (ws ++ option_to_list o) ≡ min (least_with top ws) (least_with top (option_to_list o))
-least-more ws o top =
-    fold-append (λ least m. min least (reference_of m)) top ws (option_to_list o) ∙ one o (least_with top ws) (below ws top)
-  where
-    below : (us : List Message) (n : ℕ) → least_with n us ≤ n
-    below us n = least-within us n
-
-    one : (p : Option Message) (n : ℕ) → n ≤ top → least_with n (option_to_list p) ≡ min n (least_with top (option_to_list p))
-    one None n le = omega (arith, le)
-    one (Some m) n le = omega (arith, le)
 
 -- the last item
 pub last_at : {X : Type 0} (o : Option X) (xs : List X) (x : X) → last_or o (x ∷ xs) ≡ slice_get (x ∷ xs) (length xs)

@@ -1,6 +1,7 @@
 pub mod State
 pub mod Tails
 pub mod Scribing
+pub mod Waiting
 pub mod Ledger
 pub mod Jobs
 pub mod Laws

@@ -12,6 +12,7 @@ use crate::judging::{may_be_acknowledged, refused_by};
 use crate::reading::{proposed_by, reference_of};
 use crate::tail::Tail;
 use crate::version::{protocol_of, version};
+use crate::waiting::Waiting;
 use fluid_json::NoMemory;
 use fluid_rules::{Answer, Proposed, SummaryRule};
 use fluid_tree::{Id, Node, SummaryRef};
@@ -23,10 +24,10 @@ use std::alloc::Global;
 pub(crate) fn job_now(
     alloc: Global,
     tail: &Tail,
-    waiting: &[Message],
+    waiting: &Waiting,
     acks: &[SummaryRef],
 ) -> Result<Option<Job>, NoMemory>
-    ensures { IfOk result (λ given. given ≡ job_in (state_with (kept tail.now) waiting.now acks.now)) }
+    ensures { IfOk result (λ given. given ≡ job_in (state_with (kept tail.now) waiting.now.messages acks.now)) }
 {
     let Some(summarize) = waiting.first() else {
         return Ok(None);
@@ -40,12 +41,12 @@ pub(crate) fn job_now(
 pub(crate) fn answer_now(
     alloc: Global,
     tail: &Tail,
-    waiting: &[Message],
+    waiting: &Waiting,
     acks: &[SummaryRef],
     summary: u64,
     found: bool,
 ) -> Result<Answer, NoMemory>
-    ensures { IfOk result (λ given. given ≡ answer_in (state_with (kept tail.now) waiting.now acks.now) summary found) }
+    ensures { IfOk result (λ given. given ≡ answer_in (state_with (kept tail.now) waiting.now.messages acks.now) summary found) }
 {
     let Some(summarize) = waiting.first() else {
         return Ok(Answer::Dropped);
@@ -60,11 +61,11 @@ pub(crate) fn answer_now(
 fn job_of(
     alloc: Global,
     tail: &Tail,
-    waiting: &[Message],
+    waiting: &Waiting,
     acks: &[SummaryRef],
     summarize: &Message,
 ) -> Result<Job, NoMemory>
-    ensures { IfOk result (λ job. job ≡ job_of_in (state_with (kept tail.now) waiting.now acks.now) summarize.now) }
+    ensures { IfOk result (λ job. job ≡ job_of_in (state_with (kept tail.now) waiting.now.messages acks.now) summarize.now) }
 {
     let proposed = proposed_by(alloc, summarize)?;
     let reference = reference_of(summarize);
@@ -83,12 +84,12 @@ fn job_of(
 fn answer_to(
     alloc: Global,
     tail: &Tail,
-    waiting: &[Message],
+    waiting: &Waiting,
     acks: &[SummaryRef],
     summarize: &Message,
     found: bool,
 ) -> Result<Answer, NoMemory>
-    ensures { IfOk result (λ answer. answer ≡ answer_to_in (state_with (kept tail.now) waiting.now acks.now) found summarize.now) }
+    ensures { IfOk result (λ answer. answer ≡ answer_to_in (state_with (kept tail.now) waiting.now.messages acks.now) found summarize.now) }
 {
     let Some(proposed) = proposed_by(alloc, summarize)? else {
         return Ok(Answer::Refused(SummaryRule::Malformed));

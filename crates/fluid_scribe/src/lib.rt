@@ -7,7 +7,8 @@
 //! the order. What it keeps of a legal ledger's order answers as the rules do over the order (`specs/Laws.antt`).
 //!
 //! - `scribe`: `Scribe`. `ready`: a prepared message, `ScribeReady`. `job`: what is to be done about the pending summarize, `Job`.
-//! - `tail`: the quorum at the base and what stands behind it. `waiting`: the summarize messages that wait.
+//! - `tail`: the quorum at the base and what stands behind it. `waiting`: the summarize messages that wait. `lows`: the least of
+//!   their references.
 //! - `answering`: the answer and the job. `judging`: whether a summary may be acknowledged. `version`: the tree of a version.
 //! - `parts`: what of a scribe's parts lies within an order. `reading`: what one message says. `laws`: what holds of the definitions.
 #![tactic(auto)]
@@ -16,6 +17,7 @@ mod answering;
 mod job;
 mod judging;
 pub mod laws;
+mod lows;
 mod parts;
 mod reading;
 mod ready;

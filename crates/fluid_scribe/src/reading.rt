@@ -4,7 +4,7 @@ ghost use Rattle.fluid_scribe.specs.State.{ack_in};
 ghost use Rattle.fluid_scribe.specs.Scribing.{kept_of, is_kept};
 ghost use Rattle.fluid_rules.specs.Scribe.{is_answer, handling, proposing, proposed_by, reference_of, naming, answered_by};
 
-use crate::waiting::numbered;
+use crate::waiting::Waiting;
 use fluid_json::{Json, NoMemory, Text};
 use fluid_rules::Proposed;
 use fluid_tree::{Id, SummaryRef};
@@ -80,15 +80,15 @@ fn naming(contents: &Json) -> Option<u64>
 }
 
 /// The acknowledgement that a message makes, where these wait.
-pub(crate) fn ack_of(waiting: &[Message], message: &Message) -> Option<SummaryRef>
-    ensures { result ≡ ack_in waiting.now message.now }
+pub(crate) fn ack_of(waiting: &Waiting, message: &Message) -> Option<SummaryRef>
+    ensures { result ≡ ack_in waiting.now.messages message.now }
 {
     if message.kind != Kind::SummaryAck {
         return None;
     }
     let handle = handling(&message.contents)?;
     let number = answered_by(message)?;
-    let summarize = numbered(waiting, number)?;
+    let summarize = waiting.numbered(number)?;
     Some(SummaryRef {
         handle,
         number: reference_of(summarize),

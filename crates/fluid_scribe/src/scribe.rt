@@ -18,9 +18,7 @@ use crate::parts::within;
 use crate::reading::{ack_of, answered_by, kept_of};
 use crate::ready::ScribeReady;
 use crate::tail::{Parts, Tail};
-use crate::waiting::{
-    add_one, copied_acks, copied_messages, least_reference, lesser, sorted, wait,
-};
+use crate::waiting::{Waiting, add_one, copied_acks, sorted};
 use fluid_json::NoMemory;
 use fluid_quorum::{Acks, Minima, Quorum, ScribeState};
 use fluid_rules::Answer;
@@ -35,19 +33,16 @@ use std::marker::Model;
 #[derive(Drop)]
 pub struct Scribe {
     tail: Tail,
-    waiting: Vec<Message>,
+    waiting: Waiting,
     acks: Vec<SummaryRef>,
-    // The least reference of those that wait.
-    least: u64,
 }
 
 impl Model for Scribe {
-    ghost use Rattle.std.specs.Prelude.{◌≡◌, ℕ, ◌-◌, ◌^◌, refl, vec_len, vec_capacity};
+    ghost use Rattle.std.specs.Prelude.{◌≡◌, ℕ, ◌-◌, refl, vec_len, vec_capacity};
     ghost use Rattle.std.specs.VecDeque.{deque_len, deque_capacity};
     ghost use Rattle.std.specs.Coded.{code_by, coded×, coded_ℕ};
     ghost use Rattle.fluid_quorum.specs.declared.state.ScribeState.{ScribeState as AState};
     ghost use Rattle.fluid_quorum.specs.contracts.state.ScribeState as states;
-    ghost use Rattle.fluid_scribe.specs.State.{least_with};
     ghost use Rattle.fluid_scribe.specs.Tails.{seen, state_with};
     ghost use Rattle.fluid_scribe.specs.Scribing.{Scribing, spare_at, least_room};
 
@@ -56,11 +51,9 @@ impl Model for Scribe {
     ghost coded = { code_by (AState × ℕ) (coded× states.the_row.coded coded_ℕ) (λ s. (s.state, s.spare)) (λ parts. record { state = parts.0; spare = parts.1 }) (λ _. refl) };
 
     ghost view = { λ s. record {
-      state = state_with (seen s.tail) s.waiting.items s.acks.items;
-      spare = spare_at s.tail.due (least_room (deque_capacity s.tail.behind - deque_len s.tail.behind) (deque_capacity s.tail.minima - deque_len s.tail.minima) (vec_capacity s.waiting - vec_len s.waiting) (vec_capacity s.acks - vec_len s.acks));
+      state = state_with (seen s.tail) s.waiting.messages s.acks.items;
+      spare = spare_at s.tail.due (least_room (deque_capacity s.tail.behind - deque_len s.tail.behind) (deque_capacity s.tail.minima - deque_len s.tail.minima) s.waiting.spare (vec_capacity s.acks - vec_len s.acks));
     } };
-
-    ghost invariant = { λ s. s.least ≡ least_with (2 ^ 64 - 1) s.waiting.items };
 }
 
 impl Scribe {
@@ -76,9 +69,8 @@ impl Scribe {
                 minima: VecDeque::new(alloc),
                 due: None,
             },
-            waiting: Vec::new(alloc),
+            waiting: Waiting::new(alloc),
             acks: Vec::new(alloc),
-            least: u64::MAX,
         }
     }
 
@@ -114,8 +106,6 @@ impl Scribe {
             pending,
             acks,
         } = within(last, state);
-        let waiting = pending.into_vec();
-        let least = least_reference(&waiting);
         Scribe {
             tail: Tail {
                 base,
@@ -123,9 +113,8 @@ impl Scribe {
                 minima: VecDeque::from_vec(minima.into_vec()),
                 due: None,
             },
-            waiting,
+            waiting: Waiting::of_messages(pending),
             acks: acks.into_vec(),
-            least,
         }
     }
 
@@ -138,7 +127,7 @@ impl Scribe {
             behind,
             minima,
         } = self.tail.parts(alloc)?;
-        let pending = copied_messages(alloc, &self.waiting)?;
+        let pending = self.waiting.copied(alloc)?;
         let acks = copied_acks(alloc, &self.acks)?;
         Ok(ScribeState {
             base,
@@ -177,9 +166,9 @@ impl Scribe {
         } = ready;
         let (heard, summarize) = sorted(kept);
         self.tail.push(number, minimum, heard);
-        self.least = wait(&mut self.waiting, self.least, answered, summarize);
+        self.waiting.take(answered, summarize);
         add_one(&mut self.acks, ack);
-        self.tail.due = Some(lesser(minimum, self.least));
+        self.tail.due = Some(self.waiting.least(minimum));
     }
 
     /// What is to be done about the pending summarize; None exactly where none is pending.
@@ -221,7 +210,7 @@ impl Scribe {
     {
         self.tail.settle(alloc)?;
         self.tail.reserve()?;
-        self.waiting.reserve(1)?;
+        self.waiting.reserve()?;
         self.acks.reserve(1)?;
         Ok(())
     }

@@ -292,7 +292,8 @@ fn push_heard(behind: &mut VecDeque<Message>, heard: Option<Message>)
     }
 }
 
-fn copied_messages(
+/// The messages from a place on, once more.
+pub(crate) fn copied_messages(
     alloc: Global,
     messages: &VecDeque<Message>,
     from: usize,

@@ -18,7 +18,7 @@ returns-then-not-found c =
 
 pub returns : goal.returns
 returns c =
-    let at = quorum-at c.args.tail.now c.args.waiting.now c.args.acks.now c.reference_of-reference.result in
+    let at = quorum-at c.args.tail.now c.args.waiting.now.messages c.args.acks.now c.reference_of-reference.result in
     acked-at _ _ _ c.in-Some.proposed _ _ _ (sym c.in_ok-proposed.ensures ∙ c.in-Some.is)
     (at_last _ _ _ _ c.in-Some.proposed _ c.last_ack.ensures c.reference_of-reference.ensures c.in_ok-rule.ensures ∙ c.in_default-2.is)
     c.if-not-found.false c.reference_of-reference.ensures at (c.in_ok-handle.ensures _ c.in_ok-state.ensures)

@@ -10,20 +10,18 @@ pub returns-clause-after : goal.returns-clause-after
 returns-clause-after c = λ message is.
     let room : 0 < spare_at c.self.inside.tail.due _ = rw (← c.self.view_is) at c.requires.room in
     let none = up_to_date c.self.inside.tail.due _ room in
-    let before = state_with (kept c.self.inside.tail) c.self.inside.waiting.items c.self.inside.acks.items in
+    let before = state_with (kept c.self.inside.tail) c.self.inside.waiting.messages c.self.inside.acks.items in
     let state : c.args.self.now.state ≡ before =
-    ap (λ (s : Scribing). s.state) (sym c.self.view_is) ∙ state-now c.self.inside.tail c.self.inside.waiting.items c.self.inside.acks.items none in
-    let has : HasTaken before c.args.ready c.push.new.self.behind.items c.push.new.self.minima.items c.wait-self-inside.new.waiting.items c.add_one.new.list.items c.lesser.result c.wait-self-inside.result = record {
+    ap (λ (s : Scribing). s.state) (sym c.self.view_is) ∙ state-now c.self.inside.tail c.self.inside.waiting.messages c.self.inside.acks.items none in
+    let has : HasTaken before c.args.ready c.push.new.self.behind.items c.push.new.self.minima.items c.take.new.self.messages c.add_one.new.list.items c.least.result = record {
       behind_is = c.push.ensures.behind ∙ ap (λ o. c.self.inside.tail.behind.items ++ option_to_list o) c.sorted-heard.ensures.heard;
       minima_is = c.push.ensures.minima;
-      pending_is = c.wait-self-inside.ensures.waiting ∙ ap (λ o. unanswered_at c.args.ready.answered c.self.inside.waiting.items ++ option_to_list o) c.sorted-heard.ensures.summarize;
+      pending_is = c.take.ensures ∙ ap (λ o. unanswered_at c.args.ready.answered c.self.inside.waiting.messages ++ option_to_list o) c.sorted-heard.ensures.summarize;
       acks_are = c.add_one.ensures;
-      least_is = c.wait-self-inside.ensures.least;
-      number_is = c.lesser.ensures.lesser;
-      fits = c.lesser.ensures.fits;
+      number_is = c.least.ensures;
     } in
-    ap (λ base. state_with (brought c.lesser.result base c.push.new.self.behind.items c.push.new.self.minima.items) c.wait-self-inside.new.waiting.items c.add_one.new.list.items) c.push.ensures.base
-    ∙ after-taken before message c.args.ready _ _ _ _ _ _ (rw state at is) has
+    ap (λ base. state_with (brought c.least.result base c.push.new.self.behind.items c.push.new.self.minima.items) c.take.new.self.messages c.add_one.new.list.items) c.push.ensures.base
+    ∙ after-taken before message c.args.ready _ _ _ _ _ (rw state at is) has
     ∙ ap (λ s. after s message) (sym state)
 
 pub returns-clause-stands : goal.returns-clause-stands

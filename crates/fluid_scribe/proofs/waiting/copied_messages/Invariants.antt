@@ -1,6 +1,0 @@
-use Rattle.std.proofs.Common.{◌≡◌, take}
-use Rattle.fluid_scribe.proofs.waiting.copied_messages.Given as goal
-
--- the copies so far
-abbrev pub invariant-loop-message : goal.invariant-loop-message
-invariant-loop-message l = l.copies.items ≡ take l.message-index l.messages
