@@ -1,0 +1,6 @@
+//! A store of objects that many users share: each has an adapter of its own over one lock, which is taken once for each call.
+#![tactic(auto)]
+
+mod objects;
+
+pub use objects::LockedObjects;
