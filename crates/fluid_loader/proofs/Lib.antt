@@ -13,8 +13,15 @@ pub mod ReadBase
 pub mod ReadVersion
 pub mod Based
 pub mod Exact
+pub mod Numbers
 pub mod Replayed
 pub mod Goes
 pub mod Stays
 pub mod Submitted
 pub mod Loading
+pub mod Pushed
+pub mod Acks
+pub mod Tails
+pub mod Puts
+pub mod Listing
+pub mod Fitted

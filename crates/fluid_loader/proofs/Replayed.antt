@@ -26,7 +26,7 @@ use Rattle.fluid_map.specs.Laws as map_laws
 use Rattle.fluid_counter.specs.Laws as counter_laws
 use Rattle.fluid_rules.specs.Scribe.{protocol}
 use Rattle.fluid_quorum.specs.After.{after}
-use Rattle.fluid_quorum.specs.Laws.{GoesOn, IsOnlyBlobs}
+use Rattle.fluid_quorum.specs.Laws.{GoesOn, IsOnlyBlobs, AreAttributes}
 use Rattle.fluid_quorum.specs.Reading as quorum
 use Rattle.fluid_readback.specs.Quorums.{IsReadAsItself, QuorumsAreReadBack}
 use Rattle.fluid_readback.proofs.Each.{Each, each-all}
@@ -46,9 +46,10 @@ use Rattle.fluid_loader.specs.Calls.{begun_of, or_bad, begun_picked, begun_in}
 use Rattle.fluid_loader.specs.Container.{AContainer, empty, begun, is_from, taken_by, behind}
 use Rattle.fluid_loader.specs.Laws.{replayed, IsHonest, IsHonestPick, HasReplayed, Follows, IsWholeReplay}
 use Rattle.fluid_loader.specs.Link.{Document, IsOrder, picked}
-use Rattle.fluid_loader.specs.Version.{AVersion, ◌>>=◌, node_within, nodes_within, blob_under, under, of_number, channels_answer, quorum_answer, version_answer, entries_of, entries_at, id_named, version_at}
+use Rattle.fluid_loader.specs.Version.{AVersion, ◌>>=◌, node_within, nodes_within, blob_under, of_number, channels_answer, quorum_answer, version_answer, entries_of, entries_at, id_named, version_at}
 use Rattle.fluid_loader.specs.declared.link.Pick.{Pick}
 use Rattle.fluid_loader.specs.declared.link.Pick.TheVariants.{Empty, Latest, Handle}
+use Rattle.fluid_loader.proofs.Numbers.{number_right}
 use Rattle.fluid_loader.proofs.Based.{behind_based, none_named}
 use Rattle.fluid_loader.proofs.Orders.{front_numbered, each_drop}
 use Rattle.fluid_loader.proofs.Picking.{picked_within}
@@ -117,10 +118,6 @@ quorum_ok : (b : Bool) (r : Result Quorum (List ℕ)) (fault : List ℕ) (q : Qu
 quorum_ok true r fault q h = h
 quorum_ok false r fault q h = cc
 
-numbered_ok : (b : Bool) (p q : Quorum) (fault : List ℕ) → ◌≡◌ {A = Result Quorum (List ℕ)} (cond b (Ok p) (Err fault)) (Ok q) → p ≡ q
-numbered_ok true p q fault h = cc
-numbered_ok false p q fault h = cc
-
 abbrev app_name : List ℕ
 app_name = codes ".app"
 
@@ -139,14 +136,13 @@ parts_answer number a p v h =
     let one = bind_ok (channels_answer a) (λ channels. quorum_answer number p >>= λ q. Ok (channels, q)) v h in
     let two = bind_ok (quorum_answer number p) (λ q. Ok (one.0, q)) v one.1.1 in
     let same : (one.0, two.0) ≡ v = let k = two.1.1 in cc in
-    let inside = quorum_ok (is_tree p) (blob_under protocol_name (quorum.answer p) >>= of_number number) protocol_name two.0 two.1.0 in
-    let three = bind_ok (blob_under protocol_name (quorum.answer p)) (of_number number) two.0 inside in
-    let own : three.0 ≡ two.0 = numbered_ok (three.0.number == number) three.0 two.0 (under protocol_name (codes "attributes")) three.1.1 in (
+    let inside = quorum_ok (is_tree p) (of_number number (quorum.number_in p) >>= λ _. blob_under protocol_name (quorum.answer p)) protocol_name two.0 two.1.0 in
+    let three = bind_ok (of_number number (quorum.number_in p)) (λ _. blob_under protocol_name (quorum.answer p)) two.0 inside in (
       blob_ok app_name (app.answer a) one.0 one.1.0 ∙ ap (λ w. Ok w.0) same,
-      blob_ok protocol_name (quorum.answer p) three.0 three.1.0 ∙ ap Ok own ∙ ap (λ w. Ok w.1) same,
+      blob_ok protocol_name (quorum.answer p) two.0 three.1.1 ∙ ap (λ w. Ok w.1) same,
     )
 
-module _ (back : IsReadBack) (maps : map_laws.IsReadBack) (counters : counter_laws.IsReadBack) (only : IsOnlyBlobs) (law : GoesOn) (quorums : QuorumsAreReadBack) (stays : StaysSince) (unmarked : StaysUnmarked) (marked : IsMarked) where
+module _ (back : IsReadBack) (maps : map_laws.IsReadBack) (counters : counter_laws.IsReadBack) (only : IsOnlyBlobs) (attributes : AreAttributes) (law : GoesOn) (quorums : QuorumsAreReadBack) (stays : StaysSince) (unmarked : StaysUnmarked) (marked : IsMarked) where
   module _ (order : List Message) (is_order : IsOrder order) (held : Held) (s : SummaryRef) where
     abbrev first_ones : List Message
     first_ones = take s.number order
@@ -244,9 +240,9 @@ module _ (back : IsReadBack) (maps : map_laws.IsReadBack) (counters : counter_la
             let state = protocol_exact back held short (quorum_of first_ones) only (quorums first_ones numbered read_back) texts.blobs f rest.1.0 rest.1.1.1.0 in
             let number : ((quorum_of first_ones).number == s.number) ≡ true = same_number within in
             let inner_q : quorum_answer s.number y ≡ Ok (quorum_of first_ones) =
-            ap (λ b. cond b (blob_under protocol_name (quorum.answer y) >>= of_number s.number) (Err protocol_name)) state.0
-            ∙ ap (λ r. blob_under protocol_name r >>= of_number s.number) state.1
-            ∙ ap (λ b. cond b (Ok (quorum_of first_ones)) (Err (under protocol_name (codes "attributes")))) number in
+            ap (λ b. cond b (of_number s.number (quorum.number_in y) >>= λ _. blob_under protocol_name (quorum.answer y)) (Err protocol_name)) state.0
+            ∙ ap (λ r. r >>= λ _. blob_under protocol_name (quorum.answer y)) (number_right attributes s.number y (quorum_of first_ones) state.1 number)
+            ∙ ap (blob_under protocol_name) state.1 in
             let both : version_answer s.number (pair x y) ≡ Ok (replayed order s.number, quorum_of first_ones) =
             ap (λ r. blob_under app_name r >>= λ c. (quorum_answer s.number y >>= λ q. Ok (c, q))) app_is ∙ ap (λ r. r >>= λ q. Ok (replayed order s.number, q)) inner_q in
             let named : children (nodes_within held 2 (e ∷ f ∷ [])) ≡ pair x y = (λ i. child (stand.0 i) x (child (rest.0 i) y no_children)) in (

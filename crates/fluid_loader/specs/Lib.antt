@@ -6,6 +6,8 @@ pub mod Calls
 pub mod Said
 pub mod Codes
 pub mod Laws
+pub mod Listed
+pub mod Fitting
 pub use Rattle.fluid_types.specs.Contents
 pub use Rattle.fluid_rules.specs.Scribe
 pub use Rattle.fluid_edits.specs.Replay

@@ -96,13 +96,14 @@ end (child n s cs) a = Err n
 abbrev pub channels_answer : Summary → Result Channels (List ℕ)
 channels_answer node = blob_under (codes ".app") (app.answer node)
 
--- a quorum of the number that was given with the summary
-abbrev pub of_number : ℕ → Quorum → Result Quorum (List ℕ)
-of_number number q = if q.number == number then Ok q else Err (under (codes ".protocol") (codes "attributes"))
+-- the number of attributes, where these are in their form, is the one that was given with the summary
+abbrev pub of_number : ℕ → Option ℕ → Result (Unit {0}) (List ℕ)
+of_number number None = Ok tt
+of_number number (Some own) = if own == number then Ok tt else Err (under (codes ".protocol") (codes "attributes"))
 
 abbrev pub quorum_answer : ℕ → Summary → Result Quorum (List ℕ)
 quorum_answer number node =
-    if is_tree node then blob_under (codes ".protocol") (quorum.answer node) >>= of_number number else Err (codes ".protocol")
+    if is_tree node then (of_number number (quorum.number_in node) >>= λ _. blob_under (codes ".protocol") (quorum.answer node)) else Err (codes ".protocol")
 
 -- `.app`, `.protocol`, and nothing else
 abbrev pub version_answer : ℕ → Children → Result (Channels × Quorum) (List ℕ)

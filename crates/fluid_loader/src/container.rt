@@ -1,5 +1,5 @@
 //! A document as one client has it.
-ghost use Rattle.std.specs.Prelude.{◌≡◌, ◌⊎◌, ◌<◌, ◌≤◌, ◌^◌, ◌+◌, ◌-◌, ℕ, List, Ok, IfOk, IfErr, OnOk, OnErr, length, option_map};
+ghost use Rattle.std.specs.Prelude.{◌≡◌, ◌⊎◌, ◌<◌, ◌≤◌, ◌^◌, ◌+◌, ◌-◌, ℕ, List, Ok, IfOk, IfErr, IfSome, IsTrue, OnOk, OnErr, length, option_map};
 ghost use Rattle.fluid_io.specs.Causes.{Tells};
 ghost use Rattle.fluid_rules.specs.Scribe.{handling, is_ack};
 ghost use Rattle.fluid_runtime.specs.AppTree as summaries;
@@ -9,6 +9,7 @@ ghost use Rattle.fluid_store.specs.Standing.{Stands};
 ghost use Rattle.fluid_types.specs.Order.{AreNumberedFrom};
 ghost use Rattle.fluid_loader.specs.Container.{AContainer, empty, acknowledged, is_from, taken_by, behind};
 ghost use Rattle.fluid_loader.specs.Calls.{FetchesIn, Answers, LoadsOnly, LoadDoes, LoadReads, begun_in, begun_picked, Fetched, ReadStops, PumpDoes, PumpReads, Submits, IsBehindFront, Proposes, op_of, noop_of, summarize_of, shown_channels, counted, EditDoes, UploadsTree, UploadsOver, UploadEnds, SummarizeDoes, Picked, Begins, since, failure, or_refused, or_failed};
+ghost use Rattle.fluid_loader.specs.Fitting.{MaySubmit};
 ghost use Rattle.fluid_loader.specs.Laws.{HasReplayed, IsBased, IsBehind, IsHonestPick, IsNoBadSummary, IsTextPick, StaysBehind};
 ghost use Rattle.fluid_loader.specs.Version.{IsIn, IsOfVersion};
 ghost use Rattle.fluid_loader.specs.Link as links;
@@ -23,7 +24,7 @@ use crate::submitting::{numbered, summarize};
 use crate::version::{Version, read_version};
 use crate::{Given, Link, LinkFault, LoadFault, Pick};
 use fluid_io::FaultNote;
-use fluid_json::{Json, NoMemory};
+use fluid_json::{Json, LARGEST, NoMemory};
 use fluid_quorum::Quorum;
 use fluid_runtime::{App, Edit, EditFault};
 use fluid_store::laws::what_stands_goes_on_standing;
@@ -292,6 +293,15 @@ impl Container {
         self.app.to_tree(alloc)
     }
 
+    /// Whether a client number is left for a submission: after 2^53 - 1 of them none is. Then a noop, a summarize, and an op
+    /// whose contents are at most 98 deep and 2,097,152 bytes long each fit.
+    pub fn has_numbers(&self) -> bool
+        ensures { IsTrue result → MaySubmit self.now }
+    {
+        known_size(&self.head);
+        self.last < LARGEST
+    }
+
     /// The number of the last message that was taken in, or that of the summary.
     pub fn seq(&self) -> u64
         ensures { result ≡ self.now.number }
@@ -349,6 +359,15 @@ fn from_summary<L: Link>(
     })
 }
 
+// A handle has 20 bytes.
+fn known_size(handle: &Option<Id>)
+    ensures { IfSome handle.now (λ id. length id ≡ 20) }
+{
+    if let Some(id) = handle {
+        id.as_bytes();
+    }
+}
+
 // ---- messages
 
 fn is_from(message: &Message, own: &ClientId) -> bool
@@ -378,7 +397,7 @@ fn is_ack(kind: Kind) -> bool
 }
 
 // The member `handle`, of 40 lower-case hexadecimal digits.
-fn handling(value: &Json) -> Option<Id>
+pub(crate) fn handling(value: &Json) -> Option<Id>
     ensures { result ≡ handling value.now }
 {
     let handle = value.member(Field::Handle.name())?;

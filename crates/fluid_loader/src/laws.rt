@@ -4,7 +4,7 @@ ghost use Rattle.fluid_loader.specs.Laws.{ArePickedWithin, GoOnFollowing, IsHone
 use fluid_counter::laws::content_is_read_back as counters_are_read_back;
 use fluid_handles::laws::a_tree_without_handles_is_itself;
 use fluid_map::laws::content_is_read_back as maps_are_read_back;
-use fluid_quorum::laws::{only_blobs_are_read, quorum_goes_on};
+use fluid_quorum::laws::{attributes_are_read, only_blobs_are_read, quorum_goes_on};
 use fluid_readback::blobs_of_messages_are_read_back;
 use fluid_runtime::laws::{unchanged_channels_stay, unmarked_apps_give_no_handle};
 use fluid_tree::laws::objects_are_read_back;
@@ -23,6 +23,7 @@ pub fn honest_summaries_are_replayed()
     maps_are_read_back();
     counters_are_read_back();
     only_blobs_are_read();
+    attributes_are_read();
     quorum_goes_on();
     blobs_of_messages_are_read_back();
     unchanged_channels_stay();
@@ -37,6 +38,7 @@ pub fn containers_go_on_following()
     maps_are_read_back();
     counters_are_read_back();
     only_blobs_are_read();
+    attributes_are_read();
     quorum_goes_on();
     blobs_of_messages_are_read_back();
     unchanged_channels_stay();
@@ -56,6 +58,7 @@ pub fn honest_summaries_are_read()
     maps_are_read_back();
     counters_are_read_back();
     only_blobs_are_read();
+    attributes_are_read();
     quorum_goes_on();
     blobs_of_messages_are_read_back();
     unchanged_channels_stay();

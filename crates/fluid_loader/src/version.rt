@@ -3,14 +3,16 @@ ghost use Rattle.std.specs.Prelude.{◌≡◌, ◌⊎◌, suc, Ok, IfOk, IfErr, 
 ghost use Rattle.fluid_tree.specs.Summary.{children};
 ghost use Rattle.fluid_runtime.specs.App.{loaded};
 ghost use Rattle.fluid_store.specs.Standing.{object_at};
+ghost use Rattle.fluid_quorum.specs.Reading.{number_in};
 ghost use Rattle.fluid_loader.specs.Calls.{FetchesIn, LoadReads, Sees, IsAnswer, IsFault};
-ghost use Rattle.fluid_loader.specs.Version.{IsIn, HasId, no_node, as_inner, as_leaf, node_within, nodes_within, under, first_of, next, channels_answer, quorum_answer, version_answer, id_named, version_at};
+ghost use Rattle.fluid_loader.specs.Version.{IsIn, HasId, no_node, as_inner, as_leaf, node_within, nodes_within, under, first_of, next, channels_answer, of_number, quorum_answer, version_answer, id_named, version_at};
 ghost use Rattle.fluid_loader.specs.Said.{known, said, channels_said};
 
 use crate::container::failed;
 use crate::{Link, LoadFault};
 use fluid_json::{NoMemory, Text};
-use fluid_quorum::Quorum;
+use fluid_quorum::laws::attributes_are_read;
+use fluid_quorum::{Quorum, number_in};
 use fluid_runtime::App;
 use fluid_tree::{
     Entries, Id, Node, Object, ObjectEntry, Path, SummaryRef, TreeFault, read_object,
@@ -242,23 +244,33 @@ fn app_in(alloc: Global, node: &Node) -> Result<App, LoadFault>
     }
 }
 
+// The attributes stand before the other blobs, so their number is asked first.
 fn quorum_in(alloc: Global, node: &Node, number: u64) -> Result<Quorum, LoadFault>
     ensures fresh { IfOk result (λ q. q.number ≡ number) }
     ensures answer { IsAnswer result (quorum_answer number node.now) }
 {
+    attributes_are_read();
     if !node.is_tree() {
         return Err(bad(alloc, PROTOCOL));
     }
+    has_number(alloc, node, number)?;
     match Quorum::from_blobs(alloc, node) {
-        Ok(quorum) => {
-            if quorum.number() != number {
-                return Err(bad_in(alloc, PROTOCOL, "attributes"));
-            }
-            Ok(quorum)
-        }
+        Ok(quorum) => Ok(quorum),
         Err(BlobFault::BadBlob(name)) => Err(bad_in(alloc, PROTOCOL, name.as_str())),
         Err(BlobFault::NoMemory) => Err(LoadFault::NoMemory),
     }
+}
+
+// The number of the attributes, where these are in their form, is the summary's.
+fn has_number(alloc: Global, node: &Node, number: u64) -> Result<(), LoadFault>
+    ensures { IsAnswer result (of_number number (number_in node.now)) }
+{
+    if let Some(own) = number_in(alloc, node)? {
+        if own != number {
+            return Err(bad_in(alloc, PROTOCOL, "attributes"));
+        }
+    }
+    Ok(())
 }
 
 // ---- faults
