@@ -1,5 +1,5 @@
 -- The version that a summary asks for, and the objects that are put for it.
-use Rattle.std.specs.Prelude.{◌≡◌, ℕ, ⊤, Bool, true, false, ◌&&◌, List, [], ◌∷◌, ◌++◌, map, codes, Option, Some, None, Result, Ok, Err, IfOk, IfErr, if◌then◌else◌}
+use Rattle.std.specs.Prelude.{◌≡◌, ◌⊎◌, ℕ, ⊤, Bool, true, false, ◌&&◌, List, [], ◌∷◌, ◌++◌, map, codes, Option, Some, None, Result, Ok, Err, IfOk, IfErr, if◌then◌else◌}
 use Rattle.std.specs.Option.{option_map_or}
 use Rattle.fluid_io.specs.Causes.{Tells}
 use Rattle.fluid_tree.specs.Summary.{Summary, blob, tree, Children, no_children, child}
@@ -78,5 +78,8 @@ pub record PutsTold (j : Job) (old new : Storing) (result : Result Bool StoreFau
 pub record PutsVersion (j : Job) (old new : Storing) (result : Result Bool StoreFault) : Type 0 where
   pub told : Tells old.content (PutsTold j old new result)
   pub cause : IfErr result (IsStoreCause old new)
+  -- whether the store tells what it holds or not: none of the version's objects were put, or they were, in their order, up to a
+  -- clash of one of them
+  pub stores : Stores [] old new result ⊎ Stores (objects_of j) old new result
   -- where the answer doesn't depend on what is stored, the store isn't asked
   pub unasked : j.needs_storage ≡ false → (result ≡ Ok false) × (new ≡ old)
