@@ -25,8 +25,8 @@ use Rattle.fluid_voice.specs.declared.ends.ActEnd.TheVariants.{Said, Told, Given
 use Rattle.fluid_voice.specs.Ends.{outcome, held_behind, summary_asked}
 use Rattle.fluid_voice.specs.Suits.{Suits, IsAsked}
 use Rattle.fluid_voice.specs.Ends.Outcome.{ends}
-use Rattle.fluid_acts.specs.declared.fault.TalkFault.{TalkFault}
-use Rattle.fluid_acts.specs.declared.fault.TalkFault.TheVariants.{Door, Lane, Delta, Store, NoMemory}
+use Rattle.fluid_ends.specs.declared.fault.TalkFault.{TalkFault}
+use Rattle.fluid_ends.specs.declared.fault.TalkFault.TheVariants.{Door, Lane, Delta, Store, NoMemory}
 use Rattle.fluid_acts.specs.AtLane.{OnLane}
 use Rattle.fluid_acts.specs.AtStore.{HoldsBy, OnStore}
 use Rattle.fluid_acts.specs.Doing.{FindsTold, IsEndOf, IsTalkCause, found_in}

@@ -12,8 +12,8 @@ use Rattle.fluid_voice.specs.declared.actions.Act.{Act}
 use Rattle.fluid_voice.specs.declared.actions.Act.TheVariants as act
 use Rattle.fluid_voice.specs.declared.ends.ActEnd.{ActEnd}
 use Rattle.fluid_voice.specs.Ends.{held_behind}
-use Rattle.fluid_acts.specs.declared.fault.TalkFault.{TalkFault}
-use Rattle.fluid_acts.specs.declared.fault.TalkFault.TheVariants.{Store}
+use Rattle.fluid_ends.specs.declared.fault.TalkFault.{TalkFault}
+use Rattle.fluid_ends.specs.declared.fault.TalkFault.TheVariants.{Store}
 
 -- what it holds behind an act: an object that is put. A put that the store failed may have been made all the same
 abbrev pub HoldsBy : Act → Storing → Storing → Result ActEnd TalkFault → Type 0

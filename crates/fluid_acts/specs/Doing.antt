@@ -12,8 +12,8 @@ use Rattle.fluid_voice.specs.declared.actions.Act.TheVariants as act
 use Rattle.fluid_voice.specs.declared.ends.ActEnd.{ActEnd}
 use Rattle.fluid_voice.specs.Ends.{Found, Outcome}
 use Rattle.fluid_voice.specs.Ends.Outcome.{ends, clashes}
-use Rattle.fluid_acts.specs.declared.fault.TalkFault.{TalkFault}
-use Rattle.fluid_acts.specs.declared.fault.TalkFault.TheVariants.{Door, Lane, Delta, Store, NoMemory}
+use Rattle.fluid_ends.specs.declared.fault.TalkFault.{TalkFault}
+use Rattle.fluid_ends.specs.declared.fault.TalkFault.TheVariants.{Door, Lane, Delta, Store, NoMemory}
 use Rattle.fluid_acts.specs.AtLane.{is_entering, IsLaneCause, IsDeltaCause}
 use Rattle.fluid_acts.specs.AtStore.{is_asked_of_store, IsStoreCause}
 

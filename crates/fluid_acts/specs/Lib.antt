@@ -1,4 +1,3 @@
-pub mod Faults
 pub mod AtLane
 pub mod AtStore
 pub mod Doing

@@ -17,8 +17,8 @@ use Rattle.fluid_voice.specs.declared.ends.ActEnd.{ActEnd}
 use Rattle.fluid_voice.specs.declared.ends.ActEnd.TheVariants.{Joined}
 use Rattle.fluid_voice.specs.Ends.{outcome}
 use Rattle.fluid_voice.specs.Suits.{Suits}
-use Rattle.fluid_acts.specs.declared.fault.TalkFault.{TalkFault}
-use Rattle.fluid_acts.specs.declared.fault.TalkFault.TheVariants.{Lane, Delta, Store, NoMemory}
+use Rattle.fluid_ends.specs.declared.fault.TalkFault.{TalkFault}
+use Rattle.fluid_ends.specs.declared.fault.TalkFault.TheVariants.{Lane, Delta, Store, NoMemory}
 use Rattle.fluid_acts.specs.AtLane.{OnLane, is_entering, IsLaneCause, IsDeltaCause}
 use Rattle.fluid_acts.specs.AtStore.{OnStore, is_asked_of_store, IsStoreCause}
 use Rattle.fluid_acts.specs.Doing.{IsEndOf, found_in, is_range}

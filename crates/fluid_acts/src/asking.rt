@@ -4,8 +4,8 @@ ghost use Rattle.fluid_voice.specs.declared.actions.Act.TheVariants as act;
 ghost use Rattle.fluid_voice.specs.Ends.{range_asked};
 ghost use Rattle.fluid_acts.specs.Parts.{DoesOnLane, DoesOnStore, under};
 
-use crate::TalkFault;
 use fluid_codec::{Asked, Reply};
+use fluid_ends::TalkFault;
 use fluid_io::FaultNote;
 use fluid_lane::{Lane, lanes_say_their_ledgers};
 use fluid_log::Keeper;

@@ -2,13 +2,12 @@
 //!
 //! Its end is the one that the document's ledger and the store give it (`fluid_voice`'s `outcome`), or the fault of that call.
 //!
-//! - `doing`: `do_act`. `asking`: the acts that enter nothing. `fault`: why an act fails.
+//! - `doing`: `do_act`. `asking`: the acts that enter nothing.
 #![tactic(auto)]
 
 mod asking;
 mod doing;
-mod fault;
 
 pub use asking::{get_object, put_object};
 pub use doing::do_act;
-pub use fault::TalkFault;
+pub use fluid_ends::TalkFault;
