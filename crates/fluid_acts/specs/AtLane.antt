@@ -26,6 +26,7 @@ use Rattle.fluid_voice.specs.Ends.{range_asked, out_of_range}
 use Rattle.fluid_ends.specs.declared.fault.TalkFault.{TalkFault}
 use Rattle.fluid_ends.specs.declared.fault.TalkFault.TheVariants.{Lane, NoMemory}
 use Rattle.fluid_ends.specs.Adding.{Adds}
+pub use Rattle.fluid_ends.specs.Asking.{is_entering, is_asked_of_lane}
 
 -- ---- what it leaves
 
@@ -68,12 +69,6 @@ IsEndAt s (act.Connect name false scopes detail moment) end = end ≡ Told s.ent
 IsEndAt s (act.Deltas from to) end = IsRangeEnd (range_asked s.entries.state.sequencer.sequence from to) end
 IsEndAt s act end = ⊤
 
--- acts that may enter an entry
-abbrev pub is_entering : Act → Bool
-is_entering (act.Connect name write scopes detail moment) = write
-is_entering (act.Enter raw) = true
-is_entering act = false
-
 -- a worn lane says so, or memory was wanting before it was asked
 pub record IsWorn (old new : Standing) (result : Result ActEnd TalkFault) : Type 0 where
   pub answer : (result ≡ Err NoMemory) ⊎ (result ≡ Err (Lane lane.Worn))
@@ -95,13 +90,6 @@ IsLimitFault old new fault = ⊥
 pub record IsLimited (old new : Standing) (result : Result ActEnd TalkFault) : Type 0 where
   pub fails : IfErr result (IsLimitFault old new)
   pub unasked : old.owed ≡ false → new ≡ old
-
--- acts that aren't asked of the lane
-abbrev pub is_asked_of_lane : Act → Bool
-is_asked_of_lane (act.Connect name write scopes detail moment) = write
-is_asked_of_lane (act.Enter raw) = true
-is_asked_of_lane (act.Deltas from to) = true
-is_asked_of_lane act = false
 
 -- what an act does to the lane, over every keeper
 pub record OnLane (a : Act) (old new : Standing) (result : Result ActEnd TalkFault) : Type 0 where

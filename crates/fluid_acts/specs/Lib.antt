@@ -2,3 +2,4 @@ pub mod AtLane
 pub mod AtStore
 pub mod Doing
 pub mod Parts
+pub mod Laws
