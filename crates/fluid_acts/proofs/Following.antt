@@ -98,12 +98,12 @@ both true b is = refl
 both false b is = is
 
 true_is : {A : Type 0} (b : Bool) → b ≡ true → b ≡ false → A
-true_is b yes no_ = cc
+true_is b one other = cc
 
 still_full : (raw other : Raw) (old between : Standing) → between.limits ≡ old.limits → between.entries ≡ old.entries → (is_full_for old raw).0 ≡ true → is_counted other ≡ true
     → (is_full_for between other).0 ≡ true
 still_full raw other old between limits entries full counts =
-    rw (limits, entries, both _ _ full, counts) refl
+    rw (limits, entries, both (nat_le old.limits.entries old.entries.counted) (is_counted raw) full, counts) refl
 
 ends_full : (other : Raw) (s : Standing) (end : ActEnd) → (is_full_for s other).0 ≡ true → IsEndAt s (act.Enter other) end → end ≡ FullNow
 ends_full other s FullNow full is = refl
