@@ -1,6 +1,7 @@
 -- Acts that enter nothing, and what each arm leaves of the side that it doesn't ask.
-use Rattle.std.proofs.Common.{◌≡◌, inl, ℕ, Bool, true, false, List, [], Option, Some, None, Result, Ok, Err, IfOk, IfErr, option_map, refl, sym, ap, subst, ◌∙◌, arith}
+use Rattle.std.proofs.Common.{◌≡◌, inl, ℕ, Bool, true, false, List, [], Option, Some, None, Result, Ok, Err, IfOk, IfErr, option_map, find, reverse, bytes_eq, refl, sym, ap, subst, ◌∙◌, arith}
 use Rattle.std.specs.Prelude.{IfSome}
+use Rattle.std.specs.List.{last_or}
 use Rattle.fluid_json.specs.Tree.{Tree}
 use Rattle.fluid_types.specs.declared.entries.Scopes.{Scopes}
 use Rattle.fluid_types.specs.Ledger.{order}
@@ -17,20 +18,21 @@ use Rattle.fluid_lane.specs.declared.steps.Step.{Step}
 use Rattle.fluid_lane.specs.Steps.{ledger}
 use Rattle.fluid_lane.specs.Standing.{Standing}
 use Rattle.fluid_lane.specs.Laws.{LaneSays}
-use Rattle.fluid_rules.specs.Scribe.{acks, number_of}
+use Rattle.fluid_tree.specs.declared.id.SummaryRef.{SummaryRef}
+use Rattle.fluid_rules.specs.Scribe.{acks}
 use Rattle.fluid_voice.specs.declared.actions.Act.{Act}
 use Rattle.fluid_voice.specs.declared.actions.Act.TheVariants as act
 use Rattle.fluid_voice.specs.declared.ends.ActEnd.{ActEnd}
 use Rattle.fluid_voice.specs.declared.ends.ActEnd.TheVariants.{Said, Told, Given}
-use Rattle.fluid_voice.specs.Ends.{outcome, held_behind, summary_asked}
+use Rattle.fluid_voice.specs.Ends.{outcome, held_behind, summary_asked, summary_among}
 use Rattle.fluid_voice.specs.Suits.{Suits, IsAsked}
 use Rattle.fluid_voice.specs.Ends.Outcome.{ends}
-use Rattle.fluid_acts.specs.declared.fault.TalkFault.{TalkFault}
-use Rattle.fluid_acts.specs.declared.fault.TalkFault.TheVariants.{Door, Lane, Delta, Store, NoMemory}
+use Rattle.fluid_ends.specs.declared.fault.TalkFault.{TalkFault}
+use Rattle.fluid_ends.specs.declared.fault.TalkFault.TheVariants.{Door, Lane, Delta, Store, NoMemory}
 use Rattle.fluid_acts.specs.AtLane.{OnLane}
 use Rattle.fluid_acts.specs.AtStore.{HoldsBy, OnStore}
 use Rattle.fluid_acts.specs.Doing.{FindsTold, IsEndOf, IsTalkCause, found_in}
-use Rattle.fluid_acts.specs.Parts.{IsLaneFault, FindsLane, DoesOnLane, IsStoreFault, DoesOnStore, under}
+use Rattle.fluid_acts.specs.Parts.{IsLaneFault, FindsLane, DoesOnLane, IsStoreFault, DoesOnStore}
 use Rattle.fluid_acts.proofs.Entering.{said}
 use Rattle.fluid_acts.proofs.Reading.{goes_nowhere}
 
@@ -223,24 +225,23 @@ put_steps bytes old new (Err NoMemory) cause s = record {
 
 -- ---- summaries
 
-under_same : (asked : Asked) (messages : List Message) → under asked (summary_asked messages asked) ≡ summary_asked messages asked
-under_same Latest messages = refl
-under_same (Handle handle) messages = by (number_of messages handle)
-  where
-    by : (o : Option ℕ) → under (Handle handle) (option_map {U = List ℕ × ℕ} (λ (number : ℕ). (handle, number)) o) ≡ option_map {U = List ℕ × ℕ} (λ (number : ℕ). (handle, number)) o
-    by None = refl
-    by (Some number) = refl
+of_latest : (ack : Option SummaryRef) → IfSome {T = List ℕ × ℕ} (option_map (λ (a : SummaryRef). (a.handle, a.number)) ack) (λ pair. IsAsked Latest pair.0)
+of_latest None = tt
+of_latest (Some ack) = tt
 
-under_asked : (asked : Asked) (found : Option (List ℕ × ℕ)) → IfSome (under asked found) (λ pair. IsAsked asked pair.0)
-under_asked Latest None = tt
-under_asked Latest (Some pair) = tt
-under_asked (Handle handle) None = tt
-under_asked (Handle handle) (Some pair) = refl
+of_handle : (handle : List ℕ) (number : Option ℕ) → IfSome {T = List ℕ × ℕ} (option_map (λ (n : ℕ). (handle, n)) number) (λ pair. IsAsked (Handle handle) pair.0)
+of_handle handle None = tt
+of_handle handle (Some n) = refl
 
-pub summary_given : LaneSays → (asked : Asked) (found answer : Option (List ℕ × ℕ)) (s : Standing)
-    → ((messages : List Message) → s.entries.state.scribe.acks ≡ acks messages → found ≡ summary_asked messages asked) → answer ≡ under asked found
-    → DoesOnLane (act.Summary asked) s s (Ok (Given (Summary answer)))
-summary_given law asked found answer s by is = record {
+-- an answer to a handle is given under it
+among_asked : (asked : Asked) (known : List SummaryRef) → IfSome (summary_among known asked) (λ pair. IsAsked asked pair.0)
+among_asked Latest known = of_latest (last_or None known)
+among_asked (Handle handle) known = of_handle handle (option_map (λ (ack : SummaryRef). ack.number) (find (λ ack. bytes_eq ack.handle handle) (reverse known)))
+
+pub summary_given : LaneSays → (asked : Asked) (found : Option (List ℕ × ℕ)) (s : Standing)
+    → ((messages : List Message) → s.entries.state.scribe.acks ≡ acks messages → found ≡ summary_asked messages asked) → found ≡ summary_among s.entries.state.scribe.acks asked
+    → DoesOnLane (act.Summary asked) s s (Ok (Given (Summary found)))
+summary_given law asked found s by among = record {
   lane = record {
     added = [];
     adds = refl;
@@ -253,10 +254,8 @@ summary_given law asked found answer s by is = record {
     limited = λ unworn limited. absurd (true_is (sym limited));
     untouched = λ none. refl;
   };
-  end = λ l held finds.
-      let told = by (order (ledger l)) (said law s l finds).acks in
-      ap (λ f. ends (Given (Summary f))) (sym (is ∙ ap (under asked) told ∙ under_same asked (order (ledger l))));
-  suits = subst (λ f. IfSome f (λ pair. IsAsked asked pair.0)) (sym is) (under_asked asked found);
+  end = λ l held finds. ap (λ f. ends (Given (Summary f))) (sym (by (order (ledger l)) (said law s l finds).acks));
+  suits = subst (λ f. IfSome f (λ pair. IsAsked asked pair.0)) (sym among) (among_asked asked s.entries.state.scribe.acks);
   cause = tt;
 }
 

@@ -41,10 +41,11 @@ use Rattle.fluid_voice.specs.declared.ends.ActEnd.TheVariants.{Joined, Entered, 
 use Rattle.fluid_voice.specs.Ends.{outcome, join_of, joined_by}
 use Rattle.fluid_voice.specs.Ends.Outcome.{ends}
 use Rattle.fluid_voice.specs.Suits.{Suits}
-use Rattle.fluid_acts.specs.declared.fault.TalkFault.{TalkFault}
-use Rattle.fluid_acts.specs.declared.fault.TalkFault.TheVariants.{Lane, NoMemory}
-use Rattle.fluid_acts.specs.Faults.{refused_by}
-use Rattle.fluid_acts.specs.AtLane.{AddsBy, KeepsCheckpoints, IsEndAt, IsWorn, IsLimited, IsLimitFault, is_limited, entries_after, is_entering, is_asked_of_lane, OnLane}
+use Rattle.fluid_ends.specs.declared.fault.TalkFault.{TalkFault}
+use Rattle.fluid_ends.specs.declared.fault.TalkFault.TheVariants.{Lane, NoMemory}
+use Rattle.fluid_ends.specs.Faults.{refused_by}
+use Rattle.fluid_ends.specs.Adding.{AddsBy}
+use Rattle.fluid_acts.specs.AtLane.{KeepsCheckpoints, IsEndAt, IsWorn, IsLimited, IsLimitFault, is_limited, entries_after, is_entering, is_asked_of_lane, OnLane}
 use Rattle.fluid_acts.specs.Doing.{found_in}
 use Rattle.fluid_acts.specs.Parts.{DoesOnLane, FindsLane, JoinedEnd}
 use Rattle.fluid_acts.proofs.Limited.{Rules, IsWhy, why, err_same, refuses_one, refuses_two, first_one, none_of_one, first_two, none_of_two}

@@ -3,3 +3,4 @@ pub mod Limited
 pub mod Entering
 pub mod Reading
 pub mod Arms
+pub mod Following

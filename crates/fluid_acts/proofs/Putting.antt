@@ -17,8 +17,8 @@ use Rattle.fluid_voice.specs.declared.actions.Act.TheVariants as act
 use Rattle.fluid_voice.specs.declared.ends.ActEnd.TheVariants.{Given}
 use Rattle.fluid_voice.specs.Ends.{put_under, held_with, held_behind}
 use Rattle.fluid_voice.specs.Ends.Outcome.{ends, clashes}
-use Rattle.fluid_acts.specs.declared.fault.TalkFault.TheVariants.{Store}
-use Rattle.fluid_acts.specs.Faults.{of_store}
+use Rattle.fluid_ends.specs.declared.fault.TalkFault.TheVariants.{Store}
+use Rattle.fluid_ends.specs.Faults.{of_store}
 use Rattle.fluid_acts.specs.Parts.{DoesOnStore}
 
 some_same : {A : Type 0} (a b : A) → ◌≡◌ {A = Option A} (Some a) (Some b) → a ≡ b

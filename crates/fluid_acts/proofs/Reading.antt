@@ -24,8 +24,8 @@ use Rattle.fluid_voice.specs.declared.actions.Act.TheVariants as act
 use Rattle.fluid_voice.specs.declared.ends.ActEnd.TheVariants.{Given}
 use Rattle.fluid_voice.specs.Ends.{range_asked, range_from, bounded, placed, most_deltas, deltas_in, out_of_range}
 use Rattle.fluid_voice.specs.Ends.Outcome.{ends}
-use Rattle.fluid_acts.specs.declared.fault.TalkFault.TheVariants.{Delta}
-use Rattle.fluid_acts.specs.Faults.{of_delta}
+use Rattle.fluid_ends.specs.declared.fault.TalkFault.TheVariants.{Delta}
+use Rattle.fluid_ends.specs.Faults.{of_delta}
 use Rattle.fluid_acts.specs.AtLane.{KeepsCheckpoints, IsRangeEnd, OnLane}
 use Rattle.fluid_acts.specs.Parts.{DoesOnLane}
 use Rattle.fluid_acts.proofs.Entering.{said}

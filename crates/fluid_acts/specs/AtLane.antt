@@ -1,15 +1,11 @@
 -- What an act does to the lane of its document, whether its keeper tells its content or not.
-use Rattle.std.specs.Prelude.{◌≡◌, ◌⊎◌, ℕ, ◌+◌, ◌<◌, ◌≤◌, ⊤, ◌||◌, Bool, true, false, List, [], ◌∷◌, Result, Ok, Err, OnOk, IfOk, IfErr}
+use Rattle.std.specs.Prelude.{◌≡◌, ◌⊎◌, ℕ, ◌+◌, ◌<◌, ◌≤◌, ⊤, ◌||◌, Bool, true, false, List, Result, Ok, Err, OnOk, IfOk, IfErr}
 use Rattle.std.specs.Option.{option_map}
 use Rattle.fluid_io.specs.Causes.{Tells}
-use Rattle.fluid_json.specs.Tree.{Tree}
-use Rattle.fluid_types.specs.declared.entries.Scopes.{Scopes}
 use Rattle.fluid_types.specs.declared.entries.Raw.{Raw}
 use Rattle.fluid_types.specs.declared.entries.Raw.TheVariants.{Join}
 use Rattle.fluid_types.specs.declared.fault.Field.{Field}
 use Rattle.fluid_types.specs.Names.{entry_name}
-use Rattle.fluid_types.specs.declared.messages.Message.{Message}
-use Rattle.fluid_types.specs.declared.verdicts.Verdict.TheVariants.{Sequenced}
 use Rattle.fluid_log.specs.Keeping.{Keeping}
 use Rattle.fluid_codec.specs.declared.replies.Reply.TheVariants.{Deltas}
 use Rattle.fluid_core.specs.Entering.{verdict_in}
@@ -20,7 +16,6 @@ use Rattle.fluid_deltas.specs.declared.fault.DeltaFault.TheVariants as delta
 use Rattle.fluid_lane.specs.declared.fault.LaneFault.{LaneFault}
 use Rattle.fluid_lane.specs.declared.fault.LaneFault.TheVariants as lane
 use Rattle.fluid_lane.specs.declared.steps.Step.{Step}
-use Rattle.fluid_lane.specs.declared.steps.Step.TheVariants as step
 use Rattle.fluid_lane.specs.Standing.{Standing, LaneStands, Goes, is_worn}
 use Rattle.fluid_lane.specs.Refusals.{IsCutFailed, is_full, is_full_for, has_too_many}
 use Rattle.fluid_voice.specs.declared.actions.Act.{Act}
@@ -28,28 +23,10 @@ use Rattle.fluid_voice.specs.declared.actions.Act.TheVariants as act
 use Rattle.fluid_voice.specs.declared.ends.ActEnd.{ActEnd}
 use Rattle.fluid_voice.specs.declared.ends.ActEnd.TheVariants.{Joined, Told, Entered, FullNow, TooMany, Given}
 use Rattle.fluid_voice.specs.Ends.{range_asked, out_of_range}
-use Rattle.fluid_acts.specs.declared.fault.TalkFault.{TalkFault}
-use Rattle.fluid_acts.specs.declared.fault.TalkFault.TheVariants.{Lane, NoMemory}
-use Rattle.fluid_acts.specs.Faults.{talk_steps}
-
--- ---- what it adds
-
--- the join of a connect, under this id, with a message of this number
-pub record IsJoinStep (id : List ℕ) (scopes : Scopes) (detail : Tree) (moment number : ℕ) (added : List Step) : Type 0 where
-  pub message : Message
-  pub is : added ≡ step.Entered (Join id scopes detail moment) (Sequenced message) ∷ []
-  pub numbered : message.number ≡ number
-
--- the steps that an act with this end added: an entry with its verdict, a join with its message, or none
-abbrev pub AddsBy : Act → ActEnd → List Step → Type 0
-AddsBy (act.Enter raw) (Entered verdict) added = added ≡ step.Entered raw verdict ∷ []
-AddsBy (act.Connect name write scopes detail moment) (Joined id number) added = IsJoinStep id scopes detail moment number added
-AddsBy act end added = added ≡ []
-
--- by the answer: a fault of the keeper adds its note
-abbrev pub Adds : Act → Result ActEnd TalkFault → List Step → Type 0
-Adds act (Ok end) added = AddsBy act end added
-Adds act (Err fault) added = added ≡ talk_steps fault
+use Rattle.fluid_ends.specs.declared.fault.TalkFault.{TalkFault}
+use Rattle.fluid_ends.specs.declared.fault.TalkFault.TheVariants.{Lane, NoMemory}
+use Rattle.fluid_ends.specs.Adding.{Adds}
+pub use Rattle.fluid_ends.specs.Asking.{is_entering, is_asked_of_lane}
 
 -- ---- what it leaves
 
@@ -92,12 +69,6 @@ IsEndAt s (act.Connect name false scopes detail moment) end = end ≡ Told s.ent
 IsEndAt s (act.Deltas from to) end = IsRangeEnd (range_asked s.entries.state.sequencer.sequence from to) end
 IsEndAt s act end = ⊤
 
--- acts that may enter an entry
-abbrev pub is_entering : Act → Bool
-is_entering (act.Connect name write scopes detail moment) = write
-is_entering (act.Enter raw) = true
-is_entering act = false
-
 -- a worn lane says so, or memory was wanting before it was asked
 pub record IsWorn (old new : Standing) (result : Result ActEnd TalkFault) : Type 0 where
   pub answer : (result ≡ Err NoMemory) ⊎ (result ≡ Err (Lane lane.Worn))
@@ -119,13 +90,6 @@ IsLimitFault old new fault = ⊥
 pub record IsLimited (old new : Standing) (result : Result ActEnd TalkFault) : Type 0 where
   pub fails : IfErr result (IsLimitFault old new)
   pub unasked : old.owed ≡ false → new ≡ old
-
--- acts that aren't asked of the lane
-abbrev pub is_asked_of_lane : Act → Bool
-is_asked_of_lane (act.Connect name write scopes detail moment) = write
-is_asked_of_lane (act.Enter raw) = true
-is_asked_of_lane (act.Deltas from to) = true
-is_asked_of_lane act = false
 
 -- what an act does to the lane, over every keeper
 pub record OnLane (a : Act) (old new : Standing) (result : Result ActEnd TalkFault) : Type 0 where

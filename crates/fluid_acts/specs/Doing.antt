@@ -1,7 +1,5 @@
 -- How an act ends: as the document and the store answer it, or why it fails.
-use Rattle.std.specs.Prelude.{◌≡◌, ⊤, Bool, true, false, List, [], Some, IsSome, Result, Ok, Err}
-use Rattle.fluid_types.specs.Ledger.{Ledger}
-use Rattle.fluid_rules.specs.declared.limits.Limits.{Limits}
+use Rattle.std.specs.Prelude.{◌≡◌, ⊤, true, List, Some, IsSome, Result, Ok, Err}
 use Rattle.fluid_store.specs.Held.{Held}
 use Rattle.fluid_store.specs.Storing.{Storing}
 use Rattle.fluid_store.specs.declared.fault.StoreFault.TheVariants as store
@@ -10,16 +8,13 @@ use Rattle.fluid_lane.specs.Standing.{Standing, LaneStands}
 use Rattle.fluid_voice.specs.declared.actions.Act.{Act}
 use Rattle.fluid_voice.specs.declared.actions.Act.TheVariants as act
 use Rattle.fluid_voice.specs.declared.ends.ActEnd.{ActEnd}
-use Rattle.fluid_voice.specs.Ends.{Found, Outcome}
+use Rattle.fluid_voice.specs.Ends.{Outcome}
 use Rattle.fluid_voice.specs.Ends.Outcome.{ends, clashes}
-use Rattle.fluid_acts.specs.declared.fault.TalkFault.{TalkFault}
-use Rattle.fluid_acts.specs.declared.fault.TalkFault.TheVariants.{Door, Lane, Delta, Store, NoMemory}
+use Rattle.fluid_ends.specs.declared.fault.TalkFault.{TalkFault}
+use Rattle.fluid_ends.specs.declared.fault.TalkFault.TheVariants.{Door, Lane, Delta, Store, NoMemory}
+pub use Rattle.fluid_ends.specs.Asking.{found_in, is_range}
 use Rattle.fluid_acts.specs.AtLane.{is_entering, IsLaneCause, IsDeltaCause}
 use Rattle.fluid_acts.specs.AtStore.{is_asked_of_store, IsStoreCause}
-
--- what an act finds: the limits and the ledger of its document, which is open, and what the store holds
-abbrev pub found_in : Limits → Ledger → Held → Found
-found_in limits l held = record { opened = []; limits = limits; ledger = l; held = held }
 
 -- an act is asked of a lane that stands for a list, over a keeper that tells its content, or of a store that tells what it holds
 abbrev pub FindsTold : Act → Standing → List Step → Storing → Held → Type 0
@@ -36,10 +31,6 @@ IsEndOf named (Err fault) = ⊤
 -- ---- why it fails
 
 -- each act has the faults of its own call; want of memory alone is free
-abbrev pub is_range : Act → Bool
-is_range (act.Deltas from to) = true
-is_range a = false
-
 abbrev pub IsTalkCause : Act → (old new : Standing) → (before now : Storing) → TalkFault → Type 0
 IsTalkCause a old new before now (Lane fault) = (is_entering a ≡ true) × IsLaneCause old new fault
 IsTalkCause a old new before now (Delta fault) = (is_range a ≡ true) × IsDeltaCause a old new fault

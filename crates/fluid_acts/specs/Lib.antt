@@ -1,5 +1,5 @@
-pub mod Faults
 pub mod AtLane
 pub mod AtStore
 pub mod Doing
 pub mod Parts
+pub mod Laws

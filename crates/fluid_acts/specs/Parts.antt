@@ -1,12 +1,10 @@
 -- The parts of doing an act: what is asked of a lane alone, and of a store alone.
-use Rattle.std.specs.Prelude.{◌≡◌, ℕ, ⊤, true, List, Option, Some, option_map, IsSome, IfOk, IfErr, Result}
+use Rattle.std.specs.Prelude.{◌≡◌, ℕ, ⊤, true, List, Some, IsSome, IfOk, IfErr, Result}
 use Rattle.fluid_types.specs.declared.entries.Raw.{Raw}
 use Rattle.fluid_types.specs.declared.entries.Raw.TheVariants.{Join}
 use Rattle.fluid_types.specs.declared.messages.Message.{Message}
 use Rattle.fluid_types.specs.Ledger.{Ledger}
 use Rattle.fluid_rules.specs.declared.limits.Limits.{Limits}
-use Rattle.fluid_codec.specs.declared.events.Asked.{Asked}
-use Rattle.fluid_codec.specs.declared.events.Asked.TheVariants.{Latest, Handle}
 use Rattle.fluid_store.specs.Held.{Held}
 use Rattle.fluid_store.specs.Storing.{Storing}
 use Rattle.fluid_lane.specs.declared.steps.Step.{Step}
@@ -17,8 +15,8 @@ use Rattle.fluid_voice.specs.declared.ends.ActEnd.{ActEnd}
 use Rattle.fluid_voice.specs.declared.ends.ActEnd.TheVariants.{Joined}
 use Rattle.fluid_voice.specs.Ends.{outcome}
 use Rattle.fluid_voice.specs.Suits.{Suits}
-use Rattle.fluid_acts.specs.declared.fault.TalkFault.{TalkFault}
-use Rattle.fluid_acts.specs.declared.fault.TalkFault.TheVariants.{Lane, Delta, Store, NoMemory}
+use Rattle.fluid_ends.specs.declared.fault.TalkFault.{TalkFault}
+use Rattle.fluid_ends.specs.declared.fault.TalkFault.TheVariants.{Lane, Delta, Store, NoMemory}
 use Rattle.fluid_acts.specs.AtLane.{OnLane, is_entering, IsLaneCause, IsDeltaCause}
 use Rattle.fluid_acts.specs.AtStore.{OnStore, is_asked_of_store, IsStoreCause}
 use Rattle.fluid_acts.specs.Doing.{IsEndOf, found_in, is_range}
@@ -50,11 +48,6 @@ IsJoined raw = ⊥
 abbrev pub JoinedEnd : Raw → Message → ActEnd → Type 0
 JoinedEnd (Join id scopes detail moment) message end = end ≡ Joined id message.number
 JoinedEnd raw message end = ⊥
-
--- an answer to a handle is given under it
-abbrev pub under : Asked → Option (List ℕ × ℕ) → Option (List ℕ × ℕ)
-under Latest found = found
-under (Handle handle) found = option_map (λ (pair : List ℕ × ℕ). (handle, pair.1)) found
 
 -- ---- a store
 

@@ -2,10 +2,10 @@
 ghost use Rattle.std.specs.Prelude.{◌≡◌, ◌≤◌, ◌<◌, ◌+◌, ℤ, Ok};
 ghost use Rattle.fluid_voice.specs.declared.actions.Act.TheVariants as act;
 ghost use Rattle.fluid_voice.specs.Ends.{range_asked};
-ghost use Rattle.fluid_acts.specs.Parts.{DoesOnLane, DoesOnStore, under};
+ghost use Rattle.fluid_acts.specs.Parts.{DoesOnLane, DoesOnStore};
 
-use crate::TalkFault;
 use fluid_codec::{Asked, Reply};
+use fluid_ends::TalkFault;
 use fluid_io::FaultNote;
 use fluid_lane::{Lane, lanes_say_their_ledgers};
 use fluid_log::Keeper;
@@ -57,20 +57,7 @@ pub(crate) fn summary<K: Keeper>(lane: &Lane<K>, asked: &Asked) -> ActEnd
     ensures { DoesOnLane (act.Summary asked.now) lane.now lane.now (Ok result) }
 {
     lanes_say_their_ledgers();
-    let found = summary_asked(lane.acks(), asked);
-    ActEnd::Given(Reply::Summary(under(asked, found)))
-}
-
-fn under(asked: &Asked, found: Option<([u8; 20], u64)>) -> Option<([u8; 20], u64)>
-    ensures { result ≡ under asked.now found }
-{
-    match asked {
-        Asked::Latest => found,
-        Asked::Handle(handle) => match found {
-            Some((_, number)) => Some((*handle, number)),
-            None => None,
-        },
-    }
+    ActEnd::Given(Reply::Summary(summary_asked(lane.acks(), asked)))
 }
 
 /// Gives the bytes that are held under the id; none where nothing is.

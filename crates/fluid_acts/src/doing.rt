@@ -9,14 +9,14 @@ ghost use Rattle.fluid_voice.specs.declared.actions.Act.TheVariants as act;
 ghost use Rattle.fluid_voice.specs.Ends.{outcome};
 ghost use Rattle.fluid_voice.specs.Fitting.{IsFitting, IsLeaveOrSubmission};
 ghost use Rattle.fluid_voice.specs.Suits.{Suits};
-ghost use Rattle.fluid_acts.specs.Faults.{refused_by};
+ghost use Rattle.fluid_ends.specs.Faults.{refused_by};
 ghost use Rattle.fluid_acts.specs.AtLane.{OnLane};
 ghost use Rattle.fluid_acts.specs.AtStore.{OnStore};
 ghost use Rattle.fluid_acts.specs.Doing.{FindsTold, IsEndOf, IsTalkCause, found_in};
 ghost use Rattle.fluid_acts.specs.Parts.{DoesOnLane, IsJoined, JoinedEnd};
 
-use crate::TalkFault;
 use crate::asking::{get_object, messages_asked, put_object, summary};
+use fluid_ends::TalkFault;
 use fluid_json::{Json, NoMemory};
 use fluid_lane::{Lane, LaneFault, lanes_say_their_ledgers};
 use fluid_log::Keeper;

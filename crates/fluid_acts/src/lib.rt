@@ -2,13 +2,13 @@
 //!
 //! Its end is the one that the document's ledger and the store give it (`fluid_voice`'s `outcome`), or the fault of that call.
 //!
-//! - `doing`: `do_act`. `asking`: the acts that enter nothing. `fault`: why an act fails.
+//! - `doing`: `do_act`. `asking`: the acts that enter nothing. `laws`: what holds of several.
 #![tactic(auto)]
 
 mod asking;
 mod doing;
-mod fault;
+pub mod laws;
 
 pub use asking::{get_object, put_object};
 pub use doing::do_act;
-pub use fault::TalkFault;
+pub use fluid_ends::TalkFault;

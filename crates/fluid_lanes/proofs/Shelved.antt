@@ -3,14 +3,14 @@ use Rattle.std.proofs.Common.{◌≡◌, ◌⊎◌, inl, inr, ℕ, ◌+◌, ◌-
 use Rattle.std.specs.Option.{option_or}
 use Rattle.std.specs.FinMap.{FinMap, empty, get, insert, len, len-empty, len-remove, get-empty, empty_of_len}
 use Rattle.std.proofs.lemmas.Slice.Eq.{bytes_eq-Decides}
-use Rattle.fluid_io.specs.Causes.{Rose}
+use Rattle.fluid_io.specs.Causes.{Rose, one_more}
 use Rattle.fluid_table.specs.Table.{Values, byte_order}
 use Rattle.fluid_table.proofs.Places.{byte_order_total, get_inserted, get_removed, same_values}
 use Rattle.fluid_log.specs.Keeping.{Keeping}
 use Rattle.fluid_log.specs.Shelving.{Shelving}
 use Rattle.fluid_lane.specs.Standing.{Standing}
 use Rattle.fluid_lanes.specs.Opened.{AreShelved}
-use Rattle.fluid_lanes.specs.Closing.{kept_under, HeldBehind, HasFailed, AllComeBack, ComesBack, OneComesBack}
+use Rattle.fluid_lanes.specs.Closing.{kept_under, HeldBehind, HasFailed, IsLeft, AllComeBack, ComesBack, OneComesBack}
 
 -- ---- some have come back, and the others are still out
 
@@ -26,12 +26,20 @@ HeldYet lanes rest (Some held) (Some back) = (name : List ℕ) → get back name
 HeldYet lanes rest None None = Unit {0}
 HeldYet lanes rest old new = ⊥
 
+-- none of those that have come back failed
+abbrev pub NoneFailedYet : Values Standing → Values Standing → Shelving → Type 0
+NoneFailedYet lanes rest old =
+    (name : List ℕ) (lane : Standing) (given : ℕ) → get rest name ≡ None → get lanes name ≡ Some lane → get old.out name ≡ Some given → lane.keeping.faults < one_more given
+
 pub record HasClosed (count : ℕ) (lanes rest : Values Standing) (old new : Shelving) : Type 0 where
   pub part : (name : List ℕ) → (get rest name ≡ get lanes name) ⊎ (get rest name ≡ None)
   pub out : (name : List ℕ) → get new.out name ≡ cond (is_some (get rest name)) (get old.out name) None
   pub shelved : AreShelved rest new
   pub held : HeldYet lanes rest old.held new.held
+  pub leaves : (name : List ℕ) (lane : Standing) → get rest name ≡ None → get lanes name ≡ Some lane → IsLeft lane
   pub counted : (name : List ℕ) → get rest name ≡ None → HasFailed lanes old name → Rose old.faults new.faults
+  pub covered : (name : List ℕ) → get rest name ≡ None → (failed : HasFailed lanes old name) → failed.lane.keeping.faults ≤ new.faults
+  pub quiet : NoneFailedYet lanes rest old → new.faults ≡ old.faults
   pub later : old.faults ≤ new.faults
   pub left : len rest + count ≡ len lanes
 
@@ -62,7 +70,10 @@ at_first lanes old shelved = record {
   out = λ name. out_at_first _ (is_some (get lanes name)) (get old.out name) refl (shelved name);
   shelved = shelved;
   held = held_at_first lanes old.held;
+  leaves = λ name lane gone there. absurd (none_some lane (sym gone ∙ there));
   counted = λ name gone failed. absurd (none_some failed.lane (sym gone ∙ failed.open_));
+  covered = λ name gone failed. absurd (none_some failed.lane (sym gone ∙ failed.open_));
+  quiet = λ none. refl;
   later = omega arith;
   left = omega arith;
 }
@@ -77,6 +88,12 @@ rose_earlier first before now le rose = omega (arith, le, rose)
 
 rose_later : (before now last : ℕ) → Rose before now → now ≤ last → Rose before last
 rose_later before now last rose le = omega (arith, rose, le)
+
+at_most : (some now last : ℕ) → some ≤ now → now ≤ last → some ≤ last
+at_most some now last h k = omega (arith, h, k)
+
+false_true : false ≡ true → ⊥
+false_true same = cc
 
 part_more : (b : Bool) (before now lane : Option Standing) → now ≡ cond b None before → (before ≡ lane) ⊎ (before ≡ None) → (now ≡ lane) ⊎ (now ≡ None)
 part_more true before now lane is part = inr is
@@ -140,6 +157,49 @@ module _ (count : ℕ) (lanes rest now : Values Standing) (old new last : Shelvi
       let before = sym (rest_at q ∙ ap (λ b. cond b None (get rest q)) same) ∙ gone in
       rose_later old.faults new.faults last.faults (h.counted q before failed) one.back.later
 
+  -- it was given with as many faults as it is noted with
+  given_yet : (given : Option ℕ) → get new.out one.name ≡ given → is_some given ≡ true → (n : ℕ) × ((get new.out one.name ≡ Some n) × (get old.out one.name ≡ Some n))
+  given_yet None out some = absurd (false_true some)
+  given_yet (Some n) out some =
+      (n, (out, sym (h.out one.name ∙ ap (λ (lane : Option Standing). cond (is_some lane) (get old.out one.name) None) one.there) ∙ out))
+
+  given_own : (n : ℕ) × ((get new.out one.name ≡ Some n) × (get old.out one.name ≡ Some n))
+  given_own = given_yet (get new.out one.name) refl (h.shelved one.name ∙ ap is_some one.there)
+
+  gone_yet : (b : Bool) (before : Option Standing) → before ≡ None → cond b None before ≡ None
+  gone_yet true before none = refl
+  gone_yet false before none = none
+
+  -- whose lane was gone before is gone now
+  still_gone : (q : List ℕ) → get rest q ≡ None → get now q ≡ None
+  still_gone q gone = rest_at q ∙ gone_yet (bytes_eq q one.name) (get rest q) gone
+
+  -- and the one that came back
+  own_gone : get now one.name ≡ None
+  own_gone = rest_at one.name ∙ ap (λ b. cond b None (get rest one.name)) ((bytes_eq-Decides one.name one.name).1 refl)
+
+  quiet_more : NoneFailedYet lanes now old → last.faults ≡ old.faults
+  quiet_more none =
+      (one.back.counted given_own.0 given_own.1.0).no_more (none one.name one.lane given_own.0 own_gone own given_own.1.1)
+      ∙ h.quiet (λ name lane given gone there out. none name lane given (still_gone name gone) there out)
+
+  leaves_by : (q : List ℕ) (b : Bool) → bytes_eq q one.name ≡ b → get now q ≡ None → (lane : Standing) → get lanes q ≡ Some lane → IsLeft lane
+  leaves_by q true same gone lane there = subst IsLeft (some_same one.lane lane (sym (own_at q same) ∙ there)) one.left
+  leaves_by q false same gone lane there = h.leaves q lane (sym (rest_at q ∙ ap (λ b. cond b None (get rest q)) same) ∙ gone) there
+
+  covered_by : (q : List ℕ) (b : Bool) → bytes_eq q one.name ≡ b → get now q ≡ None → (failed : HasFailed lanes old q) → failed.lane.keeping.faults ≤ last.faults
+  covered_by q true same gone failed =
+      let name = (bytes_eq-Decides q one.name).0 same in
+      let lane = some_same failed.lane one.lane (sym failed.open_ ∙ own_at q same) in
+      let out = sym given_own.1.1 ∙ ap (λ k. get old.out k) (sym name) ∙ failed.out in
+      let given : given_own.0 ≡ failed.given = some_same given_own.0 failed.given out in
+      let rose = subst (λ (l : Standing). Rose failed.given l.keeping.faults) lane failed.rose in
+      let more = ((one.back.counted given_own.0 given_own.1.0).more (subst (λ n. Rose n one.lane.keeping.faults) (sym given) rose)).1 in
+      subst (λ (l : Standing). l.keeping.faults ≤ last.faults) (sym lane) more
+  covered_by q false same gone failed =
+      let before = sym (rest_at q ∙ ap (λ b. cond b None (get rest q)) same) ∙ gone in
+      at_most failed.lane.keeping.faults new.faults last.faults (h.covered q before failed) one.back.later
+
   len_less : len now ≡ len rest - 1
   len_less =
       ap len one.rest_is ∙ len-remove byte_order_total rest one.name
@@ -151,7 +211,10 @@ module _ (count : ℕ) (lanes rest now : Values Standing) (old new last : Shelvi
     out = λ q. out_more (bytes_eq q one.name) (get rest q) (get now q) (get new.out q) (get last.out q) (get old.out q) (rest_at q) (out_at q) (h.out q);
     shelved = λ q. shelved_more (bytes_eq q one.name) (get rest q) (get now q) (get new.out q) (get last.out q) (rest_at q) (out_at q) (h.shelved q);
     held = subst (HeldYet lanes now old.held) (sym one.back.held) (held_more old.held new.held h.held);
+    leaves = λ q lane gone there. leaves_by q _ refl gone lane there;
     counted = λ q gone failed. counted_by q _ refl gone failed;
+    covered = λ q gone failed. covered_by q _ refl gone failed;
+    quiet = quiet_more;
     later = omega (arith, h.later, one.back.later);
     left = omega (arith, len_less, h.left, lt);
   }
@@ -180,6 +243,9 @@ module _ (lanes rest : Values Standing) (old new : Shelving) where
       record {
         whole = same_values new.out empty (λ q. h.out q ∙ ap (λ (lane : Option Standing). cond (is_some lane) (get old.out q) None) (gone q) ∙ sym (get-empty byte_order q));
         held = held_at_last old.held new.held gone h.held;
+        left = λ q lane there. h.leaves q lane (gone q) there;
         counted = λ q failed. h.counted q (gone q) failed;
+        covered = λ q failed. h.covered q (gone q) failed;
+        quiet = λ none. h.quiet (λ q lane given gone_q there out. none q lane given there out);
         later = h.later;
       }

@@ -1,4 +1,4 @@
 pub mod Rows
 pub mod Opened
-pub mod Using
 pub mod Closing
+pub mod Using

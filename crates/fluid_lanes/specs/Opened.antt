@@ -1,7 +1,7 @@
 -- The documents that are open, by name, and the shelves from which their keepers are out.
 use Rattle.std.specs.Prelude.{◌≡◌, ℕ, ◌≤◌, Bool, List, Option, is_some, IsSome, refl}
 use Rattle.std.specs.Coded.{Coded, code_by, coded×, coded_ℕ, coded_bool, coded_option}
-use Rattle.std.specs.FinMap.{empty, get, insert}
+use Rattle.std.specs.FinMap.{empty, get, insert, len}
 use Rattle.fluid_table.specs.Table.{Values, values_code}
 use Rattle.fluid_log.specs.declared.keeper.TheConstants.{LONGEST_KEPT}
 use Rattle.fluid_log.specs.Shelving.{Shelving}
@@ -9,6 +9,7 @@ use Rattle.fluid_log.specs.Keeping.{Keeping}
 use Rattle.fluid_log.specs.Codes.{keeping_code, shelving_code}
 use Rattle.fluid_deltas.specs.Pushed.{Pushed, pushed_code}
 use Rattle.fluid_document.specs.Entries.{Entries, entries_code}
+use Rattle.fluid_opening.specs.declared.opening.TheConstants.{MOST_DOCUMENTS}
 use Rattle.fluid_rules.specs.declared.limits.Limits.{Limits}
 use Rattle.fluid_rules.specs.contracts.limits.Limits as limits
 use Rattle.fluid_lane.specs.declared.steps.Side.{Side}
@@ -55,4 +56,6 @@ AreShelved lanes shelving = (name : List ℕ) → is_some (get shelving.out name
 -- what always holds of them
 pub record AreOut (o : Opened) : Type 0 where
   pub out : AreShelved o.lanes o.shelving
+  -- and no more are open than may be
+  pub few : len o.lanes ≤ MOST_DOCUMENTS
   pub small : o.limits.bytes ≤ LONGEST_KEPT

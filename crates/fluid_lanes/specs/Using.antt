@@ -1,9 +1,12 @@
 -- What using a document does: one that isn't open is opened.
-use Rattle.std.specs.Prelude.{◌≡◌, ℕ, ◌<◌, ◌≤◌, ⊤, false, List, Option, Some, None, Result, Ok, Err}
+use Rattle.std.specs.Prelude.{◌≡◌, ◌⊎◌, ℕ, ◌<◌, ◌≤◌, ⊤, true, false, List, [], ◌∷◌, ◌++◌, Option, Some, None, Result, Ok, Err}
 use Rattle.std.specs.FinMap.{get, insert, len, remove}
 use Rattle.fluid_io.specs.Causes.{Tells}
 use Rattle.fluid_log.specs.Shelving.{PutsBack}
 use Rattle.fluid_opening.specs.declared.opening.TheConstants.{MOST_DOCUMENTS}
+use Rattle.fluid_types.specs.Ledger.{Ledger}
+use Rattle.fluid_types.specs.declared.entries.Raw.{Raw}
+use Rattle.fluid_rules.specs.Rules.{verdict}
 use Rattle.fluid_lane.specs.declared.steps.Step.{Step}
 use Rattle.fluid_lane.specs.Steps.{ledger, steps}
 use Rattle.fluid_lane.specs.Standing.{Standing, LaneStands}
@@ -12,6 +15,7 @@ use Rattle.fluid_opening.specs.Opening.{Opens, OpenDoes, IsRisen}
 use Rattle.fluid_opening.specs.declared.fault.DoorFault.{DoorFault}
 use Rattle.fluid_opening.specs.declared.fault.DoorFault.TheVariants.{TooManyDocuments}
 use Rattle.fluid_lanes.specs.Opened.{Opened, with_lane}
+use Rattle.fluid_lanes.specs.Closing.{IsLeft}
 
 -- ---- the first use
 
@@ -33,7 +37,7 @@ UsesBy None name moment old new = OpensNew name moment old new
 pub record IsOneTooMany (name : List ℕ) (old new : Opened) (count : ℕ) : Type 0 where
   pub absent : get old.lanes name ≡ None
   pub counted : count ≡ len old.lanes
-  pub most : MOST_DOCUMENTS ≤ count
+  pub most : count ≡ MOST_DOCUMENTS
   pub same : new ≡ old
 
 -- or its keeper wasn't given, or its lane not started
@@ -74,6 +78,7 @@ LeftBy name moment old (Err fault) new = Uses {A = Unit {0}} name moment old new
 -- it was closed: what the lane left of its keeper is back under the name
 pub record EndsLane (name : List ℕ) (lane : Standing) (old new : Opened) : Type 0 where
   pub back : PutsBack name old.shelving new.shelving lane.keeping
+  pub left : IsLeft lane
   pub lanes : new.lanes ≡ remove old.lanes name
   pub limits : new.limits ≡ old.limits
 
@@ -94,3 +99,14 @@ StandsAgain name moment old new =
     (before now : Standing) (l : List Step) → get old.lanes name ≡ Some before → get new.lanes name ≡ Some now
     → before.owed ≡ false → LaneStands before l
     → Tells old.shelving.held (λ _. Tells before.keeping.content (λ _. LaneStands now (steps (opening moment (ledger l)))))
+
+-- where it owes a cut, the record of the entry whose append failed may stand behind the ledger
+abbrev pub IsLeftWith : Ledger → Ledger → Type 0
+IsLeftWith l m = (m ≡ l) ⊎ ((raw : Raw) × (m ≡ l ++ (raw, verdict l raw) ∷ []))
+
+-- the same of a lane that owes a cut: it stands for its ledger, or for that with this one entry more, and the leaves
+abbrev pub StandsAgainPerhapsWith : List ℕ → ℕ → Opened → Opened → Type 0
+StandsAgainPerhapsWith name moment old new =
+    (before now : Standing) (l : List Step) → get old.lanes name ≡ Some before → get new.lanes name ≡ Some now
+    → before.owed ≡ true → LaneStands before l
+    → Tells old.shelving.held (λ _. Tells before.keeping.content (λ _. (m : Ledger) × (IsLeftWith (ledger l) m × LaneStands now (steps (opening moment m)))))

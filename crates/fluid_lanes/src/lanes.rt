@@ -6,7 +6,7 @@ ghost use Rattle.fluid_log.specs.Shelving.{AreWhole};
 ghost use Rattle.fluid_document.specs.Entries.{most};
 ghost use Rattle.fluid_opening.specs.Opening.{IsRisen};
 ghost use Rattle.fluid_lanes.specs.Opened.{nothing_open, with_lane};
-ghost use Rattle.fluid_lanes.specs.Using.{Uses, Ends, Reopens, Finds, LentBy, LeftBy, StandsAgain};
+ghost use Rattle.fluid_lanes.specs.Using.{Uses, Ends, Reopens, Finds, LentBy, LeftBy, StandsAgain, StandsAgainPerhapsWith};
 ghost use Rattle.fluid_lanes.specs.Closing.{Closes};
 
 use crate::closing::close_all;
@@ -159,6 +159,7 @@ where
         ensures later { self.old.shelving.faults ≤ self.new.shelving.faults }
         ensures cause { IfErr result (IsRisen self.old.shelving.faults self.new.shelving.faults) }
         ensures again { IfOk result (λ _. StandsAgain name.now moment self.old self.new) }
+        ensures owed { IfOk result (λ _. StandsAgainPerhapsWith name.now moment self.old self.new) }
     {
         self.end(name);
         self.open(alloc, name, moment)

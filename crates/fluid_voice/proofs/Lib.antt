@@ -7,3 +7,4 @@ pub mod Staying
 pub mod Entering
 pub mod Computed
 pub mod Feeding
+pub mod Ahead

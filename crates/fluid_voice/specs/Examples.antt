@@ -1,26 +1,33 @@
 -- Worked examples: what some texts ask for, and what comes of it.
 use Rattle.std.specs.Prelude.{◌≡◌, ℕ, ℤ, pos, negsuc, true, false, List, [], ◌∷◌, Some, None, Ok, Err, codes}
+use Rattle.std.specs.FinMap.{empty}
 use Rattle.fluid_json.specs.Tree.{null}
 use Rattle.fluid_types.specs.declared.entries.Raw.TheVariants.{Join, Submit}
 use Rattle.fluid_types.specs.declared.entries.Scopes.{Scopes}
 use Rattle.fluid_types.specs.declared.entries.Submission.{Submission}
 use Rattle.fluid_types.specs.declared.entries.Offered.TheVariants.{Op}
 use Rattle.fluid_types.specs.declared.fault.Field.TheVariants as field
-use Rattle.fluid_types.specs.declared.nacks.NackRule.TheVariants.{NotConnected, ForeignClient, ReadOnly, Full}
+use Rattle.fluid_types.specs.declared.nacks.NackRule.TheVariants.{Unread, NotConnected, ForeignClient, ReadOnly, Full}
+use Rattle.fluid_types.specs.declared.fault.What.TheVariants.{OutOfRange}
+use Rattle.fluid_types.specs.declared.fault.CodecFault.TheVariants.{BadField}
+use Rattle.fluid_types.specs.declared.messages.Message.{Message}
+use Rattle.fluid_tree.specs.declared.id.SummaryRef.{SummaryRef}
 use Rattle.fluid_types.specs.declared.verdicts.Verdict.TheVariants as verdict
 use Rattle.fluid_types.specs.declared.messages.Kind.TheVariants as kind
 use Rattle.fluid_types.specs.Ledger.{Ledger}
 use Rattle.fluid_rules.specs.declared.limits.Limits.{Limits}
 use Rattle.fluid_codec.specs.declared.events.Event.TheVariants as event
-use Rattle.fluid_codec.specs.declared.replies.Reply.TheVariants.{Connected, ConnectError, Nacked}
+use Rattle.fluid_codec.specs.declared.events.Asked.TheVariants.{Latest, Handle}
+use Rattle.fluid_codec.specs.declared.replies.Reply.TheVariants.{Connected, ConnectError, Nacked, Deltas, Object, Stored}
 use Rattle.fluid_voice.specs.declared.states.VoiceState.{VoiceState}
 use Rattle.fluid_voice.specs.declared.states.VoiceState.TheVariants.{Fresh, Reading, Writing}
 use Rattle.fluid_voice.specs.declared.actions.Act.TheVariants as act
-use Rattle.fluid_voice.specs.declared.ends.ActEnd.TheVariants.{Joined, Told, Entered, FullNow, TooMany}
+use Rattle.fluid_voice.specs.declared.ends.ActEnd.TheVariants.{Joined, Told, Entered, FullNow, TooMany, Given}
 use Rattle.fluid_voice.specs.Refusals.{front_nack}
 use Rattle.fluid_voice.specs.Heard.{event_acts}
 use Rattle.fluid_voice.specs.Replies.{replies_to, state_after}
-use Rattle.fluid_voice.specs.Ends.{range_asked, connect_end, entry_end}
+use Rattle.fluid_voice.specs.Ends.{range_asked, connect_end, entry_end, deltas_in, summary_among, put_under, outcome}
+use Rattle.fluid_voice.specs.Ends.Outcome.{ends, clashes}
 
 -- a document, and a client of it
 abbrev pub d : List ℕ
@@ -132,3 +139,34 @@ AtLimits =
     × (connect_end (limits 1 1) joined_by_c0 true read_write null 5 ≡ FullNow)
     × (entry_end (limits 1 1) joined_by_c0 (Submit c0 (op 1 (pos 1)) 7) ≡ FullNow)
     × (connect_end (limits 1 1) joined_by_c0 false read_write null 5 ≡ Told 1)
+
+-- ---- what a store and an order answer
+
+-- of three messages those with the numbers 2 and 3; behind the last there are none
+abbrev pub Slices : Type 0
+Slices =
+    (one two three : Message)
+    → (deltas_in (one ∷ two ∷ three ∷ []) (range_asked 3 (pos 2) (pos 4)) ≡ Deltas 2 (two ∷ three ∷ []))
+    × (deltas_in (one ∷ two ∷ three ∷ []) (range_asked 3 (pos 4) (pos 4)) ≡ Deltas 4 [])
+    × (deltas_in (one ∷ two ∷ three ∷ []) (range_asked 3 (pos 5) (pos 5)) ≡ Nacked None (front_nack (Unread (BadField field.From OutOfRange))))
+
+-- an acknowledgement of this version, with its reference
+abbrev pub ack : ℕ → ℕ → SummaryRef
+ack handle number = record { handle = handle ∷ []; number = number }
+
+-- one version was acknowledged twice: its last acknowledgement is given
+abbrev pub TwoAcks : Type 0
+TwoAcks =
+    (summary_among (ack 7 3 ∷ ack 8 5 ∷ ack 7 6 ∷ ack 9 8 ∷ []) (Handle (7 ∷ [])) ≡ Some (7 ∷ [], 6))
+    × (summary_among (ack 7 3 ∷ ack 8 5 ∷ ack 7 6 ∷ ack 9 8 ∷ []) Latest ≡ Some (9 ∷ [], 8))
+    × (summary_among (ack 7 3 ∷ []) (Handle (8 ∷ [])) ≡ None)
+    × (summary_among [] Latest ≡ None)
+
+-- where nothing is held, nothing is given. The same bytes are put once more, other ones clash and aren't
+abbrev pub Objects : Type 0
+Objects =
+    ((limits : Limits) (l : Ledger) (id : List ℕ)
+    → outcome (record { opened = []; limits = limits; ledger = l; held = empty }) (act.GetObject id) ≡ ends (Given (Object id None)))
+    × (put_under (1 ∷ []) (2 ∷ []) None ≡ ends (Given (Stored (1 ∷ []))))
+    × (put_under (1 ∷ []) (2 ∷ []) (Some (2 ∷ [])) ≡ ends (Given (Stored (1 ∷ []))))
+    × (put_under (1 ∷ []) (2 ∷ []) (Some (3 ∷ [])) ≡ clashes (1 ∷ []) (3 ∷ []) (2 ∷ []))

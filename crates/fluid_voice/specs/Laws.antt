@@ -1,5 +1,5 @@
 -- What holds of what is asked and answered.
-use Rattle.std.specs.Prelude.{◌≡◌, ◌≤◌, ⊤, ℕ, true, false, List, [], ◌∷◌, All, map, Option, Some, None}
+use Rattle.std.specs.Prelude.{◌≡◌, ◌<◌, ◌≤◌, ⊤, ℕ, true, false, List, [], ◌∷◌, All, map, Option, Some, None}
 use Rattle.fluid_types.specs.Ledger.{Ledger}
 use Rattle.fluid_types.specs.declared.entries.Submission.{Submission}
 use Rattle.fluid_types.specs.declared.entries.Raw.{Raw}
@@ -13,7 +13,7 @@ use Rattle.fluid_voice.specs.declared.actions.Act.{Act}
 use Rattle.fluid_voice.specs.declared.actions.Act.TheVariants as act
 use Rattle.fluid_voice.specs.declared.ends.ActEnd.{ActEnd}
 use Rattle.fluid_voice.specs.declared.ends.ActEnd.TheVariants.{FullNow}
-use Rattle.fluid_voice.specs.States.{client_id, is_connected}
+use Rattle.fluid_voice.specs.States.{client_id, is_connected, next_number, with_next}
 use Rattle.fluid_voice.specs.Heard.{submission_acts, acts_of, entries_in, submissions_of}
 use Rattle.fluid_voice.specs.Replies.{replies_to, state_after}
 use Rattle.fluid_voice.specs.Ends.{join_of, Found, Outcome, outcome, outcomes}
@@ -34,6 +34,12 @@ abbrev pub StayFull : List Outcome → Type 0
 StayFull [] = ⊤
 StayFull (ends FullNow ∷ rest) = All (λ o. o ≡ ends FullNow) rest
 StayFull (o ∷ rest) = StayFull rest
+
+-- the same of ends, whoever comes between
+abbrev pub FullBehind : List ActEnd → Type 0
+FullBehind [] = ⊤
+FullBehind (FullNow ∷ rest) = All (λ end. end ≡ FullNow) rest
+FullBehind (end ∷ rest) = FullBehind rest
 
 -- the submissions of a text, where nobody else comes between
 abbrev pub FullStaysFull : Type 0
@@ -58,6 +64,28 @@ abbrev pub ConnectedStay : Type 0
 ConnectedStay =
     (s : VoiceState) (text : List ℕ) (moment : ℕ) → is_connected s ≡ true
     → All (λ act. (end : ActEnd) → state_after s act end ≡ s) (acts_of s text moment)
+
+-- one reply, or one connect, or nothing
+abbrev pub IsOneAnswer : List Act → Type 0
+IsOneAnswer [] = ⊤
+IsOneAnswer (act.Say reply ∷ []) = ⊤
+IsOneAnswer (act.Connect name write scopes detail moment ∷ []) = ⊤
+IsOneAnswer acts = ⊥
+
+-- a text of one that isn't connected asks for no more
+abbrev pub OthersConnect : Type 0
+OthersConnect = (s : VoiceState) (text : List ℕ) (moment : ℕ) → is_connected s ≡ false → IsOneAnswer (acts_of s text moment)
+
+-- the number that a connected one is told next is that of a message: none has number 0
+abbrev pub IsAhead : VoiceState → Type 0
+IsAhead s = is_connected s ≡ true → 0 < next_number s
+
+-- it stays one behind each act, and behind whatever is delivered
+abbrev pub NextStaysAhead : Type 0
+NextStaysAhead = (s : VoiceState) (act : Act) (end : ActEnd) → Suits act end → IsAhead s → IsAhead (state_after s act end)
+
+abbrev pub DeliveredStaysAhead : Type 0
+DeliveredStaysAhead = (s : VoiceState) (number : ℕ) → IsAhead s → IsAhead (with_next number s)
 
 -- no reply to a text is an op event: these come from the feed alone
 abbrev pub RepliesAreNoEvents : Type 0

@@ -1,5 +1,5 @@
 -- What comes of an act: the replies, and where the connection stands then.
-use Rattle.std.specs.Prelude.{ℕ, ◌-◌, Bool, true, false, is_some, not, if◌then◌else◌, List, [], ◌∷◌, ◌++◌, Option, Some, None}
+use Rattle.std.specs.Prelude.{ℕ, ◌+◌, ◌-◌, Bool, true, false, is_some, not, if◌then◌else◌, List, [], ◌∷◌, ◌++◌, Option, Some, None}
 use Rattle.std.specs.List.{list_any}
 use Rattle.fluid_types.specs.declared.entries.Raw.{Raw}
 use Rattle.fluid_types.specs.declared.entries.Raw.TheVariants.{Leave}
@@ -89,9 +89,14 @@ abbrev pub connect_state : List ℕ → Bool → VoiceState → ActEnd → Voice
 connect_state name write s end =
     if is_fresh s then (if write then writer_state name s end else reader_state name s end) else s
 
+-- the verdict of what was entered
+abbrev pub entered_verdict : ActEnd → Option Verdict
+entered_verdict (Entered verdict) = Some verdict
+entered_verdict end = None
+
 -- a leave was entered
 abbrev pub has_left : Raw → ActEnd → Bool
-has_left (Leave id moment) (Entered verdict) = true
+has_left (Leave id moment) end = is_some (entered_verdict end)
 has_left raw end = false
 
 -- where a connection stands behind an act: a connect and its leave change that
@@ -116,10 +121,27 @@ replies_behind s (done ∷ rest) = replies_to s done.0 done.1 ++ replies_behind 
 
 -- ---- what is counted
 
--- the verdict of what was entered
-abbrev pub entered_verdict : ActEnd → Option Verdict
-entered_verdict (Entered verdict) = Some verdict
-entered_verdict end = None
+abbrev pub is_sequenced : Verdict → Bool
+is_sequenced (verdict.Sequenced message) = true
+is_sequenced v = false
+
+abbrev pub is_dropped : Verdict → Bool
+is_dropped verdict.Dropped = true
+is_dropped v = false
+
+abbrev pub is_nacked : Verdict → Bool
+is_nacked (verdict.Nacked nack) = true
+is_nacked v = false
+
+-- 1 where there is such a verdict
+abbrev pub one_where : (Verdict → Bool) → Option Verdict → ℕ
+one_where kind None = 0
+one_where kind (Some v) = if kind v then 1 else 0
+
+-- how many of the entries got such a verdict
+abbrev pub count_of : (Verdict → Bool) → List (Act × ActEnd) → ℕ
+count_of kind [] = 0
+count_of kind (done ∷ rest) = one_where kind (entered_verdict done.1) + count_of kind rest
 
 -- a nack of the front, which carries no operation
 abbrev pub is_front_nack : Reply → Bool

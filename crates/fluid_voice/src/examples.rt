@@ -1,5 +1,5 @@
 // Worked examples of what is heard and answered, each computed from the definitions.
-ghost use Rattle.fluid_voice.specs.Examples.{OnlyReading, Writers, OneConnect, WhoSubmits, WhatIsTold, Ranges, LongRanges, AtLimits};
+ghost use Rattle.fluid_voice.specs.Examples.{OnlyReading, Writers, OneConnect, WhoSubmits, WhatIsTold, Ranges, LongRanges, AtLimits, Slices, TwoAcks, Objects};
 
 /// Who may only read is connected for reading, and told the last number.
 pub fn only_reading()
@@ -39,4 +39,19 @@ pub fn long_ranges()
 /// What a document with one client answers, at its limits and below them.
 pub fn at_limits()
     ensures { AtLimits }
+{}
+
+/// The messages of a range.
+pub fn slices()
+    ensures { Slices }
+{}
+
+/// A version that was acknowledged twice.
+pub fn two_acks()
+    ensures { TwoAcks }
+{}
+
+/// Objects that are held, aren't, or are others.
+pub fn objects()
+    ensures { Objects }
 {}

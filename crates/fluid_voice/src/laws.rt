@@ -1,7 +1,7 @@
 // What holds of the definitions, said by functions that do nothing.
 ghost use Rattle.fluid_voice.specs.Feed.{EventsBringAll, EventsAreWhole};
 ghost use Rattle.fluid_voice.specs.Fitting.{HeardFits};
-ghost use Rattle.fluid_voice.specs.Laws.{FullGoesOn, FullStaysFull, OutcomesSuit, ConnectedStay, WritersEnter, RepliesAreNoEvents};
+ghost use Rattle.fluid_voice.specs.Laws.{FullGoesOn, FullStaysFull, OutcomesSuit, ConnectedStay, WritersEnter, RepliesAreNoEvents, OthersConnect, NextStaysAhead, DeliveredStaysAhead};
 
 /// What a text asks for fits a document's log, where the text isn't longer than one that is heard.
 pub fn what_is_heard_fits()
@@ -28,6 +28,17 @@ pub fn connected_ones_stay()
 /// Only a client that writes enters something of a text: the submissions under its own id, in their order.
 pub fn writers_enter()
     ensures { WritersEnter }
+{}
+
+/// What isn't connected gets one reply to a text, or is connected by it.
+pub fn others_connect()
+    ensures { OthersConnect }
+{}
+
+/// The number of the message that is delivered next is never 0, where one is connected.
+pub fn next_stays_ahead()
+    ensures acts { NextStaysAhead }
+    ensures delivered { DeliveredStaysAhead }
 {}
 
 /// Op events come from the feed alone, and never as a reply to a text.

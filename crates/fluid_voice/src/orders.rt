@@ -59,7 +59,8 @@ pub fn out_of_range(field: Field) -> Reply
 
 /// The handle and the number of the summary that is asked for, among the acknowledged ones of an order, oldest first.
 pub fn summary_asked(acks: &[SummaryRef], asked: &Asked) -> Option<([u8; 20], u64)>
-    ensures { (messages : List Message) → acks.now ≡ acks_of messages → result ≡ summary_asked messages asked.now }
+    ensures among { result ≡ summary_among acks.now asked.now }
+    ensures order { (messages : List Message) → acks.now ≡ acks_of messages → result ≡ summary_asked messages asked.now }
 {
     summary_among(acks, asked)
 }

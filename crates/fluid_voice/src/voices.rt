@@ -1,15 +1,16 @@
 // A connection's voice.
-ghost use Rattle.std.specs.Prelude.{◌≡◌, ◌≤◌, ◌-◌, ◌∷◌, [], max, is_some, Some, None, true, false, if◌then◌else◌, IfOk, IfSome, option_map, length, All};
+ghost use Rattle.std.specs.Prelude.{◌≡◌, ◌<◌, ◌≤◌, ◌-◌, ◌∷◌, [], List, ℕ, max, is_some, Some, None, true, false, if◌then◌else◌, IfOk, IfSome, option_map, length, All};
 ghost use Rattle.fluid_types.specs.Forms.{largest};
 ghost use Rattle.fluid_readback.specs.Laws.{longest_text};
 ghost use Rattle.fluid_voice.specs.declared.states.VoiceState.TheVariants.{Fresh, Reading, Writing, Used};
 ghost use Rattle.fluid_codec.specs.declared.replies.Reply.TheVariants.{Connected, Ops};
 ghost use Rattle.fluid_types.specs.declared.entries.Raw.TheVariants.{Leave};
 ghost use Rattle.fluid_voice.specs.declared.actions.Act.TheVariants as act;
-ghost use Rattle.fluid_voice.specs.States.{document_name, is_fresh, leave_of, number_behind, with_next};
+ghost use Rattle.fluid_voice.specs.States.{client_id, document_name, is_fresh, leave_of, number_behind, with_next};
 ghost use Rattle.fluid_voice.specs.Refusals.{refused};
 ghost use Rattle.fluid_voice.specs.Heard.{acts_of};
 ghost use Rattle.fluid_voice.specs.Fitting.{IsFitting};
+ghost use Rattle.fluid_voice.specs.Feed.{most_in_event};
 ghost use Rattle.fluid_voice.specs.Replies.{writer_replies, reader_replies, connect_replies, entry_replies, replies_to, writer_state, reader_state, connect_state, has_left, state_after, entered_verdict};
 
 use crate::actions::{Act, Acts};
@@ -55,6 +56,18 @@ impl Voice {
         ensures { result.now ≡ self.now }
     {
         &self.state
+    }
+
+    /// Whether it is a client that writes, which enters a leave when it ends.
+    pub fn writes(&self) -> bool
+        ensures { result ≡ is_some (client_id self.now) }
+    {
+        match &self.state {
+            VoiceState::Fresh => false,
+            VoiceState::Reading(_, _) => false,
+            VoiceState::Writing(_, _, _) => true,
+            VoiceState::Used => false,
+        }
     }
 
     /// What a text asks for that is heard at this moment, in milliseconds: acts that are to be done one after another, each
@@ -206,9 +219,11 @@ impl Voice {
         }
     }
 
-    /// An op event with these messages, under the name of the connection's document; none where it is connected to none. How many
-    /// there are is the caller's part: see `MOST_IN_EVENT`.
+    /// An op event with these messages, at most `MOST_IN_EVENT` and not none, under the name of the connection's document; none where
+    /// it is connected to none.
     pub fn event(&self, alloc: Global, messages: Messages) -> Result<Option<Reply>, NoMemory>
+        requires some { 0 < length messages }
+        requires few { length messages ≤ most_in_event }
         ensures { IfOk result (λ event. event ≡ option_map (λ name. Ops name messages) (document_name self.now)) }
     {
         event(alloc, &self.state, messages)
@@ -227,8 +242,17 @@ impl Voice {
         }
     }
 
-    /// A connection that has no leave to enter ends. One that has is closed when its end is taken. Takes no memory.
+    /// The same as `take` of a leave whose entry was handed on: where it was entered, the connection has left. Takes no memory.
+    pub fn take_leave(&mut self, end: &ActEnd)
+        ensures { (id : List ℕ) (moment : ℕ) → self.new ≡ state_after self.old (act.Enter (Leave id moment)) end.now }
+    {
+        let left = is_entered(end);
+        self.close_if(left);
+    }
+
+    /// A connection that has no leave to enter ends. Takes no memory.
     pub fn close(&mut self)
+        requires { client_id self.old ≡ None }
         ensures { self.new ≡ Used }
     {
         self.state = VoiceState::Used;

@@ -97,6 +97,13 @@ impl Life {
         self.end(rt, alloc, &End::Sequenced, "");
     }
 
+    fn close(&mut self, rt: &impl Abort) {
+        if self.voice.writes() {
+            panic!(rt; "a leave is to be entered");
+        }
+        self.voice.close();
+    }
+
     fn do_step(&mut self, rt: &impl Abort, alloc: Global, step: &Step) {
         match step {
             Step::Fresh => *self = Life::new(alloc),
@@ -108,7 +115,7 @@ impl Life {
             Step::Leaves(wanted) => self.leave(rt, alloc, *wanted),
             Step::Delivers(next) => self.voice.advance(*next),
             Step::Goes => self.go(rt, alloc),
-            Step::Closes => self.voice.close(),
+            Step::Closes => self.close(rt),
         }
     }
 }

@@ -8,4 +8,5 @@ returns-in-Some g c = inr (record {
   there = c.in-Some.ensures.0;
   rest_is = c.in-Some.ensures.1;
   back = rw c.close.ensures.keeper at c.put_back.ensures.does;
+  left = rw c.close.ensures.keeper at c.close.ensures.left;
 })

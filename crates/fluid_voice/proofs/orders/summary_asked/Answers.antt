@@ -12,4 +12,4 @@ among list messages Latest same = ap (λ (l : List SummaryRef). summary_among l 
 among list messages (Handle handle) same = ap (λ (l : List SummaryRef). summary_among l (Handle handle)) same
 
 pub returns : goal.returns
-returns c = λ messages same. c.summary_among.ensures ∙ among _ messages _ same
+returns c = record { among = c.summary_among.ensures; order = λ messages same. c.summary_among.ensures ∙ among _ messages _ same }

@@ -1,13 +1,15 @@
 //! Why an act of a connection fails.
-ghost use Rattle.std.specs.Prelude.{◌≡◌};
-ghost use Rattle.fluid_acts.specs.declared.fault.TalkFault.TheVariants.{NoMemory as TalkNoMemory};
-ghost use Rattle.fluid_acts.specs.Faults.{of_delta, of_door, of_store};
+ghost use Rattle.std.specs.Prelude.{◌≡◌, IfOk};
+ghost use Rattle.fluid_ends.specs.declared.fault.TalkFault.TheVariants.{NoMemory as TalkNoMemory};
+ghost use Rattle.fluid_ends.specs.Faults.{of_delta, of_door, of_store};
 
+use crate::copies::store_fault;
 use fluid_deltas::DeltaFault;
 use fluid_json::NoMemory;
 use fluid_lane::LaneFault;
 use fluid_opening::DoorFault;
 use fluid_store::StoreFault;
+use std::alloc::Global;
 
 /// Why an act of a connection fails. That a document is full, or has too many clients, is no fault but an end of the act.
 #[derive(Drop)]
@@ -22,6 +24,30 @@ pub enum TalkFault {
     Store(StoreFault),
     /// Whatever lacked it.
     NoMemory,
+}
+
+impl TalkFault {
+    /// The same fault with its own memory.
+    pub fn copy(&self, alloc: Global) -> Result<TalkFault, NoMemory>
+        ensures { IfOk result (λ copy. copy ≡ self.now) }
+    {
+        match self {
+            TalkFault::Door(fault) => {
+                let fault = fault.copy(alloc)?;
+                Ok(TalkFault::Door(fault))
+            }
+            TalkFault::Lane(fault) => {
+                let fault = fault.copy(alloc)?;
+                Ok(TalkFault::Lane(fault))
+            }
+            TalkFault::Delta(fault) => Ok(TalkFault::Delta(*fault)),
+            TalkFault::Store(fault) => {
+                let fault = store_fault(alloc, fault)?;
+                Ok(TalkFault::Store(fault))
+            }
+            TalkFault::NoMemory => Ok(TalkFault::NoMemory),
+        }
+    }
 }
 
 impl From<NoMemory> for TalkFault {

@@ -12,8 +12,8 @@ use Rattle.fluid_lane.specs.declared.steps.Step.{Step}
 use Rattle.fluid_lane.specs.Steps.{fault_steps, delta_steps}
 use Rattle.fluid_voice.specs.declared.ends.ActEnd.{ActEnd}
 use Rattle.fluid_voice.specs.declared.ends.ActEnd.TheVariants.{FullNow, TooMany}
-use Rattle.fluid_acts.specs.declared.fault.TalkFault.{TalkFault}
-use Rattle.fluid_acts.specs.declared.fault.TalkFault.TheVariants.{Door, Lane, Delta, Store, NoMemory}
+use Rattle.fluid_ends.specs.declared.fault.TalkFault.{TalkFault}
+use Rattle.fluid_ends.specs.declared.fault.TalkFault.TheVariants.{Door, Lane, Delta, Store, NoMemory}
 
 abbrev pub of_door : DoorFault → TalkFault
 of_door door.NoMemory = NoMemory
