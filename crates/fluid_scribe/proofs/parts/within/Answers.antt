@@ -1,6 +1,5 @@
-use Rattle.std.proofs.Common.{◌≡◌, ap, ◌∙◌}
+use Rattle.std.proofs.Common.{ap, ◌∙◌}
 use Rattle.std.specs.Prelude.{filter}
-use Rattle.fluid_quorum.specs.declared.state.ScribeState.{ScribeState}
 use Rattle.fluid_scribe.specs.Within.{is_acknowledged, within}
 use Rattle.fluid_scribe.proofs.Alike.{same_parts}
 use Rattle.fluid_scribe.proofs.parts.within.Goals as goal
