@@ -1,3 +1,5 @@
 pub mod Answering
 pub mod Passes
 pub mod Reading
+pub mod Lookings
+pub mod Reporting

@@ -1,6 +1,7 @@
 -- What a door's call makes of a pass, from what its parts say.
-use Rattle.std.proofs.Common.{◌≡◌, ℕ, suc, ◌+◌, ◌≤◌, Bool, List, [], ◌∷◌, ◌++◌, length, is_some, Option, Some, None, Result, Ok, Err, refl, sym, ap, subst, ◌∙◌, append-nil, arith}
-use Rattle.std.specs.Prelude.{IfOk}
+use Rattle.std.proofs.Common.{◌≡◌, ℕ, suc, ◌+◌, ◌≤◌, Bool, List, [], ◌∷◌, ◌++◌, length, map, is_some, Option, Some, None, Result, Ok, Err, refl, sym, ap, subst, ◌∙◌, append-nil, append_assoc, arith}
+use Rattle.std.specs.Prelude.{IfOk, filter, not}
+use Rattle.std.proofs.lemmas.List.Filters.{length-filter_both}
 use Rattle.fluid_types.specs.declared.entries.Raw.{Raw}
 use Rattle.fluid_types.specs.declared.entries.Scopes.{Scopes}
 use Rattle.fluid_types.specs.declared.messages.Message.{Message}
@@ -8,7 +9,7 @@ use Rattle.fluid_types.specs.declared.verdicts.Verdict.TheVariants.{Sequenced}
 use Rattle.fluid_json.specs.Tree.{Tree}
 use Rattle.fluid_rules.specs.declared.limits.Limits.{Limits}
 use Rattle.fluid_turn.specs.declared.view.Numbered.{Numbered}
-use Rattle.fluid_turn.specs.Entries.{IsPrefix, entries}
+use Rattle.fluid_turn.specs.Entries.{IsPrefix, by_seat, entries, made_by, is_number}
 use Rattle.fluid_turn.specs.Seats.{seeing}
 use Rattle.fluid_document.specs.Entries.{most}
 use Rattle.fluid_lane.specs.declared.fault.LaneFault.{LaneFault}
@@ -31,11 +32,12 @@ continues old new added goes = record {
       ap (λ x. terms x new.opened (is_some new.keeping.content)) goes.limits
       ∙ ap (λ x. terms old.limits x (is_some new.keeping.content)) goes.opened
       ∙ ap (λ x. terms old.limits old.opened x) goes.told;
+  later = goes.later;
   list = goes.list;
 }
 
 pub continues_same : (s : Standing) → Continues s s []
-continues_same s = record { terms = refl; list = λ l stands. subst (LaneStands s) (sym (append-nil l)) stands }
+continues_same s = record { terms = refl; later = omega arith; list = λ l stands. subst (LaneStands s) (sym (append-nil l)) stands }
 
 -- ---- the pass
 
@@ -47,6 +49,15 @@ entries_length (x ∷ xs) = ap suc (entries_length xs)
 pub few_seen : (s : Standing) (l : List (Numbered Step)) → LaneStands s (entries l) → s.entries.entered + s.sides ≤ most → length l ≤ most
 few_seen s l stands few = let e = stands.number in let n = entries_length l in omega (arith, e, n, few)
 
+-- as many of them bear a number as there are, or fewer
+made_few : (number : ℕ) (l : List (Numbered Step)) → length (made_by number l) ≤ length l
+made_few number l =
+    let both = length-filter_both (λ x. is_number number x.number) (λ x. not (is_number number x.number)) (λ x. refl) l in
+    let same = entries_length (filter (λ x. is_number number x.number) l) in omega (arith, both, same)
+
+pub own_few : (p : APass) → p.mine ≡ made_by p.number p.seen → length p.mine ≤ length p.seen
+own_few p is = subst (λ m. length m ≤ length p.seen) (sym is) (made_few p.number p.seen)
+
 pub grows_by : (p q seat : APass) (list : List (Numbered Step)) (added : List Step) (holds : List Step → Type 0) → seat ≡ seeing list p → q ≡ adding added seat → length q.seen ≤ most → IsPrefix p.seen list → holds (entries list) → Grows p q added holds
 grows_by p q seat list added holds saw is few begins says =
     let same : q ≡ adding added (seeing list p) = is ∙ ap (adding added) saw in record {
@@ -56,6 +67,7 @@ grows_by p q seat list added holds saw is few begins says =
       begins = begins;
       seen = ap (λ k. k.seen) same;
       mine = ap (λ k. k.mine) same;
+      more = (begins.0 ++ map (by_seat p.number) added, ap (λ k. k.seen) same ∙ ap (λ l. l ++ map (by_seat p.number) added) begins.1 ∙ append_assoc p.seen begins.0 (map (by_seat p.number) added));
       few = few;
       says = says;
     }

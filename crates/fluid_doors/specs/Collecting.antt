@@ -1,11 +1,14 @@
 -- Messages that a reader gets.
-use Rattle.std.specs.Prelude.{◌≡◌, ⊤, ℕ, ◌+◌, ◌-◌, min, true, List, length, Result, IfOk, IfErr}
+use Rattle.std.specs.Prelude.{◌≡◌, ⊤, ℕ, ◌+◌, ◌-◌, ◌<◌, ◌≤◌, min, true, List, length, Result, IfOk, IfErr}
+use Rattle.fluid_io.specs.Causes.{Rose}
 use Rattle.fluid_types.specs.Ledger.{order}
+use Rattle.fluid_types.specs.Order.{AreNumberedFrom}
 use Rattle.fluid_types.specs.declared.messages.Message.{Message}
 use Rattle.fluid_rules.specs.Rules.{IsLegal}
 use Rattle.fluid_deltas.specs.Pushed.{slice}
 use Rattle.fluid_deltas.specs.declared.fault.DeltaFault.{DeltaFault}
 use Rattle.fluid_deltas.specs.declared.fault.DeltaFault.TheVariants.{DeltaFailed, NoMemory, BadDelta, Worn}
+use Rattle.fluid_document.specs.Entries.{most}
 use Rattle.fluid_lane.specs.declared.steps.Step.{Step}
 use Rattle.fluid_lane.specs.Steps.{ledger}
 use Rattle.fluid_doors.specs.declared.bench.Terms.{Terms}
@@ -32,7 +35,22 @@ pub record CollectsTold {V : Type 0} (messages : V → List Message) (next atmos
   -- a delta is never bad
   pub faults : IfErr result IsReadFault
 
--- the next messages of the ledger's order. Worn comes only where the list is as long as may be
+-- at most so many messages, numbered from the next number on
+pub record AreNext (next atmost : ℕ) (messages : List Message) : Type 0 where
+  pub numbered : AreNumberedFrom next messages
+  pub few : length messages ≤ atmost
+  pub last : 0 < length messages → next + length messages ≤ most + 1
+
+-- the keeper failed, and its count of faults rose in this call, or a bad delta is one of the numbers from the first to before the end
+abbrev pub IsFaultIn : (first end : ℕ) → DeltaFault → Type 0
+IsFaultIn first end (DeltaFailed note) = Rose note.before note.after
+IsFaultIn first end (BadDelta number) = (first ≤ number) × (number < end)
+IsFaultIn first end other = ⊤
+
+-- the next messages of the ledger's order. Over any keeper what is given has the next numbers, and worn comes only where the list
+-- is as long as may be
 pub record Collects {V : Type 0} (messages : V → List Message) (t : Terms) (next atmost : ℕ) (result : Result V DeltaFault) (l : List Step) : Type 0 where
   pub worn : IfErr result (λ fault. IsWornDelta fault → is_worn_behind l ≡ true)
+  pub given : IfOk result (λ v. AreNext next atmost (messages v))
+  pub faults : IfErr result (IsFaultIn next (next + atmost))
   pub told : t.told ≡ true → CollectsTold messages next atmost result l

@@ -1,5 +1,5 @@
 -- Calls that enter: submissions, joins, reports, and the leave of a client that was silent.
-use Rattle.std.specs.Prelude.{◌≡◌, ⊤, ℕ, nat_le, Bool, true, false, ◌&&◌, List, [], ◌∷◌, length, Option, Some, None, Result, Ok, Err, IfOk, IfErr}
+use Rattle.std.specs.Prelude.{◌≡◌, ⊤, ℕ, ◌<◌, nat_le, Bool, true, false, ◌&&◌, List, [], ◌∷◌, length, Option, Some, None, Result, Ok, Err, IfOk, IfErr, IfSome}
 use Rattle.fluid_json.specs.Tree.{Tree}
 use Rattle.fluid_types.specs.Names.{entry_name}
 use Rattle.fluid_types.specs.declared.entries.Raw.{Raw}
@@ -9,7 +9,10 @@ use Rattle.fluid_types.specs.declared.messages.Message.{Message}
 use Rattle.fluid_types.specs.declared.verdicts.Verdict.{Verdict}
 use Rattle.fluid_types.specs.declared.verdicts.Verdict.TheVariants.{Sequenced, Dropped}
 use Rattle.fluid_rules.specs.Rules.{verdict, joined, IsLegal}
+use Rattle.fluid_rules.specs.Past.{is_sequenced}
 use Rattle.fluid_rules.specs.Counted.{is_counted, counted}
+use Rattle.fluid_core.specs.Entering.{IsUpTo}
+use Rattle.fluid_document.specs.Entries.{most}
 use Rattle.fluid_lane.specs.declared.steps.Step.{Step}
 use Rattle.fluid_lane.specs.declared.steps.Step.TheVariants.{Entered}
 use Rattle.fluid_lane.specs.declared.fault.LaneFault.{LaneFault}
@@ -18,7 +21,7 @@ use Rattle.fluid_lane.specs.Faults.{IsOutside}
 use Rattle.fluid_lane.specs.Steps.{ledger}
 use Rattle.fluid_lane.specs.Laws.{first_silent_in}
 use Rattle.fluid_doors.specs.declared.bench.Terms.{Terms}
-use Rattle.fluid_doors.specs.Answers.{is_worn_behind, WornBy, Answers}
+use Rattle.fluid_doors.specs.Answers.{is_worn_behind, WornBy, IsFailure, Answers}
 
 -- ---- limits
 
@@ -34,24 +37,42 @@ is_full_by t l raw = (nat_le t.limits.entries (counted (ledger l)) && is_counted
 abbrev pub has_too_many_at : Terms → List Step → Bool × LaneFault
 has_too_many_at t l = (nat_le t.limits.clients (length (joined (ledger l))), TooManyClients)
 
+-- ---- faults over any keeper
+
+-- those of a submission: the document is full for it, or what fails any call
+abbrev pub IsSubmitFault : Terms → Raw → LaneFault → Type 0
+IsSubmitFault t raw (Full entries) = (entries ≡ t.limits.entries) × (is_counted raw ≡ true)
+IsSubmitFault t raw other = IsFailure other
+
+-- those of a join
+abbrev pub IsJoinFault : Terms → LaneFault → Type 0
+IsJoinFault t (Full entries) = entries ≡ t.limits.entries
+IsJoinFault t TooManyClients = ⊤
+IsJoinFault t other = IsFailure other
+
 -- ---- submissions, joins, reports
 
 -- a leave or a submission was entered with the verdict of the rules
 abbrev pub Submits : Terms → Raw → Result Verdict LaneFault → List Step → Type 0
-Submits t raw result l = Answers t (is_full_by t l raw ∷ []) IsOutside (λ v. v ≡ verdict (ledger l) raw) result l
+Submits t raw result l = Answers t (IsSubmitFault t raw) (is_full_by t l raw ∷ []) IsOutside (λ v. v ≡ verdict (ledger l) raw) result l
 
 -- a report was entered with the verdict of the rules; no limit holds for it
 abbrev pub Reports : Terms → Raw → Result Verdict LaneFault → List Step → Type 0
-Reports t raw result l = Answers t [] IsOutside (λ v. v ≡ verdict (ledger l) raw) result l
+Reports t raw result l = Answers t IsFailure [] IsOutside (λ v. v ≡ verdict (ledger l) raw) result l
 
 -- the join's id is `c` and the number of its entry, and its message is the one of its verdict
 abbrev pub IsJoined : Scopes → Tree → ℕ → List Step → List ℕ × Message → Type 0
 IsJoined scopes detail moment l (id, message) =
     (id ≡ entry_name (length (ledger l))) × (Sequenced message ≡ verdict (ledger l) (Join id scopes detail moment))
 
-abbrev pub Joins : Terms → Scopes → Tree → ℕ → Result (List ℕ × Message) LaneFault → List Step → Type 0
-Joins t scopes detail moment result l =
-    Answers t (is_full_at t l ∷ has_too_many_at t l ∷ []) IsOutside (IsJoined scopes detail moment l) result l
+-- over any keeper the id is `c` and a number, and the message has one that a document may have
+pub record HasNumbers (a : List ℕ × Message) : Type 0 where
+  pub entry : (n : ℕ) × ((n < most) × (a.0 ≡ entry_name n))
+  pub message : IsUpTo most a.1.number
+
+pub record Joins (t : Terms) (scopes : Scopes) (detail : Tree) (moment : ℕ) (result : Result (List ℕ × Message) LaneFault) (l : List Step) : Type 0 where
+  pub answers : Answers t (IsJoinFault t) (is_full_at t l ∷ has_too_many_at t l ∷ []) IsOutside (IsJoined scopes detail moment l) result l
+  pub numbered : IfOk result HasNumbers
 
 -- the step of a join
 abbrev pub joined_as : Scopes → Tree → ℕ → List ℕ × Message → List Step
@@ -97,9 +118,12 @@ pub record SweepsTold (moment silence : ℕ) (verdict : Verdict) (result : Resul
   pub first : SweepsFirst moment (first_silent_in moment silence (ledger l)) verdict result l
 
 -- the first client in byte order of ids that was last heard of more than so long before the moment is answered, and none
--- exactly where there is no such client. Worn comes only where the list is as long as may be
+-- exactly where there is no such client. Over any keeper a leave that is entered is sequenced, and a fault is one that fails any
+-- call, or worn where the list is as long as may be
 pub record Sweeps (t : Terms) (moment silence : ℕ) (verdict : Verdict) (result : Result (Option (List ℕ)) LaneFault) (l : List Step) : Type 0 where
   pub worn : IfErr result (λ fault. IsWorn fault → is_worn_behind l ≡ true)
+  pub named : is_worn_behind l ≡ false → IfErr result IsFailure
+  pub sequenced : IfOk result (λ given. IfSome given (λ _. is_sequenced verdict ≡ true))
   pub told : t.told ≡ true → SweepsTold moment silence verdict result l
 
 -- the id of a leave

@@ -17,8 +17,8 @@ APass = Known Step Terms
 abbrev pub adding : List Step → APass → APass
 adding added k = record k { seen = k.seen ++ map (by_seat k.number) added; mine = k.mine ++ added }
 
--- The pass q comes back for the pass p. The call found the document's whole list, which begins with all that p had seen;
--- of that list these facts hold. It added these steps, which are the pass's own, and they are the last that q has seen
+-- The pass q comes back for the pass p. The call found a list of the document that begins with all that p had seen, and of that list
+-- these facts hold. It added these steps, which are the pass's own, and they are the last that q has seen
 pub record Grows (p q : APass) (added : List Step) (holds : List Step → Type 0) : Type 0 where
   pub turn : q.turn ≡ p.turn
   pub number : q.number ≡ p.number
@@ -26,11 +26,13 @@ pub record Grows (p q : APass) (added : List Step) (holds : List Step → Type 0
   pub begins : IsPrefix p.seen before
   pub seen : q.seen ≡ before ++ map (by_seat p.number) added
   pub mine : q.mine ≡ p.mine ++ added
+  pub more : IsPrefix p.seen q.seen
   pub few : length q.seen ≤ most
   pub says : holds (entries before)
 
--- A call on a lane behind its door: what never changes stays, and whatever list it stood for, it stands for that list
--- with these steps
+-- A call on a lane behind its door: what never changes stays, the keeper's count of faults never falls, and whatever list it stood
+-- for, it stands for that list with these steps
 pub record Continues (old new : Standing) (added : List Step) : Type 0 where
   pub terms : terms_of new ≡ terms_of old
+  pub later : old.keeping.faults ≤ new.keeping.faults
   pub list : (l : List Step) → LaneStands old l → LaneStands new (l ++ added)

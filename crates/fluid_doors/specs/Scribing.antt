@@ -11,6 +11,7 @@ use Rattle.fluid_store.specs.declared.fault.StoreFault.{StoreFault}
 use Rattle.fluid_store.specs.declared.fault.StoreFault.TheVariants as store
 use Rattle.fluid_versions.specs.Versions.{PutsVersion}
 use Rattle.fluid_lane.specs.declared.fault.LaneFault.{LaneFault}
+use Rattle.fluid_lane.specs.declared.fault.LaneFault.TheVariants as lane
 use Rattle.fluid_lane.specs.declared.steps.Step.{Step}
 use Rattle.fluid_lane.specs.Steps.{ledger, steps_of, entered_by}
 use Rattle.fluid_doors.specs.declared.bench.Terms.{Terms}
@@ -41,7 +42,11 @@ pub record IsRefused (t : Terms) (p q : APass) (old new : Storing) (fault : Stor
   pub looks : Grows p q [] (IsJobOf t (Some pending))
   pub puts : PutsVersion pending old new (Err fault)
 
--- a fault of the store, but that want of memory is one of its own
+-- a fault of the lane, and of the store, but that want of memory is one of its own
+abbrev pub of_lane : LaneFault → ScribeFault
+of_lane lane.NoMemory = NoMemory
+of_lane fault = Lane fault
+
 abbrev pub of_store : StoreFault → ScribeFault
 of_store (store.StoreFailed note) = Store (store.StoreFailed note)
 of_store (store.Clash id kept bytes) = Store (store.Clash id kept bytes)
@@ -57,11 +62,17 @@ IsOfStore (store.StoreFailed note) = ⊤
 IsOfStore (store.Clash id kept bytes) = ⊤
 IsOfStore other = ⊥
 
+-- of a lane memory is never said to be wanting
+abbrev pub IsOfLane : LaneFault → Type 0
+IsOfLane lane.NoMemory = ⊥
+IsOfLane other = ⊤
+
 -- idle is answered exactly where no summary is pending. Nothing is entered where the store refuses, and for want of memory: that
--- was wanting before the store was asked, or the store is left as a call that puts these objects leaves it
+-- was wanting before the store was asked, or as its objects were put, or behind that as the report was to be entered
 abbrev pub Scribes : Terms → APass → APass → ℕ → Storing → Storing → Result ScribeEnd ScribeFault → Type 0
 Scribes t p q moment old new (Ok Idle) = Grows p q [] (IsJobOf t None) × (new ≡ old)
 Scribes t p q moment old new (Ok (Concluded verdict)) = Concludes t p q moment old new (Ok verdict)
-Scribes t p q moment old new (Err (Lane fault)) = Concludes t p q moment old new (Err fault)
+Scribes t p q moment old new (Err (Lane fault)) = Concludes t p q moment old new (Err fault) × IsOfLane fault
 Scribes t p q moment old new (Err (Store fault)) = IsRefused t p q old new fault × IsOfStore fault
-Scribes t p q moment old new (Err NoMemory) = (Grows p q [] (λ l. ⊤) × (new ≡ old)) ⊎ IsRefused t p q old new store.NoMemory
+Scribes t p q moment old new (Err NoMemory) =
+    (Grows p q [] (λ l. ⊤) × (new ≡ old)) ⊎ (IsRefused t p q old new store.NoMemory ⊎ Concludes t p q moment old new (Err lane.NoMemory))

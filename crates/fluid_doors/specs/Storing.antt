@@ -4,11 +4,11 @@ use Rattle.fluid_document.specs.Entries.{entries_of}
 use Rattle.fluid_document.specs.Kept.{checkpoint_text}
 use Rattle.fluid_lane.specs.declared.steps.Step.{Step}
 use Rattle.fluid_lane.specs.declared.fault.LaneFault.{LaneFault}
-use Rattle.fluid_lane.specs.declared.fault.LaneFault.TheVariants.{LogFailed, DeltaFailed, NoMemory, TooLarge, CheckpointsFull, NoCheckpoint}
+use Rattle.fluid_lane.specs.declared.fault.LaneFault.TheVariants.{LogFailed, BadRecord, NoCheckpoint, CheckpointsFull, DeltaFailed, NoMemory, BadCheckpoint, TooLarge}
 use Rattle.fluid_lane.specs.Faults.{IsOutside}
 use Rattle.fluid_lane.specs.Steps.{ledger, stored}
 use Rattle.fluid_doors.specs.declared.bench.Terms.{Terms}
-use Rattle.fluid_doors.specs.Answers.{Answers}
+use Rattle.fluid_doors.specs.Answers.{IsFailure, Answers}
 
 -- how many checkpoints the document has: those that its lane found, and those stored since
 abbrev pub stored_in : Terms → List Step → ℕ
@@ -34,13 +34,26 @@ IsStoreFault t l other = ⊥
 abbrev pub IsStored : Terms → List Step → ℕ → Type 0
 IsStored t l number = (number ≡ stored_in t l) × (text_length l ≤ t.limits.bytes)
 
+-- its faults over any keeper
+abbrev pub IsCheckpointFault : Terms → LaneFault → Type 0
+IsCheckpointFault t CheckpointsFull = ⊤
+IsCheckpointFault t (TooLarge bytes) = t.limits.bytes < bytes
+IsCheckpointFault t other = IsFailure other
+
 abbrev pub Checkpoints : Terms → Result ℕ LaneFault → List Step → Type 0
-Checkpoints t result l = Answers t (has_checkpoints_at t l ∷ []) (IsStoreFault t l) (IsStored t l) result l
+Checkpoints t result l = Answers t (IsCheckpointFault t) (has_checkpoints_at t l ∷ []) (IsStoreFault t l) (IsStored t l) result l
 
 -- no checkpoint of this number is stored
 abbrev pub has_none_at : Terms → List Step → ℕ → Bool × LaneFault
 has_none_at t l number = (nat_le (stored_in t l) number, NoCheckpoint number (stored_in t l))
 
--- what was read is never refused
+-- the faults of a restart over any keeper: what was read may be refused
+abbrev pub IsRestartFault : ℕ → LaneFault → Type 0
+IsRestartFault number (NoCheckpoint asked count) = (asked ≡ number) × (count ≤ number)
+IsRestartFault number (BadRecord place) = ⊤
+IsRestartFault number (BadCheckpoint bad fault) = ⊤
+IsRestartFault number other = IsFailure other
+
+-- over a keeper that tells its content what was read is never refused
 abbrev pub Restarts : Terms → ℕ → Result (Unit {0}) LaneFault → List Step → Type 0
-Restarts t number result l = Answers t (has_none_at t l number ∷ []) IsOutside (λ _. ⊤) result l
+Restarts t number result l = Answers t (IsRestartFault number) (has_none_at t l number ∷ []) IsOutside (λ _. ⊤) result l

@@ -284,10 +284,10 @@ pub(crate) fn close_restarted<K: Keeper>(
 }
 
 // A call that only read.
-pub(crate) fn close_read<K: Keeper>(
+pub(crate) fn close_read<K: Keeper, A>(
     held: Held<'_, Bench<K>>,
-    answer: Result<Vec<Message>, DeltaFault>,
-) -> (Pass<K>, Result<Vec<Message>, DeltaFault>)
+    answer: Result<A, DeltaFault>,
+) -> (Pass<K>, Result<A, DeltaFault>)
     requires noted { HasNoted held.place }
     requires stands { LaneStands held.value.lane (entries held.place.list ++ range_steps answer) }
     requires fixed { terms_of held.value.lane ≡ held.place.seat.turn.fixed }
@@ -296,7 +296,7 @@ pub(crate) fn close_read<K: Keeper>(
     ensures few { length result.0.seen ≤ most }
 {
     match answer {
-        Ok(messages) => (close(held), Ok(messages)),
+        Ok(read) => (close(held), Ok(read)),
         Err(fault) => {
             let pass = close_noted(held, note_of_read(&fault));
             (pass, Err(fault))

@@ -1,7 +1,8 @@
 //! A document for many users. Each call takes the turn, makes one call on the lane, enters the step that this call added, and
 //! gives the turn back with the pass.
-ghost use Rattle.std.specs.Prelude.{◌≡◌, ◌≢◌, ℕ, ◌<◌, ◌≤◌, List, [], IfOk, IfErr};
-ghost use Rattle.fluid_turn.specs.Entries.{of_nobody, IsPrefix};
+ghost use Rattle.std.specs.Prelude.{◌≡◌, ◌≢◌, ℕ, ◌<◌, ◌≤◌, List, [], None, IfOk, IfErr};
+ghost use Rattle.fluid_turn.specs.Entries.{of_nobody, entries, IsPrefix};
+ghost use Rattle.fluid_turn.specs.declared.view.Numbered.{Numbered as ANumbered};
 ghost use Rattle.fluid_turn.specs.Seats.{IsNew, SeesMore};
 ghost use Rattle.fluid_types.specs.Fits.{Fits};
 ghost use Rattle.fluid_types.specs.Names.{entry_name};
@@ -9,12 +10,13 @@ ghost use Rattle.fluid_types.specs.declared.verdicts.Verdict.{Verdict as AVerdic
 ghost use Rattle.fluid_document.specs.Entries.{most};
 ghost use Rattle.fluid_lane.specs.declared.steps.Step.{Step as AStep};
 ghost use Rattle.fluid_lane.specs.Standing.{LaneStands, IsLeaveOrSubmission};
-ghost use Rattle.fluid_lane.specs.Steps.{steps_of, range_steps, entered_by, stored_by, restarted_by};
+ghost use Rattle.fluid_lane.specs.Steps.{ledger, steps, steps_of, range_steps, entered_by, stored_by, restarted_by};
 ghost use Rattle.fluid_doors.specs.Terms.{terms_of};
 ghost use Rattle.fluid_doors.specs.Passing.{Grows};
 ghost use Rattle.fluid_doors.specs.Entering.{Submits, Joins, Sweeps, joined_as, swept_as};
 ghost use Rattle.fluid_doors.specs.Storing.{Checkpoints, Restarts};
 ghost use Rattle.fluid_doors.specs.Collecting.{Collects};
+ghost use Rattle.fluid_doors.specs.Looking.{IsLook, Looks};
 
 use crate::bench::Bench;
 use crate::closing::{
@@ -27,6 +29,7 @@ use fluid_lane::{Lane, LaneFault, Limits};
 use fluid_log::Keeper;
 use fluid_turn::{Seat, Turn};
 use fluid_types::{ClientId, DocName, Message, Raw, Scopes, Verdict};
+use fluid_voice::{Act, ActEnd};
 use std::alloc::Global;
 use std::marker::Model;
 use std::sync::Wait;
@@ -60,7 +63,7 @@ impl<K: Keeper> Model for Door<K> {
 
 impl<K: Keeper> Door<K> {
     /// A door of the document of this lane, and its first pass, which has seen the list of steps with which the door begins:
-    /// one for which the lane stands. With no memory the lane comes back.
+    /// one for which the lane stands, and without side steps where the lane has taken none. With no memory the lane comes back.
     pub fn open(
         alloc: Global,
         name: DocName,
@@ -69,6 +72,7 @@ impl<K: Keeper> Door<K> {
         requires { (l : List AStep) × LaneStands lane l }
         ensures door { IfOk result (λ d. (d.0.name ≡ name) × (LaneStands lane d.0.turn.began × (d.0.turn.fixed ≡ terms_of lane))) }
         ensures pass { IfOk result (λ d. (d.1.turn ≡ d.0.turn) × IsNew (of_nobody d.0.turn.began) d.1) }
+        ensures fresh { lane.last ≡ None → IfOk result (λ d. d.0.turn.began ≡ steps (ledger d.0.turn.began)) }
         ensures back { IfErr result (λ back. back.0 ≡ lane) }
     {
         let limits = lane.limits();
@@ -111,8 +115,7 @@ impl<K: Keeper> Door<K> {
         self.opened
     }
 
-    /// A new pass of this door, with no steps of its own. What it has seen is a list that the document had once; the first call shows
-    /// it all steps.
+    /// A new pass of this door, with no steps of its own. What it has seen is a list that the document had once.
     pub fn pass(&self) -> Pass<K>
         ensures { (result.turn ≡ self.now.turn) × (result.mine ≡ []) }
     {
@@ -223,6 +226,24 @@ impl<K: Keeper> Door<K> {
         close_read(held, answer)
     }
 
+    /// How an act ends that enters nothing: a range of messages, a summary, or a connect that only reads. Its end is read out of
+    /// the ledger of what the pass has seen behind it.
+    pub fn look<R: Wait>(
+        &self,
+        rt: &R,
+        alloc: Global,
+        pass: Pass<K>,
+        act: &Act,
+    ) -> (Pass<K>, Result<ActEnd, DeltaFault>)
+        requires pass { pass.turn ≡ self.now.turn }
+        requires act { IsLook act.now }
+        ensures { Grows pass result.0 (range_steps result.1) (Looks self.now.turn.fixed act.now result.1) }
+    {
+        let mut held = self.turn.take_noted(rt, pass);
+        let answer = held.value.look(alloc, act);
+        close_read(held, answer)
+    }
+
     /// Stores a checkpoint, whose number it gives.
     pub fn checkpoint<R: Wait>(
         &self,
@@ -254,18 +275,26 @@ impl<K: Keeper> Door<K> {
         close_restarted(held, number, answer)
     }
 
+    /// How many steps the document's list had at some moment of this call. It takes no turn, and no clause rests on it: who has
+    /// nothing to do but to see new steps may look at it first. Takes no memory.
+    pub fn hint(&self) -> u64 {
+        self.turn.hint()
+    }
+
     pub(crate) fn turn(&self) -> &Turn<Bench<K>>
         ensures { result.now ≡ self.now.turn }
     {
         &self.turn
     }
 
-    /// Ends the door: its lane comes out of the turn, which is not passed on.
+    /// Ends the door: its lane comes out of the turn, which is not passed on. It stands for a list that begins with all that the
+    /// pass had seen.
     pub fn end<R: Wait>(self, rt: &R, pass: Pass<K>) -> Lane<K>
     where
         K: Drop,
         requires { pass.turn ≡ self.turn }
         ensures stands { (l : List AStep) × LaneStands result l }
+        ensures seen { (l : List (ANumbered AStep)) × (IsPrefix pass.seen l × LaneStands result (entries l)) }
         ensures terms { terms_of result ≡ self.turn.fixed }
     {
         let Bench { lane } = self.turn.take(rt, pass).end();

@@ -1,6 +1,6 @@
 //! How a scribe's call ends.
 ghost use Rattle.std.specs.Prelude.{◌≡◌};
-ghost use Rattle.fluid_doors.specs.Scribing.{of_store};
+ghost use Rattle.fluid_doors.specs.Scribing.{of_lane, of_store};
 
 use fluid_lane::LaneFault;
 use fluid_store::StoreFault;
@@ -22,7 +22,17 @@ pub enum ScribeFault {
     Store(StoreFault),
     /// The report was refused.
     Lane(LaneFault),
+    /// Whatever lacked it.
     NoMemory,
+}
+
+pub(crate) fn of_lane(fault: LaneFault) -> ScribeFault
+    ensures { result ≡ of_lane fault }
+{
+    match fault {
+        LaneFault::NoMemory => ScribeFault::NoMemory,
+        other => ScribeFault::Lane(other),
+    }
 }
 
 pub(crate) fn of_store(fault: StoreFault) -> ScribeFault

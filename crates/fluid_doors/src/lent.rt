@@ -1,10 +1,11 @@
 //! What is done to a document by whoever has its lane in hand. Each clause speaks of every list of steps for which the lane stands.
-ghost use Rattle.std.specs.Prelude.{◌≡◌, ℕ, ◌<◌, ◌≤◌, List, IfOk, IfSome};
+ghost use Rattle.std.specs.Prelude.{◌≡◌, ℕ, ◌<◌, ◌≤◌, List, IfOk, IfErr, IfSome};
 ghost use Rattle.fluid_types.specs.Fits.{Fits};
 ghost use Rattle.fluid_types.specs.Names.{entry_name};
 ghost use Rattle.fluid_document.specs.Entries.{most};
 ghost use Rattle.fluid_core.specs.Entering.{IsUpTo};
 ghost use Rattle.fluid_lane.specs.declared.steps.Step.{Step as AStep};
+ghost use Rattle.fluid_lane.specs.Faults.{IsCausedBy};
 ghost use Rattle.fluid_lane.specs.Steps.{steps_of, range_steps, entered_by, joined_by, stored_by, restarted_by, swept_by};
 ghost use Rattle.fluid_lane.specs.Standing.{LaneStands, IsLeaveOrSubmission};
 ghost use Rattle.fluid_doors.specs.Terms.{terms_of};
@@ -12,9 +13,11 @@ ghost use Rattle.fluid_doors.specs.Passing.{Continues};
 ghost use Rattle.fluid_doors.specs.Entering.{Submits, Joins, Reports, Sweeps, IsJoinOf, IsLeaveAt, with_id, with_left, verdict_left};
 ghost use Rattle.fluid_doors.specs.Storing.{Checkpoints, Restarts};
 ghost use Rattle.fluid_doors.specs.Collecting.{Collects};
+ghost use Rattle.fluid_doors.specs.Looking.{IsLook, Looks};
 ghost use Rattle.fluid_doors.specs.Scribing.{IsJobOf};
 
 use crate::bench::Bench;
+use crate::looking::{messages_asked, summary};
 use fluid_cast::Cursor;
 use fluid_deltas::DeltaFault;
 use fluid_json::{Json, NoMemory};
@@ -22,6 +25,7 @@ use fluid_lane::{LaneFault, lanes_say_their_ledgers};
 use fluid_log::Keeper;
 use fluid_scribe::Job;
 use fluid_types::{Message, Raw, Scopes, Verdict};
+use fluid_voice::{Act, ActEnd};
 use std::alloc::Global;
 
 impl<K: Keeper> Bench<K> {
@@ -30,6 +34,7 @@ impl<K: Keeper> Bench<K> {
         requires fits { Fits raw.now }
         requires kind { IsLeaveOrSubmission raw.now }
         ensures goes { Continues self.old.lane self.new.lane (steps_of (entered_by raw.now) result) }
+        ensures cause { IfErr result (IsCausedBy self.old.lane.keeping.faults self.new.lane.keeping.faults) }
         ensures says { (l : List AStep) → LaneStands self.old.lane l → Submits (terms_of self.old.lane) raw.now result l }
     {
         lanes_say_their_ledgers();
@@ -47,10 +52,12 @@ impl<K: Keeper> Bench<K> {
         requires fits { (n : ℕ) → n ≤ most → Fits (Raw.Join (entry_name n) scopes detail moment) }
         ensures goes { Continues self.old.lane self.new.lane (steps_of joined_by result) }
         ensures raw { IfOk result (IsJoinOf scopes detail moment) }
+        ensures cause { IfErr result (IsCausedBy self.old.lane.keeping.faults self.new.lane.keeping.faults) }
         ensures says { (l : List AStep) → LaneStands self.old.lane l → Joins (terms_of self.old.lane) scopes detail moment (with_id result) l }
     {
         lanes_say_their_ledgers();
         let _number = self.lane.entered();
+        let _last = self.lane.seq();
         self.lane.join(alloc, scopes, detail, moment)
     }
 
@@ -64,6 +71,7 @@ impl<K: Keeper> Bench<K> {
     ) -> Result<Verdict, LaneFault>
         requires fits { Fits (Raw.Report summary found moment) }
         ensures goes { Continues self.old.lane self.new.lane (steps_of (entered_by (Raw.Report summary found moment)) result) }
+        ensures cause { IfErr result (IsCausedBy self.old.lane.keeping.faults self.new.lane.keeping.faults) }
         ensures says { (l : List AStep) → LaneStands self.old.lane l → Reports (terms_of self.old.lane) (Raw.Report summary found moment) result l }
     {
         lanes_say_their_ledgers();
@@ -80,6 +88,7 @@ impl<K: Keeper> Bench<K> {
         requires moment { moment ≤ most }
         ensures goes { Continues self.old.lane self.new.lane (steps_of swept_by result) }
         ensures raw { IfOk result (IsLeaveAt moment) }
+        ensures cause { IfErr result (IsCausedBy self.old.lane.keeping.faults self.new.lane.keeping.faults) }
         ensures says { (l : List AStep) → LaneStands self.old.lane l → Sweeps (terms_of self.old.lane) moment silence (verdict_left result) (with_left result) l }
     {
         lanes_say_their_ledgers();
@@ -115,9 +124,27 @@ impl<K: Keeper> Bench<K> {
         self.lane.range(alloc, range.start, range.end)
     }
 
+    /// How an act ends that enters nothing: a range of messages, a summary, or a connect that only reads.
+    pub fn look(&mut self, alloc: Global, act: &Act) -> Result<ActEnd, DeltaFault>
+        requires { IsLook act.now }
+        ensures goes { Continues self.old.lane self.new.lane (range_steps result) }
+        ensures says { (l : List AStep) → LaneStands self.old.lane l → Looks (terms_of self.old.lane) act.now result l }
+    {
+        match act {
+            Act::Connect { .. } => {
+                lanes_say_their_ledgers();
+                Ok(ActEnd::Told(self.lane.seq()))
+            }
+            Act::Deltas(from, to) => messages_asked(alloc, &mut self.lane, *from, *to),
+            Act::Summary(asked) => Ok(summary(&self.lane, asked)),
+            Act::Say(_) | Act::Enter(_) | Act::GetObject(_) | Act::PutObject(_) => unreachable!(),
+        }
+    }
+
     /// Stores a checkpoint, whose number it gives.
     pub fn checkpoint(&mut self, alloc: Global) -> Result<u64, LaneFault>
         ensures goes { Continues self.old.lane self.new.lane (steps_of stored_by result) }
+        ensures cause { IfErr result (IsCausedBy self.old.lane.keeping.faults self.new.lane.keeping.faults) }
         ensures says { (l : List AStep) → LaneStands self.old.lane l → Checkpoints (terms_of self.old.lane) result l }
     {
         lanes_say_their_ledgers();
@@ -127,6 +154,7 @@ impl<K: Keeper> Bench<K> {
     /// Builds the lane's state anew from the checkpoint of this number.
     pub fn restart(&mut self, alloc: Global, number: u64) -> Result<(), LaneFault>
         ensures goes { Continues self.old.lane self.new.lane (steps_of (restarted_by number) result) }
+        ensures cause { IfErr result (IsCausedBy self.old.lane.keeping.faults self.new.lane.keeping.faults) }
         ensures says { (l : List AStep) → LaneStands self.old.lane l → Restarts (terms_of self.old.lane) number result l }
     {
         lanes_say_their_ledgers();

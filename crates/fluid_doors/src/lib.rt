@@ -3,6 +3,7 @@
 //! - `bench`: the lane as a value of a turn, and what never changes of a document.
 //! - `lent`: the calls on a document by whoever has its lane in hand, by the list of steps for which it stands.
 //! - `door`: the same calls for many users, each of whom has a pass.
+//! - `looking`: what a lane answers to an act that enters nothing.
 //! - `scribing`: what a door does about a summary that is pending; `ends`: how that ends.
 //! - `laws`: what holds of passes and of new keepers.
 //! - `closing`: how a door's call enters its step and gives the turn back.
@@ -14,6 +15,7 @@ mod door;
 mod ends;
 mod laws;
 mod lent;
+mod looking;
 mod scribing;
 
 pub use bench::{Bench, Terms};

@@ -10,7 +10,7 @@ ghost use Rattle.fluid_store.specs.Keeping.{Counts};
 
 use crate::closing::{close, close_entered};
 use crate::door::{Door, Pass};
-use crate::ends::{ScribeEnd, ScribeFault, of_store};
+use crate::ends::{ScribeEnd, ScribeFault, of_lane, of_store};
 use fluid_json::NoMemory;
 use fluid_lane::LaneFault;
 use fluid_log::Keeper;
@@ -45,7 +45,7 @@ impl<K: Keeper> Door<K> {
                     let (pass, answer) = self.report(rt, alloc, pass, job.summary, found, moment);
                     match answer {
                         Ok(verdict) => (pass, Ok(ScribeEnd::Concluded(verdict))),
-                        Err(fault) => (pass, Err(ScribeFault::Lane(fault))),
+                        Err(fault) => (pass, Err(of_lane(fault))),
                     }
                 }
                 Err(fault) => (pass, Err(of_store(fault))),

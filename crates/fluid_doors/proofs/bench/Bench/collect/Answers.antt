@@ -8,4 +8,4 @@ returns-then-range-clause-says g c = λ l stands.
 
 pub returns-clause-says : goal.returns-clause-says
 returns-clause-says g c = λ l stands.
-    collects_at (λ v. v.items) _ _ l _ _ _ _ _ _ c.lanes_say_their_ledgers.ensures.says stands c.seq.ensures.is c.batch-range.ensures.start c.batch-range.ensures.end c.range.ensures.worn c.range.ensures.ranges c.range.ensures.slice
+    collects_at (λ v. v.items) _ _ l _ _ _ _ _ _ c.seq.ensures.bound c.lanes_say_their_ledgers.ensures.says stands c.seq.ensures.is c.batch-range.ensures.start c.batch-range.ensures.end c.range.ensures.worn c.range.ensures.ranges c.range.ensures.slice

@@ -6,4 +6,4 @@ pub returns-clause-goes : goal.returns-clause-goes
 returns-clause-goes g c = continues _ _ _ c.conclude.ensures.goes
 
 pub returns-clause-says : goal.returns-clause-says
-returns-clause-says g c = λ l stands. reports _ _ _ _ l c.lanes_say_their_ledgers.ensures.says c.conclude.ensures.gate c.conclude.ensures.said stands
+returns-clause-says g c = λ l stands. reports _ _ _ _ l c.lanes_say_their_ledgers.ensures.says c.conclude.ensures.gate c.conclude.ensures.enters.cause c.conclude.ensures.said stands

@@ -6,4 +6,4 @@ pub returns-clause-goes : goal.returns-clause-goes
 returns-clause-goes g c = continues _ _ _ c.submit.ensures.goes
 
 pub returns-clause-says : goal.returns-clause-says
-returns-clause-says g c = λ l stands. submits _ _ _ _ l c.lanes_say_their_ledgers.ensures.says c.submit.ensures.gate c.submit.ensures.said stands
+returns-clause-says g c = λ l stands. submits _ _ _ _ l c.lanes_say_their_ledgers.ensures.says c.submit.ensures.gate c.submit.ensures.enters.cause c.submit.ensures.said stands
