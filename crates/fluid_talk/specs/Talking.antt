@@ -1,0 +1,79 @@
+-- What is known of a connection.
+use Rattle.std.specs.Prelude.{◌≡◌, ◌<◌, ◌≤◌, ℕ, ◌+◌, Bool, true, List, ◌++◌, length, Option}
+use Rattle.fluid_turn.specs.declared.view.Numbered.{Numbered}
+use Rattle.fluid_turn.specs.Entries.{IsPrefix, entries, made_by}
+use Rattle.fluid_types.specs.Ledger.{Ledger, order}
+use Rattle.fluid_types.specs.declared.messages.Message.{Message}
+use Rattle.fluid_rules.specs.declared.limits.Limits.{Limits}
+use Rattle.fluid_document.specs.Entries.{most}
+use Rattle.fluid_lane.specs.declared.steps.Step.{Step}
+use Rattle.fluid_lane.specs.Steps.{ledger}
+use Rattle.fluid_voice.specs.declared.states.VoiceState.{VoiceState}
+use Rattle.fluid_voice.specs.States.{document_name, is_connected, next_number}
+use Rattle.fluid_talk.specs.declared.shelf.ShelfStep.{ShelfStep}
+
+-- ---- what is known
+
+-- a pass of a document: the document's name, its limits and whether its keeper tells its content, which never change; the
+-- number of the pass, the steps that it has seen, oldest first, and those of them that it entered. Before a document is reached
+-- there is no name, and the lists are empty
+pub record Knowing : Type 0 where
+  pub name : Option (List ℕ)
+  pub limits : Limits
+  pub told : Bool
+  pub number : ℕ
+  pub seen : List (Numbered Step)
+  pub mine : List Step
+
+-- a key of a service: the steps of its shelf that it has seen, and those of them that it made
+pub record Keyed : Type 0 where
+  pub seen : List (Numbered ShelfStep)
+  pub mine : List ShelfStep
+
+-- a connection: where it stands, the pass of the last document that it reached, the pass that was handed to it, which it has until it
+-- is connected, and its key
+pub record Talking : Type 0 where
+  pub voice : VoiceState
+  pub pass : Knowing
+  pub handed : Knowing
+  pub key : Keyed
+
+-- ---- what a pass says of its document
+
+-- the ledger of the entered steps, and the messages of its order
+abbrev pub ledger_of : List (Numbered Step) → Ledger
+ledger_of seen = ledger (entries seen)
+
+abbrev pub order_of : List (Numbered Step) → List Message
+order_of seen = order (ledger_of seen)
+
+-- the number behind the last one
+abbrev pub number_behind_last : List (Numbered Step) → ℕ
+number_behind_last seen = length (order_of seen) + 1
+
+-- ---- what holds of every connection
+
+-- one that is connected has a pass of its document. The number of the message that is delivered next isn't 0 then, and not above the
+-- one behind the last message
+pub record IsSound (t : Talking) : Type 0 where
+  pub named : is_connected t.voice ≡ true → t.pass.name ≡ document_name t.voice
+  pub first : is_connected t.voice ≡ true → 0 < next_number t.voice
+  pub next : is_connected t.voice ≡ true → t.pass.told ≡ true → next_number t.voice ≤ number_behind_last t.pass.seen
+  -- its own steps are the seen ones that bear its number, in order
+  pub own : t.pass.mine ≡ made_by t.pass.number t.pass.seen
+  pub few : length t.pass.seen ≤ most
+
+-- ---- what never changes, and how a pass goes on
+
+-- it is a pass of the same document with the same number
+pub record IsSamePass (p q : Knowing) : Type 0 where
+  pub name : q.name ≡ p.name
+  pub limits : q.limits ≡ p.limits
+  pub told : q.told ≡ p.told
+  pub number : q.number ≡ p.number
+
+-- what it has seen begins with what it had seen, and it entered these steps
+pub record Goes (p q : Knowing) (added : List Step) : Type 0 where
+  pub same : IsSamePass p q
+  pub seen : IsPrefix p.seen q.seen
+  pub mine : q.mine ≡ p.mine ++ added
