@@ -1,0 +1,10 @@
+mod Laned
+mod Gates
+mod Steps
+mod Desks
+mod Running
+mod Opening
+mod Doing
+mod Reopening
+mod Handing
+mod Scribed
