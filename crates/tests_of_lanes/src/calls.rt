@@ -1,8 +1,9 @@
 // Calls on an open lane, and what they answer in words.
-ghost use Rattle.std.specs.Prelude.{◌≤◌, List, ℕ};
+ghost use Rattle.std.specs.Prelude.{◌≤◌, List, ℕ, length};
 ghost use Rattle.fluid_types.specs.Names.{IsName};
 ghost use Rattle.fluid_types.specs.Forms.{largest};
 ghost use Rattle.fluid_types.specs.Fits.{Fits};
+ghost use Rattle.fluid_readback.specs.Laws.{longest_text};
 ghost use Rattle.fluid_lane.specs.Standing.{IsLeaveOrSubmission};
 
 use fluid_checkpoint::CheckpointFault;
@@ -19,6 +20,9 @@ use std::process::Abort;
 const CONNECT: &str =
     r#"["connect_document",{"id":"d","mode":"write","scopes":["doc:read","doc:write","summary:write"]}]"#;
 
+const CONNECT_WRITER: &str =
+    r#"["connect_document",{"id":"d","mode":"write","scopes":["doc:write"]}]"#;
+
 const LEAVE: &str = r#"{"clientId":"c0","moment":7,"raw":"leave"}"#;
 
 const PROPOSAL: &str = r#"{"handle":"4b825dc642cb6eb9a060e54bf8d69288fbee4904","head":""}"#;
@@ -29,6 +33,8 @@ pub enum Call {
     // Closes the lane, where it is open, and starts it again.
     Start,
     Join,
+    // Of a client that may only write, at the moment 5.
+    Writer,
     Op(u64, i64),
     Summarize(u64, i64),
     Leave,
@@ -182,12 +188,13 @@ fn operate(
     submit(rt, alloc, lane, text.as_str())
 }
 
-// The scopes and the detail of a client that connects: under any id its join fits a log.
-fn client(rt: &impl Abort, alloc: Global) -> (Scopes, Json)
+// The scopes and the detail of a client that connects by this text: under any id its join fits a log.
+fn client(rt: &impl Abort, alloc: Global, connect: &str) -> (Scopes, Json)
+    requires { length connect.now ≤ longest_text }
     ensures { (id : List ℕ) (moment : ℕ) → IsName id → moment ≤ largest → Fits (Raw.Join id result.0 result.1 moment) }
 {
     read_entries_fit();
-    match read_event(alloc, CONNECT) {
+    match read_event(alloc, connect) {
         Ok(Event::Connect { scopes, client, .. }) => (scopes, client),
         _ => panic!(rt; "no connect"),
     }
@@ -203,13 +210,24 @@ fn joined(rt: &impl Abort, alloc: Global, raw: &Raw, message: &Message) -> Strin
     format!(in alloc; "{id} {number}/{minimum}").expect(rt, "memory")
 }
 
-fn join(rt: &impl Abort, alloc: Global, lane: &mut Lane<MemoryKeeper>) -> String {
+fn join(
+    rt: &impl Abort,
+    alloc: Global,
+    lane: &mut Lane<MemoryKeeper>,
+    connect: &str,
+    moment: u64,
+) -> String
+    requires { length connect.now ≤ longest_text }
+{
     let number = lane.entered();
     if number > LAST_MOMENT {
         panic!(rt; "no number of an entry");
     }
-    let (scopes, detail) = client(rt, alloc);
-    let answer = lane.join(alloc, scopes, detail, 4);
+    if moment > LAST_MOMENT {
+        panic!(rt; "no moment");
+    }
+    let (scopes, detail) = client(rt, alloc, connect);
+    let answer = lane.join(alloc, scopes, detail, moment);
     let told = match &answer {
         Ok((raw, message)) => joined(rt, alloc, raw, message),
         Err(fault) => refused(rt, alloc, fault, lane.last_side()),
@@ -354,7 +372,8 @@ fn sides(rt: &impl Abort, alloc: Global, lane: &Lane<MemoryKeeper>) -> String {
 // Makes a call that enters something.
 fn entering(rt: &impl Abort, alloc: Global, lane: &mut Lane<MemoryKeeper>, call: Call) -> String {
     match call {
-        Call::Join => join(rt, alloc, lane),
+        Call::Join => join(rt, alloc, lane, CONNECT, 4),
+        Call::Writer => join(rt, alloc, lane, CONNECT_WRITER, 5),
         Call::Op(number, reference) => operate(rt, alloc, lane, "op", "null", number, reference),
         Call::Summarize(number, reference) => {
             operate(rt, alloc, lane, "summarize", PROPOSAL, number, reference)

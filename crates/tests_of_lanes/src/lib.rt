@@ -14,4 +14,6 @@ mod limits;
 #[cfg(test)]
 mod lives;
 #[cfg(test)]
+mod rows;
+#[cfg(test)]
 mod starts;
