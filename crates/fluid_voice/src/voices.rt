@@ -60,7 +60,8 @@ impl Voice {
 
     /// Whether it is a client that writes, which enters a leave when it ends.
     pub fn writes(&self) -> bool
-        ensures { result ≡ is_some (client_id self.now) }
+        ensures is { result ≡ is_some (client_id self.now) }
+        ensures none { result ≡ false → client_id self.now ≡ None }
     {
         match &self.state {
             VoiceState::Fresh => false,
