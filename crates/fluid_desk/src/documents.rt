@@ -1,4 +1,5 @@
-//! The steps on a document. Each opens its document at its first use.
+//! The steps on a document. Each opens its document at its first use, at a moment that is the number of its line, and gives the line
+//! that is written for it, without its end, or says why the script ends there.
 ghost use Rattle.std.specs.Prelude.{◌≡◌, ◌≤◌, ℕ};
 ghost use Rattle.fluid_document.specs.Entries.{most};
 ghost use Rattle.fluid_steps.specs.declared.steps.Step.TheVariants as step;
