@@ -1,0 +1,73 @@
+-- What is sent one reply after another.
+use Rattle.std.proofs.Common.{◌≡◌, ℕ, ◌+◌, ◌<◌, ◌≤◌, List, [], ◌∷◌, ◌++◌, length, take, drop, get_or, Option, Some, None, Ok, Err, refl, sym, ap, subst, ◌∙◌, arith, append_assoc, append-nil}
+use Rattle.std.proofs.lemmas.List.{map-append, take_more, take_all, take-append-drop}
+use Rattle.std.specs.Option.{option_map}
+use Rattle.fluid_io.specs.Causes.{Rose}
+use Rattle.fluid_codec.specs.declared.replies.Reply.{Reply}
+use Rattle.fluid_codec.specs.Replies.{reply_printed}
+use Rattle.fluid_lines.specs.declared.wire.WireText.{WireText}
+use Rattle.fluid_lines.specs.declared.wire.WireText.TheVariants.{Out}
+use Rattle.fluid_lines.specs.declared.wire.WireFault.{WireFault}
+use Rattle.fluid_lines.specs.declared.wire.WireFault.TheVariants.{Failed, NoMemory}
+use Rattle.fluid_lines.specs.Wires.{Wiring}
+use Rattle.fluid_session.specs.Sending.{Passes, IsWireCause, SendsOne, SendsAll, out_texts}
+
+-- ---- histories
+
+nothing_more : (h : Option (List WireText)) → h ≡ option_map (λ history. history ++ []) h
+nothing_more None = refl
+nothing_more (Some history) = ap Some (sym (append-nil history))
+
+more_of_more : (a b : List WireText) (h : Option (List WireText))
+    → option_map (λ history. history ++ b) (option_map (λ history. history ++ a) h) ≡ option_map (λ history. history ++ (a ++ b)) h
+more_of_more a b None = refl
+more_of_more a b (Some history) = ap Some (append_assoc history a b)
+
+-- nothing went by
+pub passes_nothing : (w : Wiring) → Passes [] w w
+passes_nothing w = record { adds = nothing_more w.history; faults = omega arith }
+
+-- the history stays, and so more faults at most were counted
+pub passes_by : (old new : Wiring) → new.history ≡ old.history → old.faults ≤ new.faults → Passes [] old new
+passes_by old new same later = record { adds = same ∙ nothing_more old.history; faults = later }
+
+pub passes_then : (a b : List WireText) (old mid new : Wiring) → Passes a old mid → Passes b mid new → Passes (a ++ b) old new
+passes_then a b old mid new first second = record {
+  adds = second.adds ∙ ap (option_map (λ history. history ++ b)) first.adds ∙ more_of_more a b old.history;
+  faults = let one = first.faults in let two = second.faults in omega arith;
+}
+
+-- ---- causes
+
+pub rose_later : (a b c : ℕ) → a ≤ b → Rose b c → Rose a c
+rose_later a b c h r = grind arith
+
+pub cause_later : (old mid new : Wiring) (fault : WireFault) → old.faults ≤ mid.faults → IsWireCause mid new fault → IsWireCause old new fault
+cause_later old mid new Failed h c = rose_later old.faults mid.faults new.faults h c
+cause_later old mid new NoMemory h c = tt
+
+-- ---- one reply after another
+
+pub sends_more : (replies : List Reply) (i : ℕ) (reply : Reply) (old mid new : Wiring) → i < length replies → reply ≡ get_or replies i reply
+    → Passes (out_texts (take i replies)) old mid → Passes (out_texts (reply ∷ [])) mid new → Passes (out_texts (take (i + 1) replies)) old new
+sends_more replies i reply old mid new below is first second =
+    let more : take i replies ++ reply ∷ [] ≡ take (i + 1) replies = sym (take_more replies i reply below ∙ ap (λ r. take i replies ++ r ∷ []) (sym is)) in
+    subst (λ l. Passes (out_texts l) old new) more
+    (subst (λ l. Passes l old new) (sym (map-append (λ r. Out (reply_printed r)) (take i replies) (reply ∷ []))) (passes_then _ _ old mid new first second))
+
+pub sends_front : (replies : List Reply) (i : ℕ) (reply : Reply) (old mid new : Wiring) (fault : WireFault)
+    → Passes (out_texts (take i replies)) old mid → SendsOne mid new reply (Err fault) → SendsAll old new replies (Err fault)
+sends_front replies i reply old mid new fault first one = record {
+  sent = take i replies;
+  is_sent = (drop i replies, sym (take-append-drop i replies));
+  passes = subst (λ l. Passes l old new) (append-nil _) (passes_then _ _ old mid new first one.passes);
+  cause = cause_later old mid new fault first.faults one.cause;
+}
+
+pub sends_all : (replies : List Reply) (i : ℕ) (old new : Wiring) → Passes (out_texts (take i replies)) old new → length replies ≤ i → SendsAll old new replies (Ok tt)
+sends_all replies i old new passed all = record {
+  sent = replies;
+  is_sent = refl;
+  passes = subst (λ l. Passes (out_texts l) old new) (take_all i replies all) passed;
+  cause = tt;
+}

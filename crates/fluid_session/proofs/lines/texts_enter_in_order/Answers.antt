@@ -1,0 +1,5 @@
+use Rattle.fluid_session.proofs.Submitted.{submits}
+use Rattle.fluid_session.proofs.lines.texts_enter_in_order.Goals as goal
+
+pub returns : goal.returns
+returns c = submits

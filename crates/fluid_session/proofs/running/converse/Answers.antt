@@ -1,0 +1,16 @@
+use Rattle.std.proofs.Common.{refl}
+use Rattle.fluid_session.proofs.Wholly.{serves}
+use Rattle.fluid_session.proofs.running.converse.Goals as goal
+
+pub returns : goal.returns
+returns g c = record {
+  does = serves _ _ _ _ _ _ _ (record {
+    last = g.T.Conversation.seen c.run-end.new.talk;
+    end = c.run-end.result;
+    tally = c.run-end.new.tally;
+    runs = rw c.new-tally.ensures at c.run-end.ensures.does;
+    moment = c.now-moment.result;
+    ends = c.leave-end.ensures;
+    numbers = record { sequenced = refl; dropped = refl; nacked = refl; absorbed = refl; unread = refl };
+  });
+}

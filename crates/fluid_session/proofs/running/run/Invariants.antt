@@ -1,0 +1,12 @@
+use Rattle.std.proofs.Common.{◌≡◌, false, Ok}
+use Rattle.fluid_voice.specs.States.{is_used}
+use Rattle.fluid_session.specs.Running.{Runs}
+use Rattle.fluid_session.proofs.running.run.Given as goal
+
+-- all turns so far went on
+abbrev pub invariant-turns : goal.invariant-turns
+invariant-turns g l =
+    (goal.iterator-turns g).can_next l.iterator' × (goal.iterator-turns g).is_finite l.iterator'
+    × (is_used (g.T.Conversation.seen l.talk).voice ≡ false)
+    × (g.T.Conversation.belongs l.talk l.service)
+    × Runs (record { talk = g.T.Conversation.seen l.fn.talk; store = g.O.Objects.seen l.fn.objects }) (record { talk = g.T.Conversation.seen l.talk; store = g.O.Objects.seen l.objects }) (g.W.Wire.seen l.fn.wire) (g.W.Wire.seen l.wire) l.fn.tally l.tally (Ok tt)
