@@ -78,12 +78,14 @@ def records(clients, operations, contents, numbered=False):
     return path
 
 
-def summaries(records, waiting):
-    """A file of raw records with summaries, of which so many wait for their reports, written anew."""
+def summaries(records, waiting, keys=50):
+    """A file of raw records with summaries, of which so many wait for their reports, and with proposals of so many keys, written
+    anew."""
     OUT.mkdir(exist_ok=True)
-    path = OUT / f"summaries-{records}-records-{waiting}-waiting.jsonl"
+    path = OUT / f"summaries-{records}-records-{waiting}-waiting-{keys}-keys.jsonl"
     with path.open("wb") as out:
-        subprocess.run([TOP / "bench" / "summaries", "--records", str(records), "--waiting", str(waiting)], stdout=out, check=True)
+        subprocess.run([TOP / "bench" / "summaries", "--records", str(records), "--waiting", str(waiting), "--keys", str(keys)],
+                       stdout=out, check=True)
     return path
 
 
