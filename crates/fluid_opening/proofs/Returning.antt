@@ -1,5 +1,5 @@
 -- A keeper that was given, and what became of it.
-use Rattle.std.proofs.Common.{◌≡◌, inr, ℕ, ◌≤◌, Bool, true, false, cond, List, Option, None, Result, Ok, Err, OnErr, IfErr, bytes_eq, refl, sym, ap, ◌∙◌, arith}
+use Rattle.std.proofs.Common.{◌≡◌, inr, ℕ, ◌≤◌, Bool, true, false, cond, List, Option, None, Result, Ok, Err, OnErr, IfOk, IfErr, bytes_eq, refl, sym, ap, ◌∙◌, arith}
 use Rattle.std.specs.FinMap.{FinMap, get, remove}
 use Rattle.fluid_io.specs.Causes.{Rose}
 use Rattle.fluid_io.specs.declared.faults.FaultNote.{FaultNote}
@@ -17,7 +17,7 @@ use Rattle.fluid_lane.specs.Standing.{Standing}
 use Rattle.fluid_opening.specs.declared.fault.DoorFault.{DoorFault}
 use Rattle.fluid_opening.specs.declared.fault.DoorFault.TheVariants.{ShelfFailed, Lane, TooManyDocuments, NoMemory}
 use Rattle.fluid_opening.specs.Faults.{of_starting}
-use Rattle.fluid_opening.specs.Opening.{ComesBack, StartDoes, StartFails, OpenDoes, IsRisenFor, IsRisen}
+use Rattle.fluid_opening.specs.Opening.{ComesBack, StartDoes, StartFails, OpenDoes, OpensOver, IsRisenFor, IsRisen}
 
 -- ---- over a keeper that was given
 
@@ -62,6 +62,10 @@ module _ (limits : Limits) (name : List ℕ) (moment : ℕ) (old between new : S
   opened (Err (Lane fault)) does = (does.0, fails fault does.1)
   opened (Err (TooManyDocuments count)) does = absurd does
   opened (Err NoMemory) does = inr (fails lane.NoMemory does)
+
+  pub over : (result : Result Standing DoorFault) → StartDoes limits name moment keeper between new result → IfOk result (OpensOver limits name moment old new keeper)
+  over (Ok lane) (starts, same) = (rw same gives, starts)
+  over (Err fault) does = tt
 
   out_back : (fault : LaneFault) → IsIn old name → ComesBack name moment keeper between new fault → new.out ≡ old.out
   out_back fault is_in back =

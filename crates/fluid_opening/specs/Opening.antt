@@ -36,6 +36,10 @@ pub record Opens (limits : Limits) (name : List ℕ) (moment : ℕ) (old new : S
   pub gives : GivesKeeper name old new keeper
   pub starts : Starts keeper limits moment lane
 
+-- the same, over this keeper
+abbrev pub OpensOver : Limits → List ℕ → ℕ → Shelving → Shelving → Keeping → Standing → Type 0
+OpensOver limits name moment old new keeper lane = GivesKeeper name old new keeper × Starts keeper limits moment lane
+
 -- the keeper was given and came back, since the lane wasn't started
 pub record StartFails (name : List ℕ) (moment : ℕ) (old new : Shelving) (fault : LaneFault) : Type 0 where
   pub keeper : Keeping

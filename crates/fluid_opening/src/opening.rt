@@ -1,9 +1,9 @@
 //! How a document is opened.
-ghost use Rattle.std.specs.Prelude.{◌≡◌, ◌≤◌, IfErr, OnErr};
+ghost use Rattle.std.specs.Prelude.{◌≡◌, ◌≤◌, IfOk, IfErr, OnErr};
 ghost use Rattle.fluid_log.specs.declared.keeper.TheConstants.{LONGEST_KEPT};
 ghost use Rattle.fluid_log.specs.Shelving.{IsIn, IsOut};
 ghost use Rattle.fluid_document.specs.Entries.{most};
-ghost use Rattle.fluid_opening.specs.Opening.{StartDoes, OpenDoes, IsRisen};
+ghost use Rattle.fluid_opening.specs.Opening.{StartDoes, OpenDoes, OpensOver, IsRisen};
 
 use crate::DoorFault;
 use fluid_io::FaultNote;
@@ -29,6 +29,7 @@ pub fn start_lane<B: Shelves>(
     requires small { limits.bytes ≤ LONGEST_KEPT }
     requires moment { moment ≤ most }
     ensures does { OpenDoes limits name.now moment (B.seen shelves.old) (B.seen shelves.new) result }
+    ensures given { IfOk result (λ lane. (keeper : B.K) × OpensOver limits name.now moment (B.seen shelves.old) (B.seen shelves.new) (B.K.seen keeper) lane) }
     ensures back { OnErr result ((B.seen shelves.new).out ≡ (B.seen shelves.old).out) }
     ensures later { (B.seen shelves.old).faults ≤ (B.seen shelves.new).faults }
     ensures cause { IfErr result (IsRisen (B.seen shelves.old).faults (B.seen shelves.new).faults) }

@@ -1,0 +1,11 @@
+pub mod Named
+pub mod Listed
+pub mod Beginnings
+pub mod Carrying
+pub mod Standings
+pub mod Passages
+pub mod Endings
+pub mod Nothing
+pub mod Enrolling
+pub mod Starting
+pub mod Answering

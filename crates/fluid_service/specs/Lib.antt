@@ -1,0 +1,7 @@
+pub mod Visiting
+pub mod Steps
+pub mod Shelved
+pub mod Keys
+pub mod Opening
+pub mod Closing
+mod Codes
