@@ -7,10 +7,10 @@ use Rattle.fluid_types.specs.Ledger.{Ledger, order, seq}
 use Rattle.fluid_rules.specs.Scribe.{unanswered, pending, reference_of}
 use Rattle.fluid_scribe.specs.Jobs.{job_of as job_for, job_in, job}
 use Rattle.fluid_scribe.proofs.Sequenced.{legal-sequenced}
+use Rattle.fluid_scribe.proofs.Within.{Each, Waits, waits_in}
 use Rattle.fluid_scribe.proofs.ByRules.{job-by_rules}
 use Rattle.fluid_core.specs.Entering.{State, on_order, job_of, StandsFor}
 use Rattle.fluid_core.proofs.Entered.{stands-scribe, stands-sequencer}
-use Rattle.fluid_core.proofs.Within.{Each, Waits, waits_in}
 use Rattle.fluid_ticket.proofs.Ledgers.{number_of}
 
 first_of : (P : Message → Type 0) (ms : List Message) → Each P ms → IfSome (slice_get ms 0) P
@@ -28,4 +28,4 @@ unfolding job_of seq
 stands-job s l stands =
     ap (λ n. on_order n (job_in s.scribe)) (number_of s.sequencer l (stands-sequencer s l stands))
     ∙ ap (on_order (seq l)) (ap job_in (stands-scribe s l stands) ∙ job-by_rules l stands.legal)
-    ∙ on-order (order l) (length (order l)) (pending (order l)) (first_of (Waits (length (order l))) (unanswered (order l)) (waits_in (length (order l)) (order l) (legal-sequenced l stands.legal) refl))
+    ∙ on-order (order l) (length (order l)) (pending (order l)) (first_of (Waits (length (order l))) (unanswered (order l)) (waits_in (length (order l)) (order l) (legal-sequenced l stands.legal) (omega arith)))

@@ -17,8 +17,8 @@ use Rattle.fluid_ticket.specs.Ledger as tickets
 use Rattle.fluid_ticket.proofs.Within.{sound-within, sound-legal, low-legal}
 use Rattle.fluid_ticket.proofs.Ledgers.{sequence-state_of}
 use Rattle.fluid_scribe.specs.Within.{within as scribe_within}
+use Rattle.fluid_scribe.proofs.Within.{kept_within}
 use Rattle.fluid_core.specs.Entering.{State, sequencer_of, within, state_of}
-use Rattle.fluid_core.proofs.Within.{kept_within}
 use Rattle.fluid_log.specs.Keeping.{Content}
 use Rattle.fluid_checkpoint.specs.declared.fault.CheckpointFault.{CheckpointFault}
 use Rattle.fluid_checkpoint.specs.declared.fault.CheckpointFault.TheVariants.{BadField}
@@ -65,7 +65,7 @@ unfolding entries_in entries_of state_of
 entries_back l legal few =
     let sequencer : within_order (tickets.state_of l) ≡ tickets.state_of l = sound-within (tickets.state_of l) (sound-legal l legal few) (low-legal l legal) in
     let scribe : scribe_within (within_order (tickets.state_of l)).sequence (state_of l).scribe ≡ (state_of l).scribe =
-    ap (λ (s : ticket.State). scribe_within s.sequence (state_of l).scribe) sequencer ∙ ap (λ n. scribe_within n (state_of l).scribe) (sequence-state_of l) ∙ kept_within l legal in
+    ap (λ (s : ticket.State). scribe_within s.sequence (state_of l).scribe) sequencer ∙ ap (λ n. scribe_within n (state_of l).scribe) (sequence-state_of l) ∙ kept_within (seq l) l legal (omega arith) in
     λ i. record {
       state = record { sequencer = sequencer i; scribe = scribe i };
       entered = (entries_of l).entered;

@@ -10,3 +10,4 @@ pub mod Judged
 pub mod Taken
 pub mod Handled
 pub mod Alike
+pub mod Within

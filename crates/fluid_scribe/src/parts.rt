@@ -20,11 +20,11 @@ pub(crate) fn within(last: u64, state: ScribeState) -> ScribeState
         pending,
         acks,
     } = state;
-    let behind = behind_within(last, behind);
-    let minima = minima_within(last, minima);
-    let pending = pending_within(last, pending);
     let acks = acks.into_vec();
     let base = base_within(*acks.allocator(), last, base);
+    let behind = behind_within(last, behind);
+    let minima = minima_within(base.number(), last, minima);
+    let pending = pending_within(last, pending);
     ScribeState {
         base,
         behind,
@@ -73,11 +73,11 @@ fn pending_within(last: u64, messages: Messages) -> Messages
     Messages::new(messages)
 }
 
-fn minima_within(last: u64, minima: Minima) -> Minima
-    ensures { result ≡ filter (is_change last) minima }
+fn minima_within(base: u64, last: u64, minima: Minima) -> Minima
+    ensures { result ≡ filter (is_change base last) minima }
 {
     let mut changes = minima.into_vec();
-    changes.retain(|change| 1 <= change.0 && change.0 <= last && change.1 <= change.0);
+    changes.retain(|change| base < change.0 && change.0 <= last && change.1 <= change.0);
     Minima::new(changes)
 }
 

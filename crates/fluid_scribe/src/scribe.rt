@@ -1,12 +1,12 @@
 // The scribe.
 ghost use Rattle.std.specs.Prelude.{◌≡◌, ◌==◌, find, option_map, option_copied, ◌+◌, ◌-◌, ◌*◌, ◌^◌, ◌≤◌, ◌<◌, ◌++◌, ◌∷◌, [], length, IfOk, OnOk};
-ghost use Rattle.fluid_types.specs.Ledger.{Ledger, order, messages_of};
+ghost use Rattle.fluid_types.specs.Ledger.{Ledger, order, messages_of, seq};
 ghost use Rattle.fluid_types.specs.declared.entries.Raw.{Raw};
 ghost use Rattle.fluid_types.specs.declared.messages.Message.{Message as AMessage};
 ghost use Rattle.fluid_types.specs.declared.verdicts.Verdict.{Verdict};
 ghost use Rattle.fluid_rules.specs.Rules.{IsLegal};
 ghost use Rattle.fluid_rules.specs.Scribe.{acks as acks_by_rules, answer as answer_by_rules};
-ghost use Rattle.fluid_scribe.specs.State.{start, after, ack_in};
+ghost use Rattle.fluid_scribe.specs.State.{start, after, ack_in, state_of};
 ghost use Rattle.fluid_scribe.specs.Scribing.{prepared, kept_of, IsPreparedIn};
 ghost use Rattle.fluid_scribe.specs.Within.{within};
 ghost use Rattle.fluid_scribe.specs.Ledger.{StandsFor};
@@ -74,8 +74,8 @@ impl Scribe {
         }
     }
 
-    /// A scribe that keeps what of these parts lies within an order: a message of number 0, one that refers ahead of itself, or a
-    /// minimum ahead of its message counts for nothing. Takes no memory.
+    /// A scribe that keeps what of these parts lies within an order: a message of number 0, one that refers ahead of itself, a
+    /// minimum ahead of its message, or a change of it that isn't behind the base counts for nothing. Takes no memory.
     pub fn of_parts(
         base: Quorum,
         behind: Messages,
@@ -83,7 +83,9 @@ impl Scribe {
         pending: Messages,
         acks: Acks,
     ) -> Scribe
-        ensures { result.state ≡ within (2 ^ 64 - 1) (record { base = base; behind = behind; minima = minima; pending = pending; acks = acks }) }
+        ensures within { result.state ≡ within (2 ^ 64 - 1) (record { base = base; behind = behind; minima = minima; pending = pending; acks = acks }) }
+        ensures stands { (ledger : Ledger) → IsLegal ledger → seq ledger ≤ 2 ^ 64 - 1 →
+            record { base = base; behind = behind; minima = minima; pending = pending; acks = acks } ≡ state_of (order ledger) → StandsFor result ledger }
     {
         let state = ScribeState {
             base,
@@ -97,7 +99,8 @@ impl Scribe {
 
     /// The same within an order of so many messages: what has a higher number counts for nothing too. Takes no memory.
     pub fn of_order(last: u64, state: ScribeState) -> Scribe
-        ensures { result.state ≡ within last state }
+        ensures within { result.state ≡ within last state }
+        ensures stands { (ledger : Ledger) → IsLegal ledger → seq ledger ≤ last → state ≡ state_of (order ledger) → StandsFor result ledger }
     {
         let ScribeState {
             base,

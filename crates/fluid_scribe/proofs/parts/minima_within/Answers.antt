@@ -6,5 +6,5 @@ use Rattle.fluid_scribe.proofs.parts.minima_within.Goals as goal
 
 pub returns : goal.returns
 returns c =
-    let kept = filter_same _ (is_change c.args.last) _ (λ x b f' k. search rules) _ _ c.retain.ensures.filtered in
-    c.new.ensures ∙ kept ∙ ap (filter (is_change c.args.last)) c.into_vec-changes.ensures
+    let kept = filter_same _ (is_change c.args.base c.args.last) _ (λ x b f' k. search rules) _ _ c.retain.ensures.filtered in
+    c.new.ensures ∙ kept ∙ ap (filter (is_change c.args.base c.args.last)) c.into_vec-changes.ensures

@@ -13,7 +13,7 @@ returns c =
     let sequencer = sequencer_of c.args.sequencer in
     let sequencer_is : c.of_parts-sequencer.result.state ≡ within_order sequencer =
     c.of_parts-sequencer.ensures.within ∙ ap (λ (p : Parts). within_order (sequencer_of p)) c.sequencer.view_is in
-    let scribe_is = c.of_order-scribe.ensures ∙ ap (λ n. scribe_within n c.args.scribe) c.seq.ensures.is in
+    let scribe_is = c.of_order-scribe.ensures.within ∙ ap (λ n. scribe_within n c.args.scribe) c.seq.ensures.is in
     record {
       within = same_state _ _ sequencer_is (scribe_is ∙ ap (λ (t : State). scribe_within t.sequence c.args.scribe) sequencer_is);
       sound = c.seq.ensures.sound;
