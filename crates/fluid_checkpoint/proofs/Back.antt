@@ -31,7 +31,7 @@ use Rattle.fluid_tree.specs.Ids.{is_lower_digit, id_read}
 use Rattle.fluid_tree.specs.declared.id.SummaryRef.{SummaryRef}
 use Rattle.fluid_clients.specs.declared.table.Row.{Row}
 use Rattle.fluid_clients.specs.Table.{Rows}
-use Rattle.fluid_codec.proofs.ReadBack.{messages_are_read_back}
+use Rattle.fluid_codec.proofs.ReadBack.{message_is}
 use Rattle.fluid_codec.specs.Laws.{IsMessage}
 use Rattle.fluid_quorum.specs.Node.{tree_of, node_of}
 use Rattle.fluid_quorum.specs.Reading as blobs
@@ -110,7 +110,7 @@ change_back (number, minimum) h = rw (count_back number h.number, count_back min
 
 message_back : (is_such : Kind → Bool) (m : Message) → IsMessage m → is_such m.kind ≡ true → message is_such (message_tree m) ≡ Some m
 unfolding message
-message_back is_such m h kind = rw (messages_are_read_back m h, kind) refl
+message_back is_such m h kind = rw (message_is m h, kind) refl
 
 -- ---- lists
 

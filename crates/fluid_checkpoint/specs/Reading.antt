@@ -12,7 +12,7 @@ use Rattle.fluid_json.specs.Printed.{printed}
 use Rattle.fluid_json.specs.Spelled.{answer_stored}
 use Rattle.fluid_json.specs.declared.fault.JsonFault.{JsonFault}
 use Rattle.fluid_types.specs.Forms.{largest}
-use Rattle.fluid_types.specs.Messages.{message_spelled}
+use Rattle.fluid_types.specs.Messages.{message as a_message}
 use Rattle.fluid_types.specs.Quorum.{Quorum, as_name}
 use Rattle.fluid_types.specs.Printed.{Row as Pair, row_if_any}
 use Rattle.fluid_types.specs.Texts.{name_of}
@@ -141,10 +141,10 @@ pair (tree t (tree u (tree v ts))) = None
 abbrev pub change : Tree → Option (ℕ × ℕ)
 change t = as_trees t >>? pair
 
--- a message of such a kind: the one that the value's text spells
+-- a message of such a kind
 unfoldable pub message : (Kind → Bool) → Tree → Option Message
 message is_such t =
-    result_ok (message_spelled (printed t)) >>? λ m.
+    result_ok (a_message field.Message t) >>? λ m.
     if is_such m.kind then Some m else None
 
 -- ---- the members of a checkpoint; ids, and the numbers of messages and changes, strictly rise

@@ -2,16 +2,15 @@
 ghost use Rattle.std.specs.Prelude.{◌≡◌, IfOk};
 ghost use Rattle.std.specs.Result.{result_ok};
 ghost use Rattle.fluid_json.specs.Tree.{trees, as_text};
-ghost use Rattle.fluid_json.specs.Printed.{printed};
-ghost use Rattle.fluid_types.specs.Messages.{message_spelled};
+ghost use Rattle.fluid_types.specs.Messages.{message as a_message};
+ghost use Rattle.fluid_types.specs.declared.fault.Field.TheVariants as field;
 ghost use Rattle.fluid_rules.specs.Scribe.{is_summarize};
 ghost use Rattle.fluid_scribe.specs.State.{is_heard};
 ghost use Rattle.fluid_checkpoint.specs.Reading.{pair, held, is_word, led_by, left, are_none};
 
 use crate::forms::{Handle, Name, Number, Shape, Truth, count, member};
 use fluid_clients::Row;
-use fluid_codec::read_message;
-use fluid_json::{Json, NoMemory, print};
+use fluid_json::{Json, NoMemory};
 use fluid_tree::SummaryRef;
 use fluid_types::{ClientId, CodecFault, Kind, Message, Scopes};
 use std::alloc::Global;
@@ -271,12 +270,12 @@ fn is_summarize(kind: Kind) -> bool
     matches!(kind, Kind::Summarize)
 }
 
-// The message that a value's text spells.
+// The message that a value is.
 fn message_of(alloc: Global, value: &Json) -> Result<Option<Message>, NoMemory>
-    ensures { IfOk result (λ message. message ≡ result_ok (message_spelled (printed value.now))) }
+    ensures { IfOk result (λ message. message ≡ result_ok (a_message field.Message value.now)) }
 {
-    let text = print(alloc, value)?;
-    match read_message(alloc, text.as_str()) {
+    let value = value.copy(alloc)?;
+    match fluid_codec::message_of(alloc, value) {
         Ok(message) => Ok(Some(message)),
         Err(CodecFault::NoMemory) => Err(NoMemory),
         Err(_) => Ok(None),
