@@ -24,11 +24,15 @@ pub(crate) trait Print {
         ensures tokens { OnOk result (out.new.tokens ≡ out.old.tokens ++ tokens_of (tree self.now)) };
 }
 
+// For so many bytes there is room when a text begins: most texts of a document grow no more.
+const ROOM: usize = 320;
+
 /// The text of a value.
 pub(crate) fn print_text<P: Print>(alloc: Global, value: &P) -> Result<Text, NoMemory>
     ensures { IfOk result (λ s. s ≡ printed (P.tree value.now)) }
 {
-    let mut out = Printer::new(alloc);
+    let bytes = Vec::with_capacity(alloc, ROOM)?;
+    let mut out = Printer::behind(bytes);
     value.print(alloc, &mut out)?;
     Ok(out.into_text())
 }
