@@ -25,3 +25,5 @@ pub mod Tails
 pub mod Puts
 pub mod Listing
 pub mod Fitted
+pub mod Spoken
+pub mod Quoted

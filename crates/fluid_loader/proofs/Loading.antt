@@ -8,7 +8,7 @@ use Rattle.fluid_types.specs.Order.{AreNumberedFrom}
 use Rattle.fluid_types.specs.declared.messages.Message.{Message}
 use Rattle.fluid_loader.specs.Calls.{FetchesIn, Answers, ReadStops, LoadReads, LoadsOnly, PumpReads, PumpDoes, PickedSays, Sees, Loaded, LoadDoes, begun_of, or_bad, begun_picked, begun_in}
 use Rattle.fluid_loader.specs.Container.{AContainer, empty, begun, behind}
-use Rattle.fluid_loader.specs.Laws.{between, AreAbreast, ArePickedWithin, IsBased, IsBehind, IsHonestPick, IsHonestRead, IsNoBadSummary, IsTextPick, HasReplayed, IsWholeReplay, StayBased}
+use Rattle.fluid_loader.specs.Laws.{between, AreAbreast, ArePickedWithin, IsBased, IsBehind, IsHonestPick, IsHonestRead, IsNoBadSummary, HasReplayed, IsWholeReplay, StayBased}
 use Rattle.fluid_loader.specs.Link.{Document, IsDocument, Linked, Reads, picked}
 use Rattle.fluid_loader.specs.Version.{AVersion, IsOfVersion, version_at}
 use Rattle.fluid_loader.specs.declared.link.Pick.{Pick}
@@ -172,27 +172,27 @@ loaded_replays law pick old new c loaded is = of old.told loaded.begins loaded.a
 
 -- ---- an honest summary is no bad one
 
-picked_read : IsHonestRead → ArePickedWithin → (d : Document) (pick : Pick) (o : Option SummaryRef) (path : List ℕ) → picked pick d.order ≡ o → IsDocument d → IsTextPick pick d
+picked_read : IsHonestRead → ArePickedWithin → (d : Document) (pick : Pick) (o : Option SummaryRef) (path : List ℕ) → picked pick d.order ≡ o → IsDocument d → IsHonestPick pick d
     → begun_picked d.held o ≡ Err (BadSummary path) → ⊥
 picked_read law picks d pick None path own is text h = cc
 picked_read law picks d pick (Some s) path own is text h =
-    let read = law d s is (picks pick d.order s is.in_order own) (text.texts s own) (text.honest s own) in
+    let read = law d s is (picks pick d.order s is.in_order own) (text s own) in
     let begins : begun_picked d.held (Some s) ≡ Ok (begun read.0.channels read.0.quorum s.number read.0.base) = ap (λ r. or_bad (begun_of s.number r)) read.1 in
     cc
 
-never_bad : IsHonestRead → ArePickedWithin → (pick : Pick) (d : Document) (path : List ℕ) → IsDocument d → IsTextPick pick d → begun_in pick d ≡ Err (BadSummary path) → ⊥
+never_bad : IsHonestRead → ArePickedWithin → (pick : Pick) (d : Document) (path : List ℕ) → IsDocument d → IsHonestPick pick d → begun_in pick d ≡ Err (BadSummary path) → ⊥
 never_bad law picks Empty d path is text h = cc
 never_bad law picks Latest d path is text h = picked_read law picks d Latest (picked Latest d.order) path refl is text h
 never_bad law picks (Handle id) d path is text h = picked_read law picks d (Handle id) (picked (Handle id) d.order) path refl is text h
 
-other_fault : (told : Option Document) (pick : Pick) (fault : LoadFault) → IsNoBadSummary fault → Tells told (λ d. IsTextPick pick d → IsNoBadSummary fault)
+other_fault : (told : Option Document) (pick : Pick) (fault : LoadFault) → IsNoBadSummary fault → Tells told (λ d. IsHonestPick pick d → IsNoBadSummary fault)
 other_fault None pick fault h = tt
 other_fault (Some d) pick fault h = λ text. h
 
 pub begin_is_no_bad : IsHonestRead → ArePickedWithin → (pick : Pick) (old new : Linked) (fault : LoadFault) → Tells old.told IsDocument → Answers {A = AContainer} (begun_in pick) old new (Err fault)
-    → Tells old.told (λ d. IsTextPick pick d → IsNoBadSummary fault)
+    → Tells old.told (λ d. IsHonestPick pick d → IsNoBadSummary fault)
 begin_is_no_bad law picks pick old new (BadSummary path) is h =
-    tells_both old.told IsDocument (λ d. begun_in pick d ≡ Err (BadSummary path)) (λ d. IsTextPick pick d → IsNoBadSummary (BadSummary path))
+    tells_both old.told IsDocument (λ d. begun_in pick d ≡ Err (BadSummary path)) (λ d. IsHonestPick pick d → IsNoBadSummary (BadSummary path))
     (λ d doc said text other same. never_bad law picks pick d path doc text said) is h
 begin_is_no_bad law picks pick old new (LinkFailed note) is h = other_fault old.told pick (LinkFailed note) (λ path same. cc)
 begin_is_no_bad law picks pick old new NoSummary is h = other_fault old.told pick NoSummary (λ path same. cc)
@@ -201,7 +201,7 @@ begin_is_no_bad law picks pick old new (Refused nack) is h = absurd h
 begin_is_no_bad law picks pick old new NoMemory is h = other_fault old.told pick NoMemory (λ path same. cc)
 begin_is_no_bad law picks pick old new (Clash id kept bytes) is h = absurd h
 
-pub read_is_no_bad : (pick : Pick) (told : Option Document) (mid new : Linked) (fault : LoadFault) → ReadStops mid new fault → Tells told (λ d. IsTextPick pick d → IsNoBadSummary fault)
+pub read_is_no_bad : (pick : Pick) (told : Option Document) (mid new : Linked) (fault : LoadFault) → ReadStops mid new fault → Tells told (λ d. IsHonestPick pick d → IsNoBadSummary fault)
 read_is_no_bad pick told mid new (LinkFailed note) h = other_fault told pick (LinkFailed note) (λ path same. cc)
 read_is_no_bad pick told mid new NoSummary h = absurd h
 read_is_no_bad pick told mid new (BadSummary path) h = absurd h
@@ -210,7 +210,7 @@ read_is_no_bad pick told mid new (Refused nack) h = absurd h
 read_is_no_bad pick told mid new NoMemory h = other_fault told pick NoMemory (λ path same. cc)
 read_is_no_bad pick told mid new (Clash id kept bytes) h = absurd h
 
-pub handed_bad : (pick : Pick) (told : Option Document) (r : Result AContainer LoadFault) (fault : LoadFault) → IsErrAnd r (λ e. e ≡ fault) → Tells told (λ d. IsTextPick pick d → IsNoBadSummary fault)
-    → IfErr r (λ e. Tells told (λ d. IsTextPick pick d → IsNoBadSummary e))
+pub handed_bad : (pick : Pick) (told : Option Document) (r : Result AContainer LoadFault) (fault : LoadFault) → IsErrAnd r (λ e. e ≡ fault) → Tells told (λ d. IsHonestPick pick d → IsNoBadSummary fault)
+    → IfErr r (λ e. Tells told (λ d. IsHonestPick pick d → IsNoBadSummary e))
 handed_bad pick told (Ok c) fault is h = absurd is
-handed_bad pick told (Err e) fault is h = subst (λ f. Tells told (λ d. IsTextPick pick d → IsNoBadSummary f)) (sym is) h
+handed_bad pick told (Err e) fault is h = subst (λ f. Tells told (λ d. IsHonestPick pick d → IsNoBadSummary f)) (sym is) h

@@ -1,5 +1,5 @@
 -- An order with one message more.
-use Rattle.std.proofs.Common.{◌≡◌, ℕ, suc, ◌+◌, ◌<◌, ◌≤◌, ◌^◌, ◌-◌, List, [], ◌∷◌, ◌++◌, length, All, Ok, sym, ap, subst, ◌∙◌, arith, length-append, zero}
+use Rattle.std.proofs.Common.{◌≡◌, ℕ, suc, ◌+◌, ◌<◌, ◌≤◌, ◌^◌, ◌-◌, List, [], ◌∷◌, ◌++◌, length, All, Ok, sym, ap, subst, ◌∙◌, arith, length-append, zero, IsUtf8}
 use Rattle.fluid_types.specs.Messages.{message_spelled}
 use Rattle.fluid_types.specs.Order.{AreNumberedFrom}
 use Rattle.fluid_types.specs.Printed.{message_printed}
@@ -28,15 +28,16 @@ all_each P (m ∷ ms) h = of (all_each P ms h.1)
 all_more : (P : Message → Type 0) (ms : List Message) (m : Message) → All P ms → P m → All P (ms ++ m ∷ [])
 all_more P ms m h p = all_each P (ms ++ m ∷ []) (each_more P ms m (each-all P ms h) p)
 
-pub order_more : (old new : List Message) (m : Message) (text : List ℕ) (count : ℕ) → new ≡ old ++ m ∷ [] → IsOrder old → count ≡ length old → count < 2 ^ 53 - 1 → message_spelled text ≡ Ok m → message_printed m ≡ text
+pub order_more : (old new : List Message) (m : Message) (text : List ℕ) (count : ℕ) → new ≡ old ++ m ∷ [] → IsOrder old → count ≡ length old → count < 2 ^ 53 - 1 → message_spelled text ≡ Ok m → message_printed m ≡ text → IsUtf8 text
     → (m.number ≡ count + 1) × (reference_of m ≤ m.number) → IsOrder new × (length new < 2 ^ 53)
-order_more old new m text count is order long few spelled printed next =
+order_more old new m text count is order long few spelled printed utf8 next =
     let back : IsReadAsItself m = ap message_spelled printed ∙ spelled in
     let number : m.number ≡ 1 + length old = omega (arith, next.0, long) in
     subst (λ ms. IsOrder ms × (length ms < 2 ^ 53)) (sym is) (
       record {
         numbered = numbered_more 1 old m order.numbered number;
         read_back = all_more IsReadAsItself old m order.read_back back;
+        utf8 = all_more (λ x. IsUtf8 (message_printed x)) old m order.utf8 (subst IsUtf8 (sym printed) utf8);
         refers_back = all_more (λ x. reference_of x ≤ x.number) old m order.refers_back next.1;
       },
       omega (arith, few, long, length-append old (m ∷ [])),

@@ -1,6 +1,6 @@
 -- A container behind messages, and one that began with an honest summary.
 use Rattle.std.proofs.Common.{◌≡◌, ℕ, suc, ◌+◌, ◌^◌, ◌≤◌, ◌==◌, Bool, true, false, cond, ◌&&◌, List, [], ◌∷◌, ◌++◌, length, take, drop, Option, Some, None, Result, Ok, Err, codes, refl, sym, ap, subst, ◌∙◌, arith, append_assoc, append-nil}
-use Rattle.std.specs.Prelude.{All}
+use Rattle.std.specs.Prelude.{All, IsUtf8}
 use Rattle.std.specs.List.{filter_map, cons_option}
 use Rattle.std.specs.FinMap.{get}
 use Rattle.std.proofs.lemmas.Bool.{eqb-false}
@@ -17,9 +17,11 @@ use Rattle.fluid_tree.specs.declared.object.Object.{Object}
 use Rattle.fluid_tree.specs.declared.object.Object.TheVariants.{Blob, Tree}
 use Rattle.fluid_tree.specs.declared.object.ObjectEntry.{ObjectEntry}
 use Rattle.fluid_types.specs.Blobs.{blobs_of}
+use Rattle.fluid_texts.specs.Laws.{TextsAreRead, TextsArePrinted, TextsAreWritable}
 use Rattle.fluid_types.specs.Forms.{largest}
 use Rattle.fluid_types.specs.Ledger.{Ledger}
 use Rattle.fluid_types.specs.Order.{AreNumberedFrom, AreFirst}
+use Rattle.fluid_types.specs.Printed.{message_printed}
 use Rattle.fluid_types.specs.Quorum.{Quorum, quorum_of}
 use Rattle.fluid_types.specs.declared.messages.Message.{Message}
 use Rattle.fluid_map.specs.Laws as map_laws
@@ -55,9 +57,11 @@ use Rattle.fluid_loader.proofs.Orders.{front_numbered, each_drop}
 use Rattle.fluid_loader.proofs.Picking.{picked_within}
 use Rattle.fluid_loader.proofs.ReadVersion.{bind_ok, blob_ok, version_based}
 use Rattle.fluid_loader.proofs.Exact.{tree_at, app_exact, protocol_exact}
-use Rattle.fluid_loader.specs.Laws.{AreTexts as LawTexts, IsHonestRead}
+use Rattle.fluid_loader.specs.Laws.{IsHonestRead}
 use Rattle.fluid_loader.proofs.Blobs.{protocol_read}
 use Rattle.fluid_loader.proofs.Honest.{plain_utf8, two_in_order, keys_are, app_read}
+use Rattle.fluid_loader.proofs.Quoted.{quorum_text}
+use Rattle.fluid_loader.proofs.Spoken.{IsSpoken, each_spoken, replay_text, no_channels_text, contents_text}
 use Rattle.fluid_loader.proofs.Storable.{AreKept, none_kept, replay_kept}
 
 -- ---- behind messages
@@ -218,11 +222,11 @@ module _ (back : IsReadBack) (maps : map_laws.IsReadBack) (counters : counter_la
         }
 
     -- the version is read, where nothing that is held is too long
-    version_read : IsShort held → s.number ≤ length order → LawTexts (replayed order s.number) (quorum_of first_ones) → IsHonest held order s → (v : AVersion) × (version_at held s ≡ Ok v)
-    version_read short within texts stands = by_entries_of stands.1.0 stands.1.1.0 stands.1.1.1
+    version_read : TextsAreRead → TextsArePrinted → TextsAreWritable → IsShort held → s.number ≤ length order → IsHonest held order s → (v : AVersion) × (version_at held s ≡ Ok v)
+    version_read reads prints writes short within stands = by_entries_of stands.1.0 stands.1.1.0 stands.1.1.1
       where
-        channels : Channels
-        channels = replayed order s.number
+        each_said : Each IsSpoken first_ones
+        each_said = each_spoken reads first_ones each_back (each-all (λ m. IsUtf8 (message_printed m)) first_ones (All-take (λ m. IsUtf8 (message_printed m)) s.number order is_order.utf8))
 
         by_entries_of : (es : List ObjectEntry) → get held s.handle ≡ Some (tree_bytes es) → AllStand held es (pair (app_tree (replayed order s.number)) (protocol (blobs_of (quorum_of first_ones))))
             → (v : AVersion) × (version_at held s ≡ Ok v)
@@ -236,8 +240,9 @@ module _ (back : IsReadBack) (maps : map_laws.IsReadBack) (counters : counter_la
             let root : entries_at held s.handle ≡ Ok (e ∷ f ∷ []) = ap entries_of (tree_at back held short s.handle (e ∷ f ∷ []) fit here) ∙ ap Ok sorted in
             let x = node_within held 2 e in
             let y = node_within held 2 f in
-            let app_is = app_exact back held short (replayed order s.number) (λ at channel is. (kept at channel is).0) maps counters (length first_ones) few kept texts.maps e stand.1.0 stand.1.1.1.0 in
-            let state = protocol_exact back held short (quorum_of first_ones) only (quorums first_ones numbered read_back) texts.blobs f rest.1.0 rest.1.1.1.0 in
+            let app_is = app_exact back held short (replayed order s.number) (λ at channel is. (kept at channel is).0) maps counters (length first_ones) few kept
+            (contents_text reads prints writes (length first_ones) (replayed order s.number) kept (replay_text reads first_ones no_channels each_said (no_channels_text reads))) e stand.1.0 stand.1.1.1.0 in
+            let state = protocol_exact back held short (quorum_of first_ones) only (quorums first_ones numbered read_back) (quorum_text reads prints writes first_ones numbered read_back each_said) f rest.1.0 rest.1.1.1.0 in
             let number : ((quorum_of first_ones).number == s.number) ≡ true = same_number within in
             let inner_q : quorum_answer s.number y ≡ Ok (quorum_of first_ones) =
             ap (λ b. cond b (of_number s.number (quorum.number_in y) >>= λ _. blob_under protocol_name (quorum.answer y)) (Err protocol_name)) state.0
@@ -281,8 +286,8 @@ module _ (back : IsReadBack) (maps : map_laws.IsReadBack) (counters : counter_la
   whole_replay client document Latest first is_order honest h = by_picked client document (picked Latest document.order) first is_order honest h
   whole_replay client document (Handle id) first is_order honest h = by_picked client document (picked (Handle id) document.order) first is_order honest h
 
-  pub honest_read : IsHonestRead
-  honest_read document s is within texts stands = version_read document.order is.in_order document.held s is.short within texts stands
+  pub honest_read : TextsAreRead → TextsArePrinted → TextsAreWritable → IsHonestRead
+  honest_read reads prints writes document s is within stands = version_read document.order is.in_order document.held s reads prints writes is.short within stands
 
   -- one that begins with an honest summary is behind the first messages
   follows_picked : (document : Document) (o : Option SummaryRef) (first : AContainer) → IsOrder document.order → ((s : SummaryRef) → o ≡ Some s → s.number ≤ length document.order)

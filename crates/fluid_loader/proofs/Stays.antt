@@ -23,7 +23,7 @@ use Rattle.fluid_store.specs.declared.listing.StoredObject.{StoredObject}
 use Rattle.fluid_store.proofs.Added.{put_keeps, put_again}
 use Rattle.fluid_loader.specs.Calls.{PumpDoes}
 use Rattle.fluid_loader.specs.Container.{AContainer, acknowledged, taken_by, behind}
-use Rattle.fluid_loader.specs.Laws.{between, AreAbreast, IsBehind, StaysBehind, StayBased}
+use Rattle.fluid_loader.specs.Laws.{between, AreAbreast, IsBehind, Grows, StaysBehind, StayBased}
 use Rattle.fluid_loader.specs.Link as link
 use Rattle.fluid_loader.specs.Link.{Document, IsOrder, IsDocument, Linked, BothTell, with_entry, Enters, MayEnter, PutsTree, PutsSome}
 use Rattle.fluid_loader.specs.declared.link.Given.{Given}
@@ -59,11 +59,6 @@ both_same f x y same h = subst (BothTell f x) (sym same) (of x h)
     of (Some d) k = k
 
 -- ---- a document that has grown
-
-pub record Grows (d e : Document) : Type 0 where
-  pub more : List Message
-  pub order : e.order ≡ d.order ++ more
-  pub held : Keeps d.held e.held
 
 keeps_same : (a b : Held) → b ≡ a → Keeps a b
 keeps_same a b same = subst (Keeps a) (sym same) (λ id bytes is. is)

@@ -142,7 +142,7 @@ increment_kept address t e name is =
     let same : Increment address amount.0 ≡ e = let k = amount.2 in cc in
     subst IsKeptEdit same name
 
-picked_verb : {V : Type 0} (f : V → Option Edit) (a b c d : V) (p q r s : Bool) (e : Edit) → option_and_then f (cond p (Some a) (cond q (Some b) (cond r (Some c) (cond s (Some d) None)))) ≡ Some e
+pub picked_verb : {V : Type 0} (f : V → Option Edit) (a b c d : V) (p q r s : Bool) (e : Edit) → option_and_then f (cond p (Some a) (cond q (Some b) (cond r (Some c) (cond s (Some d) None)))) ≡ Some e
     → (f a ≡ Some e) ⊎ ((f b ≡ Some e) ⊎ ((f c ≡ Some e) ⊎ (f d ≡ Some e)))
 picked_verb f a b c d true q r s e h = inl h
 picked_verb f a b c d false true r s e h = inr (inl h)
@@ -177,7 +177,7 @@ edit_kept t e h is =
     by_attach address name true k = attach_kept address t e name k
     by_attach address name false k = speak_kept address t e name h k
 
-of_op_some : {A : Type 0} (k : Kind) (o : Option A) (a : A) → of_op k o ≡ Some a → o ≡ Some a
+pub of_op_some : {A : Type 0} (k : Kind) (o : Option A) (a : A) → of_op k o ≡ Some a → o ≡ Some a
 of_op_some kind.Op o a is = is
 of_op_some kind.Noop o a is = cc
 of_op_some kind.Propose o a is = cc

@@ -1,6 +1,6 @@
 -- What edits, noops and summarizes leave.
 use Rattle.std.proofs.Common.{◌≡◌, inl, inr, ℕ, List, Option, Some, None, Result, Ok, Err, refl, sym, ap, subst}
-use Rattle.std.specs.Result.{IsErrAnd, OnOk, OnErr}
+use Rattle.std.specs.Result.{IsErrAnd}
 use Rattle.fluid_io.specs.Causes.{Tells}
 use Rattle.fluid_tree.specs.Summary.{Summary}
 use Rattle.fluid_types.specs.declared.entries.Submission.{Submission}
@@ -8,15 +8,15 @@ use Rattle.fluid_edits.specs.declared.edit.Edit.{Edit}
 use Rattle.fluid_runtime.specs.AppTree.{app_tree, tree_since}
 use Rattle.fluid_store.specs.Laws.{GoesOnStanding}
 use Rattle.fluid_store.specs.Standing.{Stands}
-use Rattle.fluid_loader.specs.Calls.{Submits, Proposes, IsUndone, Edits, EditDoes, UploadsTree, UploadEnds, SummarizeDoes, counted, or_failed, counted_by, since, summarize_of}
+use Rattle.fluid_loader.specs.Calls.{Submits, Proposes, IsUndone, Edits, EditDoes, UploadsTree, UploadEnds, SummarizeDoes, or_failed, counted_by, since, summarize_of}
 use Rattle.fluid_loader.specs.Container.{AContainer}
-use Rattle.fluid_loader.specs.Laws.{IsBased, IsBehind, StaysBehind, StayBased, IsWholeUpload}
+use Rattle.fluid_loader.specs.Laws.{IsBased, IsBehind, StaysBehind, StayBased, IsWholeUpload, Grows}
 use Rattle.fluid_loader.specs.Link as link
 use Rattle.fluid_loader.specs.Link.{Document, IsDocument, Linked, BothTell, StandsBehind}
 use Rattle.fluid_loader.specs.declared.link.LinkFault.{LinkFault}
 use Rattle.fluid_loader.specs.declared.fault.LoadFault.{LoadFault}
 use Rattle.fluid_loader.specs.declared.fault.LoadFault.TheVariants.{LinkFailed, NoSummary, BadSummary, Edit as EditRefused, Refused, NoMemory, Clash}
-use Rattle.fluid_loader.proofs.Stays.{both_then, both_so, both_same, Grows, submits_grow, uploads_grow, behind_grown, behind_own}
+use Rattle.fluid_loader.proofs.Stays.{both_then, both_so, both_same, submits_grow, uploads_grow, behind_grown, behind_own}
 
 -- ---- calls that leave the order taken in
 
@@ -138,9 +138,8 @@ proposal_stays c new s before after (Err NoMemory) (inl h) = undone_stays c new 
 proposal_stays c new s before after (Err NoMemory) (inr h) = own_or_same c new s before after (Err NoMemory) h.submits h.leaves
 proposal_stays c new s before after (Err (Clash id kept bytes)) h = own_or_same c new s before after (Err (Clash id kept bytes)) h.submits h.leaves
 
-pub beats_stay : (c new : AContainer) (s : Submission) (before after : Linked) (r : Result (Unit {0}) LoadFault) → Submits s before after r → OnOk r (new ≡ counted c) → OnErr r (new ≡ c) → StaysBehind c new before after
-beats_stay c new s before after (Ok done) h taken same = own_stays c new before after _ _ taken (grown_by s before after _ h)
-beats_stay c new s before after (Err fault) h taken same = same_stays c new before after same (grown_by s before after _ h)
+pub beats_stay : (c new : AContainer) (s : Submission) (before after : Linked) (r : Result (Unit {0}) LoadFault) → Submits s before after r → new ≡ counted_by c r → StaysBehind c new before after
+beats_stay c new s before after r h is = own_or_same c new s before after r h is
 
 -- what was put stands behind the proposal as well
 pub summarized_stands : IsWholeUpload → GoesOnStanding → (c : AContainer) (before between after : Linked) (id : List ℕ) → UploadsTree c before between (Ok id) → BothTell Grows between.told after.told

@@ -1,21 +1,18 @@
 -- What holds of containers: one that begins with an honest summary and takes in the messages behind it is one that has taken in all.
-use Rattle.std.specs.Prelude.{◌≡◌, ℕ, ◌-◌, length, List, [], ◌∷◌, take, drop, Bool, All, Option, Some, None, Ok, codes, ◌≤◌, IsUtf8, ◌++◌}
+use Rattle.std.specs.Prelude.{◌≡◌, ℕ, ◌-◌, length, List, [], ◌∷◌, take, drop, Bool, All, Option, Some, None, Ok, codes, ◌≤◌, ◌++◌}
 use Rattle.std.specs.FinMap.{get}
 use Rattle.fluid_table.specs.Table.{Values}
 use Rattle.fluid_types.specs.Names.{IsName}
 use Rattle.fluid_types.specs.Blobs.{blobs}
-use Rattle.fluid_types.specs.Quorum.{Quorum, quorum, quorum_of}
+use Rattle.fluid_types.specs.Quorum.{quorum, quorum_of}
 use Rattle.fluid_types.specs.declared.messages.Message.{Message}
 use Rattle.fluid_tree.specs.Summary.{Summary, tree, child, no_children}
 use Rattle.fluid_tree.specs.declared.id.SummaryRef.{SummaryRef}
 use Rattle.fluid_readback.specs.Quorums.{IsReadAsItself}
 use Rattle.fluid_rules.specs.Scribe.{protocol, tree_entry}
-use Rattle.fluid_edits.specs.Replay.{Channel, a_map, Channels, no_channels, replay}
+use Rattle.fluid_edits.specs.Replay.{Channel, Channels, no_channels, replay}
 use Rattle.fluid_runtime.specs.Laws.{IsSince, IsUnmarked, Pairs, IsListOf, tree_in_order}
 use Rattle.fluid_runtime.specs.AppTree.{app_tree, tree_since}
-use Rattle.fluid_map.specs.Content.{content}
-use Rattle.fluid_map.specs.Replay as map
-use Rattle.fluid_quorum.specs.Node as node
 use Rattle.fluid_loader.specs.Version.{AVersion, version_at}
 use Rattle.fluid_store.specs.Fetching.{fetched}
 use Rattle.fluid_store.specs.Held.{Held, Keeps, IsShort}
@@ -91,22 +88,18 @@ pub record IsBehind (client : List ℕ) (first : AContainer) (document : Documen
   pub abreast : AreAbreast c (behind client first (between first.number c.number document.order))
   pub based : IsBased document.held c
 
+-- a document that others have gone on with: its order is longer, and what was held is still held
+pub record Grows (d e : Document) : Type 0 where
+  pub more : List Message
+  pub order : e.order ≡ d.order ++ more
+  pub held : Keeps d.held e.held
+
 -- whatever it began with, a container of the document before a call is one of the document behind it
 abbrev pub StaysBehind : AContainer → AContainer → Linked → Linked → Type 0
 StaysBehind old new before after =
     (first : AContainer) → BothTell (λ d e. IsBehind before.client first d old → IsBehind before.client first e new) before.told after.told
 
 -- ---- a bad summary
-
--- the contents of the maps and of the quorum's blobs are UTF-8, as what is written of them is
-pub record AreTexts (channels : Channels) (q : Quorum) : Type 0 where
-  pub maps : (at : List ℕ) (values : map.Values) → get channels at ≡ Some (a_map values) → IsUtf8 (content values)
-  pub blobs : node.AreTexts q
-
--- an honest pick whose contents are UTF-8, as all are that are written
-pub record IsTextPick (pick : Pick) (document : Document) : Type 0 where
-  pub honest : IsHonestPick pick document
-  pub texts : (summary : SummaryRef) → picked pick document.order ≡ Some summary → AreTexts (replayed document.order summary.number) (quorum document.order summary.number)
 
 abbrev pub IsNoBadSummary : LoadFault → Type 0
 IsNoBadSummary fault = (path : List ℕ) → fault ≡ BadSummary path → ⊥
@@ -127,6 +120,12 @@ pub record Follows (order : List Message) (c : AContainer) : Type 0 where
   pub channels : c.channels ≡ replayed order c.number
   pub quorum : c.quorum ≡ quorum order c.number
 
+-- the container has taken in the whole order: its channels and its quorum are those behind all messages
+pub record HasTakenAll (document : Document) (c : AContainer) : Type 0 where
+  pub number : c.number ≡ length document.order
+  pub channels : c.channels ≡ replay no_channels document.order
+  pub quorum : c.quorum ≡ quorum_of document.order
+
 -- ---- laws
 
 -- the channels of a container behind messages are the replay of these from its channels
@@ -140,8 +139,7 @@ ArePickedWithin = (pick : Pick) (order : List Message) (summary : SummaryRef) �
 -- an honest summary of a number of the order is read
 abbrev pub IsHonestRead : Type 0
 IsHonestRead =
-    (document : Document) (summary : SummaryRef) → IsDocument document → summary.number ≤ length document.order
-    → AreTexts (replayed document.order summary.number) (quorum document.order summary.number) → IsHonest document.held document.order summary
+    (document : Document) (summary : SummaryRef) → IsDocument document → summary.number ≤ length document.order → IsHonest document.held document.order summary
     → (v : AVersion) × (version_at document.held summary ≡ Ok v)
 
 -- a container that begins with nothing, or with an honest summary, is one that has taken in the whole order once it has taken in the
@@ -174,10 +172,11 @@ IsHonestVersion =
     → get held summary.handle ≡ Some (tree_bytes (tree_entry (codes ".app") app ∷ tree_entry (codes ".protocol") state ∷ [])) → IsHonest held order summary
 
 -- a container follows an order from nothing, or from an honest summary, and still does where the order has become longer and where more
--- of its messages were taken in
+-- of its messages were taken in; and a container of a document is one of what it has grown to
 pub record GoOnFollowing : Type 0 where
   pub begins : (order : List Message) → Follows order empty
   pub honest : (document : Document) (pick : Pick) (first : AContainer) → IsOrder document.order → IsHonestPick pick document → begun_in pick document ≡ Ok first → Follows document.order first
   pub longer : (order more : List Message) (c : AContainer) → Follows order c → Follows (order ++ more) c
+  pub grows : (client : List ℕ) (first c : AContainer) (d e : Document) → Grows d e → IsBehind client first d c → IsBehind client first e c
   pub goes_on : (client : List ℕ) (document : Document) (first c : AContainer) → IsOrder document.order → Follows document.order first → IsBehind client first document c
       → Follows document.order c

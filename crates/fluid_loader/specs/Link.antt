@@ -1,10 +1,11 @@
 -- What is known of a link, and what each call of it does.
-use Rattle.std.specs.Prelude.{◌≡◌, ◌⊎◌, ℕ, ◌+◌, ◌-◌, ◌^◌, ◌<◌, ◌≤◌, List, [], ◌∷◌, ◌++◌, length, map, drop, All, IfOk, IfSome, Option, Some, None, option_map, Result, Ok, Err, ⊤, Bool, true, false}
+use Rattle.std.specs.Prelude.{◌≡◌, ◌⊎◌, ℕ, ◌+◌, ◌-◌, ◌^◌, ◌<◌, ◌≤◌, List, [], ◌∷◌, ◌++◌, length, map, drop, All, IfOk, IfSome, Option, Some, None, option_map, Result, Ok, Err, ⊤, Bool, true, false, IsUtf8}
 use Rattle.std.specs.FinMap.{get}
 use Rattle.fluid_io.specs.Causes.{Rose, Tells}
 use Rattle.fluid_types.specs.Fits as entries
 use Rattle.fluid_types.specs.Ledger.{Ledger, messages_of, order}
 use Rattle.fluid_types.specs.Order.{AreNumberedFrom, AreFirst}
+use Rattle.fluid_types.specs.Printed.{message_printed}
 use Rattle.fluid_types.specs.declared.entries.Raw.{Raw}
 use Rattle.fluid_types.specs.declared.entries.Raw.TheVariants.{Submit}
 use Rattle.fluid_types.specs.declared.entries.Submission.{Submission}
@@ -41,10 +42,12 @@ pub record Document : Type 0 where
   pub ledger : Option Ledger
   pub limit : ℕ
 
--- messages are numbered one by one from 1, each is read back from its printed text as itself, and none refers to one behind it
+-- messages are numbered one by one from 1, each is read back from its printed text, which is UTF-8, as itself, and none refers to one
+-- behind it
 pub record IsOrder (messages : List Message) : Type 0 where
   pub numbered : AreFirst messages
   pub read_back : All IsReadAsItself messages
+  pub utf8 : All (λ m. IsUtf8 (message_printed m)) messages
   pub refers_back : All (λ m. reference_of m ≤ m.number) messages
 
 -- a legal ledger of this order

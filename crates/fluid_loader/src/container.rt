@@ -8,9 +8,9 @@ ghost use Rattle.fluid_runtime.specs.Shown.{shown};
 ghost use Rattle.fluid_store.specs.Standing.{Stands};
 ghost use Rattle.fluid_types.specs.Order.{AreNumberedFrom};
 ghost use Rattle.fluid_loader.specs.Container.{AContainer, empty, acknowledged, is_from, taken_by, behind};
-ghost use Rattle.fluid_loader.specs.Calls.{FetchesIn, Answers, LoadsOnly, LoadDoes, LoadReads, begun_in, begun_picked, Fetched, ReadStops, PumpDoes, PumpReads, Submits, IsBehindFront, Proposes, op_of, noop_of, summarize_of, shown_channels, counted, EditDoes, UploadsTree, UploadsOver, UploadEnds, SummarizeDoes, Picked, Begins, since, failure, or_refused, or_failed};
+ghost use Rattle.fluid_loader.specs.Calls.{FetchesIn, Answers, LoadsOnly, LoadDoes, LoadReads, begun_in, begun_picked, Fetched, ReadStops, PumpDoes, PumpReads, Submits, IsBehindFront, Proposes, op_of, noop_of, summarize_of, shown_channels, counted_by, EditDoes, UploadsTree, UploadsOver, UploadEnds, SummarizeDoes, Picked, Begins, since, failure, or_refused, or_failed};
 ghost use Rattle.fluid_loader.specs.Fitting.{MaySubmit};
-ghost use Rattle.fluid_loader.specs.Laws.{HasReplayed, IsBased, IsBehind, IsHonestPick, IsNoBadSummary, IsTextPick, StaysBehind};
+ghost use Rattle.fluid_loader.specs.Laws.{Follows, HasReplayed, HasTakenAll, IsBased, IsBehind, IsHonestPick, IsNoBadSummary, StaysBehind};
 ghost use Rattle.fluid_loader.specs.Version.{IsIn, IsOfVersion};
 ghost use Rattle.fluid_loader.specs.Link as links;
 ghost use Rattle.fluid_loader.specs.Link.{Document, Fits, picked};
@@ -26,6 +26,7 @@ use crate::{Given, Link, LinkFault, LoadFault, Pick};
 use fluid_io::FaultNote;
 use fluid_json::{Json, LARGEST, NoMemory};
 use fluid_quorum::Quorum;
+use fluid_quorum::laws::quorum_goes_on;
 use fluid_runtime::{App, Edit, EditFault};
 use fluid_store::laws::what_stands_goes_on_standing;
 use fluid_tree::{Id, Node, SummaryRef};
@@ -70,7 +71,7 @@ impl Container {
         ensures begins { IfOk result (λ container. Tells (L.seen link.old).told (λ document. (first : AContainer) → begun_in pick.now document ≡ Ok first →
             IsBehind (L.seen link.old).client first document container × (container.number ≡ length document.order))) }
         ensures replays { IfOk result (λ container. Tells (L.seen link.old).told (λ document. IsHonestPick pick.now document → HasReplayed document container)) }
-        ensures honest_is_loaded { IfErr result (λ fault. Tells (L.seen link.old).told (λ document. IsTextPick pick.now document → IsNoBadSummary fault)) }
+        ensures honest_is_loaded { IfErr result (λ fault. Tells (L.seen link.old).told (λ document. IsHonestPick pick.now document → IsNoBadSummary fault)) }
     {
         containers_stay_based();
         honest_summaries_are_read();
@@ -99,15 +100,18 @@ impl Container {
         }
     }
 
-    /// Takes in the messages behind the container's number, and answers the number then. After a fault a front of them was
-    /// taken in.
+    /// Takes in the messages behind the container's number, and answers the number then. Where the link tells the document, and
+    /// the container is behind a front of its order, it is then behind the whole order. After a fault a front of the messages
+    /// was taken in.
     pub fn pump<L: Link>(&mut self, alloc: Global, link: &mut L) -> Result<u64, LoadFault>
         ensures lent { L.lent link.new ≡ L.lent link.old }
         ensures reads { PumpReads (L.seen link.old) (L.seen link.new) }
         ensures does { PumpDoes self.old self.new (L.seen link.old) (L.seen link.new) result }
+        ensures takes_all { IfOk result (λ _. Tells (L.seen link.old).told (λ document. Follows document.order self.old → HasTakenAll document self.new)) }
         ensures stays { StaysBehind self.old self.new (L.seen link.old) (L.seen link.new) }
     {
         containers_stay_based();
+        quorum_goes_on();
         link.id();
         self.catch_up(alloc, link)
     }
@@ -251,13 +255,12 @@ impl Container {
         Ok(id)
     }
 
-    /// Submits a noop at the container's number. The container stays as it was, but for its client number where the noop was
-    /// taken.
+    /// Submits a noop at the container's number. The container stays as it was, but for its client number, which counts as used
+    /// unless the noop was refused.
     pub fn beat<L: Link>(&mut self, alloc: Global, link: &mut L) -> Result<(), LoadFault>
         requires { Fits (L.seen link.old).client (noop_of self.old) }
         ensures lent { L.lent link.new ≡ L.lent link.old }
-        ensures taken { OnOk result (self.new ≡ counted self.old) }
-        ensures unchanged { OnErr result (self.new ≡ self.old) }
+        ensures leaves { self.new ≡ counted_by self.old result }
         ensures says { Submits (noop_of self.old) (L.seen link.old) (L.seen link.new) result }
         ensures stays { StaysBehind self.old self.new (L.seen link.old) (L.seen link.new) }
     {
@@ -267,14 +270,17 @@ impl Container {
     fn submit_noop<L: Link>(&mut self, alloc: Global, link: &mut L) -> Result<(), LoadFault>
         requires { Fits (L.seen link.old).client (noop_of self.old) }
         ensures lent { L.lent link.new ≡ L.lent link.old }
-        ensures taken { OnOk result (self.new ≡ counted self.old) }
-        ensures unchanged { OnErr result (self.new ≡ self.old) }
+        ensures leaves { self.new ≡ counted_by self.old result }
         ensures says { Submits (noop_of self.old) (L.seen link.old) (L.seen link.new) result }
     {
         let submission = numbered(self.last + 1, self.number, Offered::Noop, Json::null());
-        submit(alloc, link, submission)?;
-        self.last += 1;
-        Ok(())
+        match submit(alloc, link, submission) {
+            Err(LoadFault::Refused(refusal)) => Err(LoadFault::Refused(refusal)),
+            submitted => {
+                self.last += 1;
+                submitted
+            }
+        }
     }
 
     /// What the client shows: an object with one member per visible channel, its kind and its value.

@@ -7,6 +7,7 @@ use fluid_map::laws::content_is_read_back as maps_are_read_back;
 use fluid_quorum::laws::{attributes_are_read, only_blobs_are_read, quorum_goes_on};
 use fluid_readback::blobs_of_messages_are_read_back;
 use fluid_runtime::laws::{unchanged_channels_stay, unmarked_apps_give_no_handle};
+use fluid_texts::{texts_are_printed, texts_are_read};
 use fluid_tree::laws::objects_are_read_back;
 
 /// The channels of a container behind messages are the replay of these from its channels.
@@ -50,11 +51,13 @@ pub fn picked_numbers_are_within()
     ensures { ArePickedWithin }
 {}
 
-/// An honest summary of a number of the order is read, where the contents of its blobs are UTF-8.
+/// An honest summary of a number of the order is read: its version has its form.
 pub fn honest_summaries_are_read()
     ensures { IsHonestRead }
 {
     objects_are_read_back();
+    texts_are_read();
+    texts_are_printed();
     maps_are_read_back();
     counters_are_read_back();
     only_blobs_are_read();

@@ -13,8 +13,8 @@ use std::marker::Model;
 /// An order has at most so many messages.
 const MOST: usize = (1 << 53) - 1;
 
-/// The messages of an order: numbered one by one from 1, each is read back from its printed text as itself, and none refers to
-/// one behind it. Contracts see the list.
+/// The messages of an order: numbered one by one from 1, each is read back from its printed text, which is UTF-8, as itself, and
+/// none refers to one behind it. Contracts see the list.
 #[derive(Drop)]
 pub struct Order {
     messages: Vec<Message>,

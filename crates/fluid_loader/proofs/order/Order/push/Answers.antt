@@ -13,4 +13,4 @@ invariant_of-self-2 c =
     let spelled : message_spelled c.args.text.now ≡ Ok m = search rules in
     let printed : message_printed m ≡ c.args.text.now = search rules in
     let next : (m.number ≡ c.len-count.result + 1) × (reference_of m ≤ m.number) = search rules in
-    order_more c.self.inside.messages.items c.push.new.self.items m c.args.text.now c.len-count.result c.in_ok-push.ensures.items c.self.invariant.0 long few spelled printed next
+    order_more c.self.inside.messages.items c.push.new.self.items m c.args.text.now c.len-count.result c.in_ok-push.ensures.items c.self.invariant.0 long few spelled printed c.utf8.text next
