@@ -1,7 +1,6 @@
 pub mod Visiting
-pub mod Steps
 pub mod Shelved
 pub mod Keys
 pub mod Opening
 pub mod Closing
-mod Codes
+pub mod Codes
