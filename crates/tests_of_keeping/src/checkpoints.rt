@@ -58,6 +58,25 @@ fn place(name: &str) -> usize {
         })
 }
 
+// A propose message with so many lists in one another as contents, in a list.
+fn nested(rt: &impl Abort, alloc: Global, lists: u64) -> String {
+    let mut text = String::from_str(
+        alloc,
+        r#"[{"clientId":"a","clientSequenceNumber":1,"contents":"#,
+    )
+    .expect(rt, "memory");
+    for _ in 0..lists {
+        text.push_str("[").expect(rt, "memory");
+    }
+    for _ in 0..lists {
+        text.push_str("]").expect(rt, "memory");
+    }
+    text.push_str(
+        r#","minimumSequenceNumber":0,"referenceSequenceNumber":0,"sequenceNumber":2,"timestamp":5,"type":"propose"}]"#,
+    ).expect(rt, "memory");
+    text
+}
+
 // What bytes are read as.
 fn read_as(rt: &impl Abort, alloc: Global, bytes: &[u8]) -> Told {
     let read = read(alloc, bytes);
@@ -256,6 +275,14 @@ const OUTSIDE: &[(&str, &str)] = &[
         "base",
         r#"{"attributes":{"minimumSequenceNumber":0,"sequenceNumber":9},"quorumMembers":[1],"quorumProposals":[],"quorumValues":[]}"#,
     ),
+    (
+        "base",
+        r#"{"attributes":{"minimumSequenceNumber":1,"sequenceNumber":0},"quorumMembers":[],"quorumProposals":[],"quorumValues":[]}"#,
+    ),
+    (
+        "base",
+        r#"{"attributes":{"minimumSequenceNumber":0,"sequenceNumber":9},"quorumMembers":[{"clientId":"a","detail":1,"sequenceNumber":10}],"quorumProposals":[],"quorumValues":[]}"#,
+    ),
     ("behind", "{}"),
     ("behind", "[null]"),
     (
@@ -368,6 +395,25 @@ const OUTSIDE: &[(&str, &str)] = &[
 ];
 
 const HEARD: usize = 6;
+
+// Behind the base, as many lists in one another as contents have: the message, the list of messages and the text are three more.
+const NESTED: &[(u64, Told)] = &[
+    (97, Told::Two),
+    (99, Told::Two),
+    (100, Told::Two),
+    (117, Told::Two),
+    (118, Told::BadText),
+];
+
+#[test]
+fn a_message_is_read_as_deep_as_the_text(rt: HostRuntime) {
+    let alloc = rt.alloc();
+    for (lists, wanted) in NESTED {
+        let value = nested(&rt, alloc, *lists);
+        assert_with(&rt, alloc, "2", (2, 3), Some(value.as_str()), *wanted);
+        drop(value);
+    }
+}
 
 #[test]
 fn the_first_member_outside_its_form_is_named(rt: HostRuntime) {

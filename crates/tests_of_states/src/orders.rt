@@ -172,7 +172,7 @@ fn assert_steps(rt: &impl Abort, alloc: Global, order: &[Message], renews: bool)
     drop(scribe);
 }
 
-// It is brought forward at one place alone, and looked at behind the last message.
+// It is asked or taken apart at one place alone, and looked at behind the last message alone.
 fn assert_behind(rt: &impl Abort, alloc: Global, order: &[Message], at: usize, renews: bool) {
     let mut scribe = Scribe::new(alloc);
     for place in 0..order.len() {

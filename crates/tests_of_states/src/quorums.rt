@@ -15,6 +15,8 @@ enum Step {
     // The number, the minimum and the contents.
     Propose(u64, u64, &'static str),
     Op(u64, u64),
+    // Noop messages up to this number, of which the last has this minimum.
+    Advance(u64, u64),
     // The number and the member `data` with a comma behind it.
     Join(u64, &'static str),
     Leave(u64, &'static str),
@@ -79,6 +81,9 @@ fn enter(rt: &impl Abort, alloc: Global, quorum: &mut Quorum, step: &Step) {
         }
         Step::Op(number, minimum) => {
             take(rt, alloc, quorum, (*number, *minimum), "op", "null", "");
+        }
+        Step::Advance(number, minimum) => {
+            quorum.advance(*number, *minimum).expect(rt, "memory");
         }
         Step::Join(number, data) => take(rt, alloc, quorum, (*number, 0), "join", "null", *data),
         Step::Leave(number, data) => take(rt, alloc, quorum, (*number, 0), "leave", "null", *data),
@@ -310,6 +315,8 @@ const OUTSIDE: &[(usize, &str)] = &[
         r#"[{"clientId":"a b","detail":null,"sequenceNumber":2}]"#,
     ),
     (1, r#"[{"clientId":"a","sequenceNumber":2}]"#),
+    (1, r#"[{"clientId":"a","detail":null,"sequenceNumber":0}]"#),
+    (1, r#"[{"clientId":"a","detail":null,"sequenceNumber":9}]"#),
     (2, r#"[{"key":"mode","sequenceNumber":9,"value":[1]}]"#),
     (
         2,
@@ -358,4 +365,63 @@ fn the_first_blob_outside_its_form_is_named(rt: HostRuntime) {
     assert_unread(&rt, alloc, blob(&rt, alloc, b"[]"), Some(0), "no tree");
     let empty = Node::tree(tree_without(&rt, alloc, &EMPTY, 4));
     assert_unread(&rt, alloc, empty, None, "no messages");
+}
+
+// ---- noop messages
+
+// The blobs behind message 6 with minimum 3, which has reached one of two pending proposals.
+const DUE: [&str; 4] = [
+    r#"{"minimumSequenceNumber":3,"sequenceNumber":6}"#,
+    "[]",
+    r#"[{"key":"code","sequenceNumber":3,"value":"v2"},{"key":"mode","sequenceNumber":5,"value":1}]"#,
+    "[]",
+];
+
+// Messages 7, 8 and 9 have the present minimum, and 10 has the new one.
+const APART: &[Step] = &[
+    Step::Advance(10, 5),
+    Step::Value("code", Some((3, 7))),
+    Step::Value("mode", Some((5, 10))),
+    Step::Pending(0),
+    Step::Last(10, 5),
+    // a number that isn't above it, and a minimum that falls
+    Step::Advance(10, 9),
+    Step::Last(10, 5),
+    Step::Advance(12, 4),
+    Step::Last(10, 5),
+    Step::Advance(11, 5),
+    Step::Last(11, 5),
+];
+
+// The next message is the last too.
+const AT_ONCE: &[Step] = &[
+    Step::Advance(7, 5),
+    Step::Value("code", Some((3, 7))),
+    Step::Value("mode", Some((5, 7))),
+    Step::Last(7, 5),
+];
+
+// The minimum doesn't reach the second proposal.
+const ONE_OF_TWO: &[Step] = &[
+    Step::Advance(9, 4),
+    Step::Value("code", Some((3, 7))),
+    Step::Value("mode", None),
+    Step::Pending(1),
+    Step::Last(9, 4),
+];
+
+fn assert_advanced(rt: &impl Abort, alloc: Global, tree: &Node, steps: &[Step]) {
+    let mut quorum = Quorum::from_blobs(alloc, tree).ok().expect(rt, "a quorum");
+    assert_steps(rt, alloc, &mut quorum, steps);
+    drop(quorum);
+}
+
+#[test]
+fn noops_bring_a_quorum_to_a_number(rt: HostRuntime) {
+    let alloc = rt.alloc();
+    let tree = Node::tree(tree_without(&rt, alloc, &DUE, 4));
+    assert_advanced(&rt, alloc, &tree, APART);
+    assert_advanced(&rt, alloc, &tree, AT_ONCE);
+    assert_advanced(&rt, alloc, &tree, ONE_OF_TWO);
+    drop(tree);
 }
