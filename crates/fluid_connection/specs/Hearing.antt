@@ -1,0 +1,1 @@
+-- What comes of the acts of a text.
