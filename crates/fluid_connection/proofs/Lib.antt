@@ -1,3 +1,9 @@
+pub mod Passes
+pub mod Passings
+pub mod Stretches
+pub mod Collections
+pub mod Leavings
+pub mod Standing
 pub mod Submitting
 pub mod Running
 pub mod Texts

@@ -124,7 +124,7 @@ fn lost(said: Result<(), NoMemory>) -> Option<TalkFault>
 }
 
 // How an entry ended.
-fn ended(answer: Result<Verdict, LaneFault>) -> Result<ActEnd, TalkFault>
+pub(crate) fn ended(answer: Result<Verdict, LaneFault>) -> Result<ActEnd, TalkFault>
     ensures { result ≡ ended answer }
 {
     match answer {

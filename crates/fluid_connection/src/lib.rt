@@ -3,14 +3,16 @@
 //! A text is read, and its acts are made, before the turn of its document is taken; the turn is taken once for each entry, and what is
 //! said is printed outside of it.
 //!
-//! - `talk`: `Talk`, a connection. `hearing`: what comes of a text. `connecting`: how a document is reached. `entering`: the entries of
+//! - `talk`: `Talk`, a connection. `collecting`: what it delivers. `leaving`: how it leaves. `hearing`: what comes of a text. `connecting`: how a document is reached. `entering`: the entries of
 //!   a text, one after another. `asking`: what else a text asks for. `telling`: what is said to it.
 #![tactic(auto)]
 
 mod asking;
+mod collecting;
 mod connecting;
 mod entering;
 mod hearing;
+mod leaving;
 mod talk;
 mod telling;
 
