@@ -1,3 +1,7 @@
-pub mod Submitting
-pub mod Running
-pub mod Texts
+mod Passes
+mod Submitting
+mod Joining
+mod Lookings
+mod Running
+mod Texts
+mod Choosing

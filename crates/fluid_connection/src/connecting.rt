@@ -3,7 +3,7 @@ use crate::asking::look;
 use crate::entering::refused;
 use crate::hearing::is_connected;
 use crate::talk::Talk;
-use crate::telling::{Told, said_one};
+use crate::telling::{Told, say_one};
 use fluid_ends::TalkFault;
 use fluid_json::{Json, NoMemory};
 use fluid_lane::LaneFault;
@@ -84,7 +84,7 @@ where
             Ok(end) => {
                 let replies = self.voice.take_connect(alloc, name, write, end);
                 self.let_go();
-                said_one(alloc, replies)
+                say_one(alloc, replies)
             }
             Err(fault) => (Told::new(alloc), Some(fault)),
         }
@@ -105,7 +105,7 @@ where
                 let replies = self
                     .voice
                     .take_connect(alloc, name, write, ActEnd::Given(reply));
-                said_one(alloc, replies)
+                say_one(alloc, replies)
             }
             Err(_) => (Told::new(alloc), Some(TalkFault::NoMemory)),
         }

@@ -11,7 +11,7 @@ use crate::asking::do_one;
 use crate::connecting::Connect;
 use crate::entering::enter_all;
 use crate::talk::Talk;
-use crate::telling::{Told, said_one};
+use crate::telling::{Told, say_one};
 use fluid_ends::TalkFault;
 use fluid_log::{Keeper, Shelves};
 use fluid_service::{Service, Visit};
@@ -81,7 +81,7 @@ where
         match only(acts) {
             Act::Say(reply) => {
                 let replies = self.voice.take(alloc, Act::Say(reply), ActEnd::Said);
-                said_one(alloc, replies)
+                say_one(alloc, replies)
             }
             Act::Connect {
                 name,

@@ -1,0 +1,7 @@
+//! What holds of what is heard, said by functions that do nothing.
+ghost use Rattle.fluid_connection.specs.Hearing.{ConnectedAsk};
+
+/// A text of one that is connected asks for one thing alone, or for submissions.
+pub fn connected_ones_ask()
+    ensures { ConnectedAsk }
+{}
