@@ -140,13 +140,13 @@ module _ (name : List ℕ) (p q : APass) (scopes : Scopes) (detail : Tree) (mome
 
   pub joins : (answer : Result (List ℕ × Message) LaneFault) → Grown answer → Does answer
   joins (Ok (id, message)) grows = join_given id message grows
-  joins (Err (lane.LogFailed note)) grows = record { goes = fault_goes (lane.LogFailed note) grows; cause = λ before now. (refl, tt) }
+  joins (Err (lane.LogFailed note)) grows = record { goes = fault_goes (lane.LogFailed note) grows; cause = λ before now. (refl, named _ (λ same. cc) grows) }
   joins (Err (lane.Full n)) grows = full_given n grows
   joins (Err (lane.BadRecord place)) grows = absurd (named (lane.BadRecord place) (λ same. cc) grows)
   joins (Err (lane.NoCheckpoint asked stored)) grows = absurd (named (lane.NoCheckpoint asked stored) (λ same. cc) grows)
   joins (Err lane.CheckpointsFull) grows = absurd (named lane.CheckpointsFull (λ same. cc) grows)
   joins (Err lane.TooManyClients) grows = many_given grows
-  joins (Err (lane.DeltaFailed note)) grows = record { goes = fault_goes (lane.DeltaFailed note) grows; cause = λ before now. (refl, tt) }
+  joins (Err (lane.DeltaFailed note)) grows = record { goes = fault_goes (lane.DeltaFailed note) grows; cause = λ before now. (refl, named _ (λ same. cc) grows) }
   joins (Err lane.NoMemory) grows = record { goes = fault_goes lane.NoMemory grows; cause = λ before now. tt }
   joins (Err (lane.BadCheckpoint number bad)) grows = absurd (named (lane.BadCheckpoint number bad) (λ same. cc) grows)
   joins (Err (lane.TooLarge bytes)) grows = absurd (named (lane.TooLarge bytes) (λ same. cc) grows)

@@ -5,3 +5,4 @@ mod Lookings
 mod Running
 mod Texts
 mod Choosing
+mod Questions

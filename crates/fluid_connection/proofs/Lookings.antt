@@ -1,13 +1,15 @@
 -- What asking a document for an act that enters nothing does, as a connection knows it.
 use Rattle.std.proofs.Common.{◌≡◌, ◌∙◌, ℕ, Bool, true, false, List, [], Result, Ok, Err, IfErr, refl, sym, ap}
 use Rattle.fluid_turn.specs.Entries.{entries}
+use Rattle.fluid_io.specs.Causes.{Rose}
+use Rattle.fluid_io.specs.declared.faults.FaultNote.{FaultNote}
 use Rattle.fluid_store.specs.Storing.{Storing}
 use Rattle.fluid_store.specs.Held.{Held}
 use Rattle.fluid_deltas.specs.declared.fault.DeltaFault.{DeltaFault}
 use Rattle.fluid_deltas.specs.declared.fault.DeltaFault.TheVariants as delta
 use Rattle.fluid_lane.specs.Steps.{range_steps}
 use Rattle.fluid_doors.specs.Passing.{APass, Grows}
-use Rattle.fluid_doors.specs.Looking.{IsLook, IsLookFault, Looks}
+use Rattle.fluid_doors.specs.Looking.{IsLook, IsLookFault, SuitsLook, Looks}
 use Rattle.fluid_voice.specs.declared.actions.Act.{Act}
 use Rattle.fluid_voice.specs.declared.actions.Act.TheVariants as act
 use Rattle.fluid_voice.specs.declared.ends.ActEnd.{ActEnd}
@@ -78,6 +80,32 @@ ranges (act.Enter raw) fault caused = absurd caused
 ranges (act.GetObject id) fault caused = absurd caused
 ranges (act.PutObject bytes) fault caused = absurd caused
 
+rose : (a : Act) (note : FaultNote) → IsLookFault a (delta.DeltaFailed note) → Rose note.before note.after
+rose (act.Deltas from to) note (last, (first, (end, (asked, risen)))) = risen
+rose (act.Summary asked) note caused = absurd caused
+rose (act.Connect name write scopes detail moment) note caused = absurd caused
+rose (act.Say reply) note caused = absurd caused
+rose (act.Enter raw) note caused = absurd caused
+rose (act.GetObject id) note caused = absurd caused
+rose (act.PutObject bytes) note caused = absurd caused
+
+-- an end of a look is one that the act may have
+suits_look : (a : Act) (end : ActEnd) → IsLook a → SuitsLook a end → Suits a end
+suits_look (act.Deltas from to) end look suits = suits
+suits_look (act.Summary asked) end look suits = suits
+suits_look (act.Connect name true scopes detail moment) end look suits = never look
+suits_look (act.Connect name false scopes detail moment) (Told last) look suits = tt
+suits_look (act.Connect name false scopes detail moment) Said look suits = absurd suits
+suits_look (act.Connect name false scopes detail moment) (Joined id number) look suits = absurd suits
+suits_look (act.Connect name false scopes detail moment) (Entered v) look suits = absurd suits
+suits_look (act.Connect name false scopes detail moment) FullNow look suits = absurd suits
+suits_look (act.Connect name false scopes detail moment) TooMany look suits = absurd suits
+suits_look (act.Connect name false scopes detail moment) (Given reply) look suits = absurd suits
+suits_look (act.Say reply) end look suits = absurd look
+suits_look (act.Enter raw) end look suits = absurd look
+suits_look (act.GetObject id) end look suits = absurd look
+suits_look (act.PutObject bytes) end look suits = absurd look
+
 untold : (b : Bool) → (b ≡ true → ⊥) → b ≡ false
 untold true not_so = absurd (not_so refl)
 untold false not_so = refl
@@ -93,11 +121,11 @@ module _ (name : List ℕ) (p q : APass) (a : Act) (look : IsLook a) where
     begins = grows.begins;
     seen = grows.seen;
     goes = goes_with name p q _ _ grows;
-    is_done = record { suits = grows.says.suits; adds = adds_none a end look grows.says.suits };
+    is_done = record { suits = suits_look a end look grows.says.suits; adds = adds_none a end look (suits_look a end look grows.says.suits) };
     answered = λ store held told. (grows.says.told (told_of a p.turn.fixed.told store held look told)).read held;
-    limit = no_limit a end (knowing name q) look grows.says.suits;
+    limit = no_limit a end (knowing name q) look (suits_look a end look grows.says.suits);
   }
-  looks (Err (delta.DeltaFailed note)) grows = record { goes = goes_with name p q _ _ grows; cause = λ before now. (ranges a _ grows.says.faults, tt) }
+  looks (Err (delta.DeltaFailed note)) grows = record { goes = goes_with name p q _ _ grows; cause = λ before now. (ranges a _ grows.says.faults, rose a note grows.says.faults) }
   looks (Err (delta.BadDelta number)) grows = record {
     goes = goes_with name p q _ _ grows;
     cause = λ before now. (

@@ -21,7 +21,7 @@ use Rattle.fluid_ends.specs.declared.fault.TalkFault.{TalkFault}
 use Rattle.fluid_ends.specs.declared.fault.TalkFault.TheVariants.{Door, Lane, Delta, Store, NoMemory}
 use Rattle.fluid_ends.specs.Asking.{found_in}
 use Rattle.fluid_talk.specs.Talking.{Knowing, Goes, ledger_of}
-use Rattle.fluid_talk.specs.Doing.{FullBehind, Did, ends_in, ended, steps_in, may_steps, seen_behind, IsTold, AreFound, AreAnswered}
+use Rattle.fluid_talk.specs.Doing.{Did, ends_in, ended, steps_in, may_steps, seen_behind, IsTold, AreFound, AreAnswered}
 use Rattle.fluid_talk.specs.Causes.{IsCauseAt}
 use Rattle.fluid_talk.specs.Hearing.{AreReplies}
 use Rattle.fluid_connection.specs.Entering.{did_of, DoesOne, FailsOne}

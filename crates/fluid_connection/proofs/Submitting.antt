@@ -123,13 +123,13 @@ module _ (name : List ℕ) (p q : APass) (raw : Raw) where
 
   pub entered : (answer : Result Verdict LaneFault) → Grown answer → Does answer
   entered (Ok v) grows = verdict_given v grows
-  entered (Err (lane.LogFailed note)) grows = record { goes = fault_goes (lane.LogFailed note) grows; cause = λ before now. (refl, tt) }
+  entered (Err (lane.LogFailed note)) grows = record { goes = fault_goes (lane.LogFailed note) grows; cause = λ before now. (refl, named _ (λ same. cc) grows) }
   entered (Err (lane.Full n)) grows = full_given n grows
   entered (Err (lane.BadRecord place)) grows = absurd (named (lane.BadRecord place) (λ same. cc) grows)
   entered (Err (lane.NoCheckpoint asked stored)) grows = absurd (named (lane.NoCheckpoint asked stored) (λ same. cc) grows)
   entered (Err lane.CheckpointsFull) grows = absurd (named lane.CheckpointsFull (λ same. cc) grows)
   entered (Err lane.TooManyClients) grows = absurd (named lane.TooManyClients (λ same. cc) grows)
-  entered (Err (lane.DeltaFailed note)) grows = record { goes = fault_goes (lane.DeltaFailed note) grows; cause = λ before now. (refl, tt) }
+  entered (Err (lane.DeltaFailed note)) grows = record { goes = fault_goes (lane.DeltaFailed note) grows; cause = λ before now. (refl, named _ (λ same. cc) grows) }
   entered (Err lane.NoMemory) grows = record { goes = fault_goes lane.NoMemory grows; cause = λ before now. tt }
   entered (Err (lane.BadCheckpoint number bad)) grows = absurd (named (lane.BadCheckpoint number bad) (λ same. cc) grows)
   entered (Err (lane.TooLarge bytes)) grows = absurd (named (lane.TooLarge bytes) (λ same. cc) grows)

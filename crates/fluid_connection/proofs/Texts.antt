@@ -14,13 +14,12 @@ use Rattle.fluid_voice.specs.declared.actions.Act.TheVariants as act
 use Rattle.fluid_voice.specs.declared.ends.ActEnd.{ActEnd}
 use Rattle.fluid_voice.specs.declared.ends.ActEnd.TheVariants.{Said, Joined, Told, Entered, FullNow, TooMany, Given}
 use Rattle.fluid_voice.specs.States.{document_name}
-use Rattle.fluid_voice.specs.Replies.{entry_replies, entered_verdict, state_after}
+use Rattle.fluid_voice.specs.Replies.{entry_replies, entered_verdict, state_after, one_where, count_of}
 use Rattle.fluid_voice.specs.Ends.{outcome}
 use Rattle.fluid_voice.specs.Ends.Outcome.{ends}
 use Rattle.fluid_ends.specs.declared.fault.TalkFault.{TalkFault}
 use Rattle.fluid_talk.specs.Talking.{Knowing, ledger_of}
 use Rattle.fluid_talk.specs.Doing.{Did, ended}
-use Rattle.fluid_talk.specs.Counting.{one_where, count_of}
 use Rattle.fluid_connection.specs.declared.telling.Counts.{Counts}
 use Rattle.fluid_connection.specs.declared.telling.Told.{Told as ATold}
 use Rattle.fluid_connection.specs.Entering.{IsFullAt, LimitBy, did_of, DoesOne, FailsOne}

@@ -15,7 +15,8 @@ use Rattle.fluid_ends.specs.declared.fault.TalkFault.{TalkFault}
 use Rattle.fluid_ends.specs.declared.fault.TalkFault.TheVariants as fault
 use Rattle.fluid_json.specs.declared.memory.NoMemory.{NoMemory}
 use Rattle.fluid_talk.specs.Talking.{Knowing, Goes}
-use Rattle.fluid_talk.specs.Doing.{FullBehind, Did, acts_in, ends_in, ended, steps_in, may_steps, AreDone, AreFound, AreAnswered}
+use Rattle.fluid_voice.specs.Laws.{FullBehind}
+use Rattle.fluid_talk.specs.Doing.{Did, acts_in, ends_in, ended, steps_in, may_steps, AreDone, AreFound, AreAnswered}
 use Rattle.fluid_talk.specs.Causes.{IsCauseAt}
 use Rattle.fluid_talk.specs.Hearing.{AreReplies}
 use Rattle.fluid_connection.specs.declared.telling.Told.{Told}

@@ -2,18 +2,16 @@
 use Rattle.std.specs.Prelude.{◌≡◌, ◌<◌, ◌≤◌, ℕ, true, false, List, [], length, Option, Some, None, refl}
 use Rattle.std.specs.Coded.{Coded, code_by, coded×, coded_ℕ, coded_list, coded_option}
 use Rattle.fluid_turn.specs.declared.view.Numbered.{Numbered}
-use Rattle.fluid_turn.specs.Seats.{Turning}
 use Rattle.fluid_document.specs.Entries.{most}
-use Rattle.fluid_service.specs.declared.steps.ShelfStep.{ShelfStep}
-use Rattle.fluid_service.specs.declared.steps.ShelfTerms.{ShelfTerms}
-use Rattle.fluid_service.specs.contracts.steps.ShelfStep as shelf_steps
+use Rattle.fluid_opening.specs.declared.shelf.ShelfStep.{ShelfStep}
+use Rattle.fluid_opening.specs.contracts.shelf.ShelfStep as shelf_steps
 use Rattle.fluid_service.specs.Visiting.{Visiting}
 use Rattle.fluid_service.specs.Keys.{Serving, AKey}
 use Rattle.fluid_service.specs.Codes.{numbered_code, serving_code, visiting_code}
 use Rattle.fluid_voice.specs.declared.states.VoiceState.{VoiceState}
 use Rattle.fluid_voice.specs.contracts.states.VoiceState as states
 use Rattle.fluid_voice.specs.States.{document_name, is_connected, next_number}
-use Rattle.fluid_talk.specs.Talking.{Knowing, Keyed, Talking, number_behind_last}
+use Rattle.fluid_talk.specs.Talking.{Knowing, Talking, number_behind_last}
 use Rattle.fluid_connection.specs.Knowing.{no_pass, knowing, keyed}
 
 -- where it stands, its key, the visit of the last document that it reached, and the visit that was handed to it
@@ -42,6 +40,12 @@ pub record IsTalk (t : Talked) : Type 0 where
   pub first : is_connected t.voice ≡ true → 0 < next_number t.voice
   pub next : is_connected t.voice ≡ true → (pass_of t.visit).told ≡ true → next_number t.voice ≤ number_behind_last (pass_of t.visit).seen
   pub few : is_connected t.voice ≡ true → length (pass_of t.visit).seen ≤ most
+
+-- only its visit is another one, or knows more
+pub record StaysBut (old new : Talked) : Type 0 where
+  pub voice : new.voice ≡ old.voice
+  pub key : new.key ≡ old.key
+  pub handed : new.handed ≡ old.handed
 
 -- ---- as a tuple of its parts, for the proofs that tell values apart
 

@@ -5,8 +5,8 @@ use Rattle.fluid_codec.specs.declared.replies.Reply.{Reply}
 use Rattle.fluid_voice.specs.declared.actions.Act.{Act}
 use Rattle.fluid_voice.specs.declared.ends.ActEnd.{ActEnd}
 use Rattle.fluid_voice.specs.declared.ends.ActEnd.TheVariants.{FullNow}
-use Rattle.fluid_voice.specs.Replies.{entered_verdict}
-use Rattle.fluid_talk.specs.Counting.{is_sequenced, is_dropped, is_nacked, is_absorbed, one_where, count_of}
+use Rattle.fluid_voice.specs.Replies.{entered_verdict, is_sequenced, is_dropped, is_nacked, one_where, count_of}
+use Rattle.fluid_talk.specs.Counting.{is_absorbed}
 use Rattle.fluid_json.specs.declared.memory.NoMemory.{NoMemory}
 use Rattle.fluid_ends.specs.declared.fault.TalkFault.{TalkFault}
 use Rattle.fluid_ends.specs.declared.fault.TalkFault.TheVariants as talk

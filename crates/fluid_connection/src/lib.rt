@@ -4,13 +4,14 @@
 //! said is printed outside of it.
 //!
 //! - `talk`: `Talk`, a connection. `hearing`: what comes of a text. `connecting`: how a document is reached. `entering`: the entries of
-//!   a text, one after another. `asking`: what else a text asks for. `telling`: what is said to it.
+//!   a text, one after another. `asking`: what else a text asks for. `telling`: what is said to it. `laws`: what holds of what is heard.
 #![tactic(auto)]
 
 mod asking;
 mod connecting;
 mod entering;
 mod hearing;
+pub mod laws;
 mod talk;
 mod telling;
 
