@@ -6,3 +6,5 @@ mod Running
 mod Texts
 mod Choosing
 mod Questions
+mod Hears
+mod Reached

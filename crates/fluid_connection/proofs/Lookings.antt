@@ -1,5 +1,5 @@
 -- What asking a document for an act that enters nothing does, as a connection knows it.
-use Rattle.std.proofs.Common.{◌≡◌, ◌∙◌, ℕ, Bool, true, false, List, [], Result, Ok, Err, IfErr, refl, sym, ap}
+use Rattle.std.proofs.Common.{◌≡◌, ◌∙◌, ℕ, Bool, true, false, List, [], Result, Ok, Err, IfOk, IfErr, refl, sym, ap}
 use Rattle.fluid_turn.specs.Entries.{entries}
 use Rattle.fluid_io.specs.Causes.{Rose}
 use Rattle.fluid_io.specs.declared.faults.FaultNote.{FaultNote}
@@ -7,7 +7,9 @@ use Rattle.fluid_store.specs.Storing.{Storing}
 use Rattle.fluid_store.specs.Held.{Held}
 use Rattle.fluid_deltas.specs.declared.fault.DeltaFault.{DeltaFault}
 use Rattle.fluid_deltas.specs.declared.fault.DeltaFault.TheVariants as delta
+use Rattle.fluid_lane.specs.declared.steps.Step.{Step}
 use Rattle.fluid_lane.specs.Steps.{range_steps}
+use Rattle.fluid_doors.specs.declared.bench.Terms.{Terms}
 use Rattle.fluid_doors.specs.Passing.{APass, Grows}
 use Rattle.fluid_doors.specs.Looking.{IsLook, IsLookFault, SuitsLook, Looks}
 use Rattle.fluid_voice.specs.declared.actions.Act.{Act}
@@ -109,6 +111,10 @@ suits_look (act.PutObject bytes) end look suits = absurd look
 untold : (b : Bool) → (b ≡ true → ⊥) → b ≡ false
 untold true not_so = absurd (not_so refl)
 untold false not_so = refl
+
+pub suits_of : {t : Terms} {l : List Step} (a : Act) (answer : Result ActEnd DeltaFault) → Looks t a answer l → IfOk answer (SuitsLook a)
+suits_of a (Ok end) says = says.suits
+suits_of a (Err fault) says = tt
 
 module _ (name : List ℕ) (p q : APass) (a : Act) (look : IsLook a) where
   abbrev Grown : Result ActEnd DeltaFault → Type 0

@@ -58,7 +58,7 @@ told_by : (limits now : Limits) (told was : Bool) (store : Storing) (d : Did) �
 told_by limits now told was store d same alike h = λ held is.
     subst (λ l. outcome (found_in l (ledger_of d.found) held) d.act ≡ ends d.end) same (h held (subst (λ t. IsTold d.act t store held) (sym alike) is))
 
-answered_same : (p m : Knowing) (store : Storing) (done : List Did) → m.limits ≡ p.limits → m.told ≡ p.told → AreAnswered m store done → AreAnswered p store done
+pub answered_same : (p m : Knowing) (store : Storing) (done : List Did) → m.limits ≡ p.limits → m.told ≡ p.told → AreAnswered m store done → AreAnswered p store done
 answered_same p m store [] limits told h = tt
 answered_same p m store (d ∷ done) limits told h =
     (told_by m.limits p.limits m.told p.told store d limits told h.0, answered_same p m store done limits told h.1)

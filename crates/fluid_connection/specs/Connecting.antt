@@ -1,5 +1,5 @@
 -- How a document is reached.
-use Rattle.std.specs.Prelude.{◌≡◌, ◌⊎◌, ◌<◌, ◌≤◌, ⊤, ℕ, Bool, true, false, List, [], ◌∷◌, length, if◌then◌else◌, Option, Some, None, Result, Ok, Err, IfOk}
+use Rattle.std.specs.Prelude.{◌≡◌, ◌⊎◌, ◌<◌, ◌≤◌, ⊤, ℕ, Bool, true, false, List, [], ◌∷◌, length, if◌then◌else◌, Option, Some, None, Result, Ok, Err, IfOk, IfErr}
 use Rattle.fluid_turn.specs.Entries.{IsPrefix}
 use Rattle.fluid_json.specs.declared.memory.NoMemory.{NoMemory as Refused}
 use Rattle.fluid_types.specs.Fits.{Fits}
@@ -23,6 +23,7 @@ use Rattle.fluid_voice.specs.Replies.{connect_replies, connect_state}
 use Rattle.fluid_ends.specs.declared.fault.TalkFault.{TalkFault}
 use Rattle.fluid_ends.specs.declared.fault.TalkFault.TheVariants as talk
 use Rattle.fluid_talk.specs.Talking.{Knowing, number_behind_last}
+use Rattle.fluid_talk.specs.Hearing.{IsConnectEnd, IsFaultOf}
 use Rattle.fluid_talk.specs.Shelves.{KeepsKey, OpensFor, IsRefusedDoor}
 use Rattle.fluid_connection.specs.declared.connecting.Connect.{Connect}
 use Rattle.fluid_connection.specs.declared.telling.Told.{Told}
@@ -74,6 +75,8 @@ pub record Greets (connect : Connect) (visit now : Visiting) (answer : Result Ac
   pub door : now.door ≡ visit.door
   pub few : length now.pass.seen ≤ most
   pub does : DoesAs (knowing visit.door.name visit.pass) (knowing now.door.name now.pass) (act_of connect) answer
+  pub ends : IfOk answer (IsConnectEnd (Some visit.door.name) (act_of connect))
+  pub faults : IfErr answer (λ fault. IsFaultOf (Some visit.door.name) (Some fault))
 
 -- the number of the message that is delivered next isn't 0, and not above the one behind the last message
 abbrev pub IsAheadIn : Bool → Knowing → ActEnd → Type 0

@@ -1,7 +1,9 @@
 // What a text asks for beside entries: one act alone.
-ghost use Rattle.std.specs.Prelude.{◌≡◌, ◌≤◌, ◌∷◌, [], length};
+ghost use Rattle.std.specs.Prelude.{◌≡◌, ◌≤◌, ◌∷◌, [], length, Result, IfOk};
+ghost use Rattle.fluid_deltas.specs.declared.fault.DeltaFault.{DeltaFault as ADeltaFault};
 ghost use Rattle.fluid_document.specs.Entries.{most};
-ghost use Rattle.fluid_doors.specs.Looking.{IsLook};
+ghost use Rattle.fluid_doors.specs.Looking.{IsLook, SuitsLook};
+ghost use Rattle.fluid_voice.specs.declared.ends.ActEnd.{ActEnd as AnEnd};
 ghost use Rattle.fluid_connection.specs.Knowing.{knowing};
 ghost use Rattle.fluid_connection.specs.Entering.{DoesAs, looked};
 ghost use Rattle.fluid_connection.specs.Hearing.{IsQuestion, AsksAs, HearsActs};
@@ -82,6 +84,7 @@ pub(crate) fn look<R: Wait, K: Keeper>(
     requires act { IsLook act.now }
     ensures turn { result.0.turn ≡ door.now.turn }
     ensures few { length result.0.seen ≤ most }
+    ensures looked { (answer : Result AnEnd ADeltaFault) × ((result.1 ≡ looked answer) × IfOk answer (SuitsLook act.now)) }
     ensures does { DoesAs (knowing door.now.name pass) (knowing door.now.name result.0) act.now result.1 }
 {
     let (pass, answer) = door.look(rt, alloc, pass, act);
