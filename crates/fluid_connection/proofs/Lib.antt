@@ -8,3 +8,5 @@ mod Choosing
 mod Questions
 mod Hears
 mod Reached
+mod Keyrings
+mod Greetings

@@ -124,7 +124,7 @@ module _ (s : VoiceState) (old new : ATold) (p m : Knowing) (raw : Raw) (is : Is
     counts = counts ∙ counts_one old.counts (act.Enter raw) end;
   }
 
-  pub next_fails : (fault : TalkFault) → FailsOne p m (act.Enter raw) fault → new.replies.items ≡ old.replies.items → new.counts ≡ old.counts → NextDoes s old new p m (act.Enter raw) (Some fault)
+  pub next_fails : (fault : TalkFault) → FailsOne p m (act.Enter raw) fault → new.replies.items ≡ old.replies.items → new.counts ≡ old.counts → NextDoes s old new p m (act.Enter raw) (Err fault)
   next_fails fault fails replies counts = record {
     done = [];
     more = [];
