@@ -1,9 +1,17 @@
-pub mod Passes
-pub mod Passings
-pub mod Stretches
-pub mod Collections
-pub mod Leavings
-pub mod Standing
-pub mod Submitting
-pub mod Running
-pub mod Texts
+mod Passes
+mod Submitting
+mod Joining
+mod Lookings
+mod Running
+mod Texts
+mod Choosing
+mod Questions
+mod Hears
+mod Reached
+mod Keyrings
+mod Greetings
+mod Passings
+mod Stretches
+mod Collections
+mod Leavings
+mod Standing

@@ -21,16 +21,16 @@ use Rattle.fluid_ends.specs.declared.fault.TalkFault.{TalkFault}
 use Rattle.fluid_ends.specs.declared.fault.TalkFault.TheVariants.{Door, Lane, Delta, Store, NoMemory}
 use Rattle.fluid_ends.specs.Asking.{found_in}
 use Rattle.fluid_talk.specs.Talking.{Knowing, Goes, ledger_of}
-use Rattle.fluid_talk.specs.Doing.{FullBehind, Did, ends_in, ended, steps_in, may_steps, seen_behind, IsTold, AreFound, AreAnswered}
+use Rattle.fluid_talk.specs.Doing.{Did, ends_in, ended, steps_in, may_steps, seen_behind, IsTold, AreFound, AreAnswered}
 use Rattle.fluid_talk.specs.Causes.{IsCauseAt}
 use Rattle.fluid_talk.specs.Hearing.{AreReplies}
-use Rattle.fluid_connection.specs.Entering.{EntersOne, FailsOne}
+use Rattle.fluid_connection.specs.Entering.{did_of, DoesOne, FailsOne}
 use Rattle.fluid_connection.specs.Running.{FullFrom, EntersAll}
 use Rattle.fluid_connection.specs.Telling.{full_behind}
 
 -- ---- lists that go on
 
-prefix_then : {X : Type 0} (a b c : List X) → IsPrefix a b → IsPrefix b c → IsPrefix a c
+pub prefix_then : {X : Type 0} (a b c : List X) → IsPrefix a b → IsPrefix b c → IsPrefix a c
 prefix_then a b c one two = (one.0 ++ two.0, two.1 ∙ ap (λ xs. xs ++ two.0) one.1 ∙ append_assoc a one.0 two.0)
 
 prefix_behind : {X : Type 0} (xs a b : List X) → IsPrefix a b → IsPrefix (xs ++ a) (xs ++ b)
@@ -58,7 +58,7 @@ told_by : (limits now : Limits) (told was : Bool) (store : Storing) (d : Did) �
 told_by limits now told was store d same alike h = λ held is.
     subst (λ l. outcome (found_in l (ledger_of d.found) held) d.act ≡ ends d.end) same (h held (subst (λ t. IsTold d.act t store held) (sym alike) is))
 
-answered_same : (p m : Knowing) (store : Storing) (done : List Did) → m.limits ≡ p.limits → m.told ≡ p.told → AreAnswered m store done → AreAnswered p store done
+pub answered_same : (p m : Knowing) (store : Storing) (done : List Did) → m.limits ≡ p.limits → m.told ≡ p.told → AreAnswered m store done → AreAnswered p store done
 answered_same p m store [] limits told h = tt
 answered_same p m store (d ∷ done) limits told h =
     (told_by m.limits p.limits m.told p.told store d limits told h.0, answered_same p m store done limits told h.1)
@@ -85,7 +85,7 @@ replies_more (Some (Delta fault)) first all replies h = ap (λ rs. first ++ rs) 
 replies_more (Some (Store fault)) first all replies h = ap (λ rs. first ++ rs) h
 replies_more (Some NoMemory) first all replies h = prefix_behind first replies all h
 
-no_replies : (fault : TalkFault) → AreReplies (Some fault) [] []
+pub no_replies : (fault : TalkFault) → AreReplies (Some fault) [] []
 no_replies (Door fault) = refl
 no_replies (Lane fault) = refl
 no_replies (Delta fault) = refl
@@ -94,17 +94,14 @@ no_replies NoMemory = ([], refl)
 
 -- ---- one entry before others
 
-abbrev pub did_of : Raw → ActEnd → (found : List (Numbered Step)) → (added : List Step) → Did
-did_of raw end found added = record { act = act.Enter raw; end = end; found = found; added = added }
-
-module _ (s : VoiceState) (full : Bool) (p m q : Knowing) (raw : Raw) (end : ActEnd) (one : EntersOne p m raw end)
+module _ (s : VoiceState) (full : Bool) (p m q : Knowing) (raw : Raw) (end : ActEnd) (one : DoesOne p m (act.Enter raw) end)
     (was : full ≡ true → end ≡ FullNow) (stays : state_after s (act.Enter raw) end ≡ s) where
-  found_more : (fault : Option TalkFault) (done : List Did) → AreFound m.number fault m.seen q.seen done → AreFound p.number fault (seen_behind p.number (did_of raw end one.found one.added)) q.seen done
+  found_more : (fault : Option TalkFault) (done : List Did) → AreFound m.number fault m.seen q.seen done → AreFound p.number fault (seen_behind p.number (did_of (act.Enter raw) end one.found one.added)) q.seen done
   found_more fault done h =
       subst (λ seen. AreFound p.number fault seen q.seen done) one.seen (subst (λ n. AreFound n fault m.seen q.seen done) one.goes.same.number h)
 
   pub enters_more : (acts : List Act) (done : List Did) (replies : List Reply) (fault : Option TalkFault) → EntersAll s (full_behind full end) m q acts done replies fault
-      → EntersAll s full p q (act.Enter raw ∷ acts) (did_of raw end one.found one.added ∷ done) (entry_replies (document_name s) end ++ replies) fault
+      → EntersAll s full p q (act.Enter raw ∷ acts) (did_of (act.Enter raw) end one.found one.added ∷ done) (entry_replies (document_name s) end ++ replies) fault
   enters_more acts done replies fault h = record {
     rest = h.rest;
     asked = ap (λ xs. act.Enter raw ∷ xs) h.asked;
@@ -139,7 +136,7 @@ enters_none s full q = record {
 }
 
 -- an entry that fails is the first of the rest
-pub enters_fails : (s : VoiceState) (full : Bool) (p m : Knowing) (raw : Raw) (fault : TalkFault) → FailsOne p m raw fault → (acts : List Act)
+pub enters_fails : (s : VoiceState) (full : Bool) (p m : Knowing) (raw : Raw) (fault : TalkFault) → FailsOne p m (act.Enter raw) fault → (acts : List Act)
     → EntersAll s full p m (act.Enter raw ∷ acts) [] [] (Some fault)
 enters_fails s full p m raw fault fails acts = record {
   rest = act.Enter raw ∷ acts;
@@ -157,14 +154,14 @@ enters_fails s full p m raw fault fails acts = record {
     some_none : ◌≡◌ {A = Option TalkFault} (Some fault) None → ⊥
     some_none same = cc
 
-memory_cause : (q : Knowing) (before now : Storing) (acts : List Act) → IsCauseAt q before now acts NoMemory
+pub memory_cause : (q : Knowing) (before now : Storing) (acts : List Act) → IsCauseAt q before now acts NoMemory
 memory_cause q before now [] = tt
 memory_cause q before now (a ∷ acts) = tt
 
 -- what is said to an entry that was done found no memory
-pub enters_lost : (s : VoiceState) (full : Bool) (p m : Knowing) (raw : Raw) (end : ActEnd) (one : EntersOne p m raw end) → (full ≡ true → end ≡ FullNow)
+pub enters_lost : (s : VoiceState) (full : Bool) (p m : Knowing) (raw : Raw) (end : ActEnd) (one : DoesOne p m (act.Enter raw) end) → (full ≡ true → end ≡ FullNow)
     → (front : List Reply) → IsPrefix front (entry_replies (document_name s) end) → (acts : List Act)
-    → EntersAll s full p m (act.Enter raw ∷ acts) (did_of raw end one.found one.added ∷ []) front (Some NoMemory)
+    → EntersAll s full p m (act.Enter raw ∷ acts) (did_of (act.Enter raw) end one.found one.added ∷ []) front (Some NoMemory)
 enters_lost s full p m raw end one was front begins acts = record {
   rest = acts;
   asked = refl;
@@ -173,7 +170,7 @@ enters_lost s full p m raw end one was front begins acts = record {
   are_done = (one.is_done, tt);
   full_stays = full_more full end [] was (nothing_full (full_behind full end));
   goes = subst (λ added. Goes p m added) (sym (append-nil (one.added ++ []) ∙ append-nil one.added)) one.goes;
-  found = (one.begins, ([], one.seen ∙ sym (append-nil (seen_behind p.number (did_of raw end one.found one.added)))));
+  found = (one.begins, ([], one.seen ∙ sym (append-nil (seen_behind p.number (did_of (act.Enter raw) end one.found one.added)))));
   answered = λ store. (one.answered store, tt);
   told = subst (λ all. IsPrefix front all) (sym (append-nil (entry_replies (document_name s) end))) begins;
 }

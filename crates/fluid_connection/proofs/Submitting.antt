@@ -28,47 +28,19 @@ use Rattle.fluid_voice.specs.Ends.Outcome.{ends}
 use Rattle.fluid_ends.specs.Asking.{found_in}
 use Rattle.fluid_talk.specs.Talking.{Goes}
 use Rattle.fluid_connection.specs.Knowing.{knowing}
-use Rattle.fluid_connection.specs.Entering.{ended, EntersAs}
+use Rattle.fluid_connection.specs.Entering.{ended, DoesAs}
+use Rattle.fluid_connection.proofs.Passes.{goes_with, ok_open, fault_open, worn_seen}
 
 true_is : {A : Type 0} → true ≡ false → A
 true_is same = cc
 
-goes_with : (name : List ℕ) (p q : APass) (added : List Step) (says : List Step → Type 0) → Grows p q added says → Goes (knowing name p) (knowing name q) added
-goes_with name p q added says grows = record {
-  same = record { name = refl; limits = ap (λ t. t.fixed.limits) grows.turn; told = ap (λ t. t.fixed.told) grows.turn; number = grows.number };
-  seen = grows.more;
-  mine = grows.mine;
-}
-
 -- ---- answers
-
-ok_worn : {P : Type 0} (v : Verdict) → ◌≡◌ {A = Result Verdict LaneFault} (Ok v) (Err lane.Worn) → P
-ok_worn v same = cc
-
-fault_same : (a b : LaneFault) → ◌≡◌ {A = Result Verdict LaneFault} (Err a) (Err b) → a ≡ b
-fault_same a b same = cc
-
--- an answer that isn't worn comes where the list isn't as long as may be
-ok_open : (b : Bool) (v : Verdict) → WornBy b (Ok v) → b ≡ false
-ok_open true v worn = ok_worn v worn
-ok_open false v worn = refl
-
-fault_open : (b : Bool) (fault : LaneFault) → (fault ≡ lane.Worn → ⊥) → WornBy {A = Verdict} b (Err fault) → b ≡ false
-fault_open true fault other worn = absurd (other (fault_same fault lane.Worn worn))
-fault_open false fault other worn = refl
-
-worn_long : (b : Bool) → WornBy {A = Verdict} b (Err lane.Worn) → b ≡ true
-worn_long true worn = refl
-worn_long false worn = absurd worn
 
 swap : (a b : Bool) → (a && b) ≡ (b && a)
 swap true true = refl
 swap true false = refl
 swap false true = refl
 swap false false = refl
-
-as_long : (many long seen : ℕ) → nat_le many long ≡ true → seen ≡ long → seen ≤ many → seen ≡ many
-as_long many long seen worn same few = grind (arith, nat_tests)
 
 module _ (t : Terms) (raw : Raw) (l : List Step) (held : Held) where
   abbrev full : Bool
@@ -97,7 +69,7 @@ module _ (name : List ℕ) (p q : APass) (raw : Raw) where
   Grown answer = Grows p q (steps_of (entered_by raw) answer) (Submits p.turn.fixed raw answer)
 
   abbrev Does : Result Verdict LaneFault → Type 0
-  Does answer = EntersAs (knowing name p) (knowing name q) raw (ended answer)
+  Does answer = DoesAs (knowing name p) (knowing name q) (act.Enter raw) (ended answer)
 
   verdict_given : (v : Verdict) → Grown (Ok v) → Does (Ok v)
   verdict_given v grows =
@@ -120,7 +92,7 @@ module _ (name : List ℕ) (p q : APass) (raw : Raw) where
   full_given : (n : ℕ) → Grown (Err (lane.Full n)) → Does (Err (lane.Full n))
   full_given n grows =
       let goes = goes_with name p q [] (Submits p.turn.fixed raw (Err (lane.Full n))) grows in
-      let open_ = fault_open (is_worn_behind (entries grows.before)) (lane.Full n) (λ same. cc) grows.says.worn in
+      let open_ = fault_open {A = Verdict} (is_worn_behind (entries grows.before)) (lane.Full n) (λ same. cc) grows.says.worn in
       let refused = λ (told : p.turn.fixed.told ≡ true). full_refuses p.turn.fixed raw (entries grows.before) empty (asides (entries grows.before)) (is_full_by p.turn.fixed (entries grows.before) raw).0 n ((grows.says.told told).ruled open_) in
       record {
         found = grows.before;
@@ -138,7 +110,7 @@ module _ (name : List ℕ) (p q : APass) (raw : Raw) where
 
   -- no other fault comes where the document isn't worn
   named : (fault : LaneFault) → (fault ≡ lane.Worn → ⊥) → Grown (Err fault) → IsSubmitFault p.turn.fixed raw fault
-  named fault other grows = grows.says.named (fault_open (is_worn_behind (entries grows.before)) fault other grows.says.worn)
+  named fault other grows = grows.says.named (fault_open {A = Verdict} (is_worn_behind (entries grows.before)) fault other grows.says.worn)
 
   fault_goes : (fault : LaneFault) → Grown (Err fault) → Goes (knowing name p) (knowing name q) (fault_steps fault)
   fault_goes fault grows = goes_with name p q (fault_steps fault) (Submits p.turn.fixed raw (Err fault)) grows
@@ -146,22 +118,18 @@ module _ (name : List ℕ) (p q : APass) (raw : Raw) where
   worn_fails : Grown (Err lane.Worn) → Does (Err lane.Worn)
   worn_fails grows = record {
     goes = fault_goes lane.Worn grows;
-    cause = λ before now. (
-      refl,
-      as_long most (length (entries grows.before)) (length q.seen) (worn_long (is_worn_behind (entries grows.before)) grows.says.worn)
-          (ap length (grows.seen ∙ append-nil grows.before) ∙ sym (length-map grows.before (λ (x : Numbered Step). x.entry))) grows.few,
-    );
+    cause = λ before now. (refl, worn_seen {A = Verdict} p q _ grows grows.says.worn);
   }
 
   pub entered : (answer : Result Verdict LaneFault) → Grown answer → Does answer
   entered (Ok v) grows = verdict_given v grows
-  entered (Err (lane.LogFailed note)) grows = record { goes = fault_goes (lane.LogFailed note) grows; cause = λ before now. (refl, tt) }
+  entered (Err (lane.LogFailed note)) grows = record { goes = fault_goes (lane.LogFailed note) grows; cause = λ before now. (refl, named _ (λ same. cc) grows) }
   entered (Err (lane.Full n)) grows = full_given n grows
   entered (Err (lane.BadRecord place)) grows = absurd (named (lane.BadRecord place) (λ same. cc) grows)
   entered (Err (lane.NoCheckpoint asked stored)) grows = absurd (named (lane.NoCheckpoint asked stored) (λ same. cc) grows)
   entered (Err lane.CheckpointsFull) grows = absurd (named lane.CheckpointsFull (λ same. cc) grows)
   entered (Err lane.TooManyClients) grows = absurd (named lane.TooManyClients (λ same. cc) grows)
-  entered (Err (lane.DeltaFailed note)) grows = record { goes = fault_goes (lane.DeltaFailed note) grows; cause = λ before now. (refl, tt) }
+  entered (Err (lane.DeltaFailed note)) grows = record { goes = fault_goes (lane.DeltaFailed note) grows; cause = λ before now. (refl, named _ (λ same. cc) grows) }
   entered (Err lane.NoMemory) grows = record { goes = fault_goes lane.NoMemory grows; cause = λ before now. tt }
   entered (Err (lane.BadCheckpoint number bad)) grows = absurd (named (lane.BadCheckpoint number bad) (λ same. cc) grows)
   entered (Err (lane.TooLarge bytes)) grows = absurd (named (lane.TooLarge bytes) (λ same. cc) grows)

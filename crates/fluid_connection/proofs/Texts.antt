@@ -14,19 +14,18 @@ use Rattle.fluid_voice.specs.declared.actions.Act.TheVariants as act
 use Rattle.fluid_voice.specs.declared.ends.ActEnd.{ActEnd}
 use Rattle.fluid_voice.specs.declared.ends.ActEnd.TheVariants.{Said, Joined, Told, Entered, FullNow, TooMany, Given}
 use Rattle.fluid_voice.specs.States.{document_name}
-use Rattle.fluid_voice.specs.Replies.{entry_replies, entered_verdict, state_after}
+use Rattle.fluid_voice.specs.Replies.{entry_replies, entered_verdict, state_after, one_where, count_of}
 use Rattle.fluid_voice.specs.Ends.{outcome}
 use Rattle.fluid_voice.specs.Ends.Outcome.{ends}
 use Rattle.fluid_ends.specs.declared.fault.TalkFault.{TalkFault}
 use Rattle.fluid_talk.specs.Talking.{Knowing, ledger_of}
 use Rattle.fluid_talk.specs.Doing.{Did, ended}
-use Rattle.fluid_talk.specs.Counting.{one_where, count_of}
 use Rattle.fluid_connection.specs.declared.telling.Counts.{Counts}
 use Rattle.fluid_connection.specs.declared.telling.Told.{Told as ATold}
-use Rattle.fluid_connection.specs.Entering.{IsFullAt, LimitBy, EntersOne, FailsOne}
+use Rattle.fluid_connection.specs.Entering.{IsFullAt, LimitBy, did_of, DoesOne, FailsOne}
 use Rattle.fluid_connection.specs.Telling.{HasRoom, no_counts, with_end, with_ends, full_behind, is_full_end, TellsFront}
 use Rattle.fluid_connection.specs.Running.{EntersAll, EntersText, IsSubmit, IsSubmission, AreSubmissions, NextEntered, NextStops, NextDoes, lost}
-use Rattle.fluid_connection.proofs.Running.{goes_nowhere, did_of, enters_more, enters_none, enters_fails, enters_lost}
+use Rattle.fluid_connection.proofs.Running.{goes_nowhere, enters_more, enters_none, enters_fails, enters_lost}
 
 -- ---- submissions
 
@@ -47,7 +46,7 @@ both_true true b is_a is_b = is_b
 both_true false b is_a is_b = is_a
 
 -- a submission to a document that was found full isn't asked
-pub unasked : (p : Knowing) (raw : Raw) → IsFullAt p → is_counted raw ≡ true → EntersOne p p raw FullNow
+pub unasked : (p : Knowing) (raw : Raw) → IsFullAt p → is_counted raw ≡ true → DoesOne p p (act.Enter raw) FullNow
 unasked p raw full counts = record {
   found = p.seen;
   added = [];
@@ -106,11 +105,11 @@ counts_more c a end done = same_counts _ _ _ _ _ _ _ _ (omega arith) (omega arit
 -- ---- one of them
 
 module _ (s : VoiceState) (old new : ATold) (p m : Knowing) (raw : Raw) (is : IsSubmit raw) where
-  pub next_told : (end : ActEnd) (one : EntersOne p m raw end) → (old.full ≡ true → end ≡ FullNow) → new.counts ≡ with_end old.counts end → new.full ≡ full_behind old.full end
+  pub next_told : (end : ActEnd) (one : DoesOne p m (act.Enter raw) end) → (old.full ≡ true → end ≡ FullNow) → new.counts ≡ with_end old.counts end → new.full ≡ full_behind old.full end
       → (result : Result (Unit {0}) NoMemory) → IfOk result (λ _. new.replies.items ≡ old.replies.items ++ entry_replies (document_name s) end)
       → IfErr result (λ _. TellsFront (entry_replies (document_name s) end) old.replies.items new.replies.items) → NextDoes s old new p m (act.Enter raw) (lost result)
   next_told end one was counts full (Ok done) said front = record {
-    did = did_of raw end one.found one.added;
+    did = did_of (act.Enter raw) end one.found one.added;
     more = entry_replies (document_name s) end;
     leads = λ q acts done replies fault h. enters_more s old.full p m q raw end one was (submit_stays s raw end is) acts done replies fault (subst (λ b. EntersAll s b m q acts done replies fault) full h);
     said = said;
@@ -118,14 +117,14 @@ module _ (s : VoiceState) (old new : ATold) (p m : Knowing) (raw : Raw) (is : Is
     full = λ now_full. subst (λ e. LimitBy e m) (full_now old.full end was (sym full ∙ now_full)) one.limit;
   }
   next_told end one was counts full (Err refused) said front = record {
-    done = did_of raw end one.found one.added ∷ [];
+    done = did_of (act.Enter raw) end one.found one.added ∷ [];
     more = front.front;
     stops = enters_lost s old.full p m raw end one was front.front front.begins;
     said = front.said;
     counts = counts ∙ counts_one old.counts (act.Enter raw) end;
   }
 
-  pub next_fails : (fault : TalkFault) → FailsOne p m raw fault → new.replies.items ≡ old.replies.items → new.counts ≡ old.counts → NextDoes s old new p m (act.Enter raw) (Some fault)
+  pub next_fails : (fault : TalkFault) → FailsOne p m (act.Enter raw) fault → new.replies.items ≡ old.replies.items → new.counts ≡ old.counts → NextDoes s old new p m (act.Enter raw) (Err fault)
   next_fails fault fails replies counts = record {
     done = [];
     more = [];

@@ -6,3 +6,4 @@ pub mod Entering
 pub mod Telling
 pub mod Running
 pub mod Hearing
+pub mod Connecting

@@ -11,7 +11,7 @@ use Rattle.fluid_service.specs.Codes.{numbered_code, serving_code, visiting_code
 use Rattle.fluid_voice.specs.declared.states.VoiceState.{VoiceState}
 use Rattle.fluid_voice.specs.contracts.states.VoiceState as states
 use Rattle.fluid_voice.specs.States.{document_name, is_connected, next_number}
-use Rattle.fluid_talk.specs.Talking.{Knowing, Keyed, Talking, number_behind_last}
+use Rattle.fluid_talk.specs.Talking.{Knowing, Talking, number_behind_last}
 use Rattle.fluid_connection.specs.Knowing.{no_pass, knowing, keyed}
 
 -- where it stands, its key, the visit of the last document that it reached, and the visit that was handed to it
@@ -50,6 +50,12 @@ IsDelivered t = t.pass.told ≡ true → next_number t.voice ≡ number_behind_l
 
 abbrev pub IsSettled : Talked → Option ℕ → Type 0
 IsSettled t settled = IfSome settled (λ steps. IsDelivered (talking t))
+
+-- only its visit is another one, or knows more
+pub record StaysBut (old new : Talked) : Type 0 where
+  pub voice : new.voice ≡ old.voice
+  pub key : new.key ≡ old.key
+  pub handed : new.handed ≡ old.handed
 
 -- ---- as a tuple of its parts, for the proofs that tell values apart
 

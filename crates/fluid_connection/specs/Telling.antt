@@ -1,13 +1,17 @@
 -- What is said to entries, and how often each verdict was given.
-use Rattle.std.specs.Prelude.{◌≡◌, ◌<◌, ◌≤◌, ◌+◌, ◌^◌, ◌-◌, ℕ, Bool, true, false, List, ◌++◌}
+use Rattle.std.specs.Prelude.{◌≡◌, ◌<◌, ◌≤◌, ◌+◌, ◌^◌, ◌-◌, ℕ, Bool, true, false, List, [], ◌++◌, Option, None, Some, Result, Ok, Err}
 use Rattle.fluid_turn.specs.Entries.{IsPrefix}
 use Rattle.fluid_codec.specs.declared.replies.Reply.{Reply}
 use Rattle.fluid_voice.specs.declared.actions.Act.{Act}
 use Rattle.fluid_voice.specs.declared.ends.ActEnd.{ActEnd}
 use Rattle.fluid_voice.specs.declared.ends.ActEnd.TheVariants.{FullNow}
-use Rattle.fluid_voice.specs.Replies.{entered_verdict}
-use Rattle.fluid_talk.specs.Counting.{is_sequenced, is_dropped, is_nacked, is_absorbed, one_where, count_of}
+use Rattle.fluid_voice.specs.Replies.{entered_verdict, is_sequenced, is_dropped, is_nacked, one_where, count_of}
+use Rattle.fluid_talk.specs.Counting.{is_absorbed}
+use Rattle.fluid_json.specs.declared.memory.NoMemory.{NoMemory}
+use Rattle.fluid_ends.specs.declared.fault.TalkFault.{TalkFault}
+use Rattle.fluid_ends.specs.declared.fault.TalkFault.TheVariants as talk
 use Rattle.fluid_connection.specs.declared.telling.Counts.{Counts}
+use Rattle.fluid_connection.specs.declared.telling.Told.{Told}
 
 -- ---- counts
 
@@ -57,9 +61,7 @@ pub record TellsFront (all old new : List Reply) : Type 0 where
   pub begins : IsPrefix front all
   pub said : new ≡ old ++ front
 
--- none of them is above so many
-pub record AreWithin (c : Counts) (most : ℕ) : Type 0 where
-  pub sequenced : c.sequenced ≤ most
-  pub dropped : c.dropped ≤ most
-  pub nacked : c.nacked ≤ most
-  pub absorbed : c.absorbed ≤ most
+-- what was said to one act alone, of which nothing is counted: all of it, or nothing for want of memory
+abbrev pub SaysOne : Result (List Reply) NoMemory → Told → Option TalkFault → Type 0
+SaysOne (Ok replies) told fault = (told.replies.items ≡ replies) × ((told.counts ≡ no_counts) × (fault ≡ None))
+SaysOne (Err refused) told fault = (told.replies.items ≡ []) × ((told.counts ≡ no_counts) × (fault ≡ Some talk.NoMemory))

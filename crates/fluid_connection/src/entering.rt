@@ -1,10 +1,11 @@
 // The entries of a connection.
-ghost use Rattle.std.specs.Prelude.{◌≡◌, true};
+ghost use Rattle.std.specs.Prelude.{◌≡◌, ◌≤◌, true, length};
+ghost use Rattle.fluid_document.specs.Entries.{most};
 ghost use Rattle.fluid_types.specs.Fits.{Fits};
 ghost use Rattle.fluid_lane.specs.Standing.{IsLeaveOrSubmission};
 ghost use Rattle.fluid_ends.specs.Faults.{refused_by};
 ghost use Rattle.fluid_connection.specs.Knowing.{knowing};
-ghost use Rattle.fluid_connection.specs.Entering.{EntersAs, IsFullAt, ended};
+ghost use Rattle.fluid_connection.specs.Entering.{DoesAs, IsFullAt, ended};
 ghost use Rattle.fluid_connection.specs.Running.{IsSubmission, AreSubmissions, EntersText, NextDoes, lost};
 ghost use Rattle.fluid_connection.specs.Telling.{HasRoom};
 ghost use Rattle.fluid_voice.specs.declared.actions.Act.TheVariants as AnAct;
@@ -32,7 +33,8 @@ pub(crate) fn enter<R: Wait, K: Keeper>(
     requires fits { Fits raw }
     requires kind { IsLeaveOrSubmission raw }
     ensures turn { result.0.turn ≡ door.now.turn }
-    ensures does { EntersAs (knowing door.now.name pass) (knowing door.now.name result.0) raw result.1 }
+    ensures few { length result.0.seen ≤ most }
+    ensures does { DoesAs (knowing door.now.name pass) (knowing door.now.name result.0) (AnAct.Enter raw) result.1 }
 {
     let (pass, answer) = door.submit(rt, alloc, pass, raw);
     (pass, ended(answer))
@@ -51,16 +53,17 @@ pub(crate) fn enter_all<R: Wait, K: Keeper>(
     requires pass { pass.turn ≡ door.now.turn }
     requires acts { AreSubmissions acts.items }
     ensures turn { result.0.turn ≡ door.now.turn }
+    ensures few { length pass.seen ≤ most → length result.0.seen ≤ most }
     ensures does { EntersText voice.now (knowing door.now.name pass) (knowing door.now.name result.0) acts.items result.1 result.2 }
 {
     let mut pass = pass;
     let mut told = Told::new(alloc);
     for act in acts {
-        let (back, fault) = enter_next(rt, alloc, door, voice, pass, act, &mut told);
+        let (back, entered) = enter_next(rt, alloc, door, voice, pass, act, &mut told);
         pass = back;
-        match fault {
-            Some(fault) => return (pass, told, Some(fault)),
-            None => {}
+        match entered {
+            Ok(()) => {}
+            Err(fault) => return (pass, told, Some(fault)),
         }
     }
     (pass, told, None)
@@ -74,26 +77,27 @@ fn enter_next<R: Wait, K: Keeper>(
     pass: Pass<K>,
     act: Act,
     told: &mut Told,
-) -> (Pass<K>, Option<TalkFault>)
+) -> (Pass<K>, Result<(), TalkFault>)
     requires pass { pass.turn ≡ door.now.turn }
     requires act { IsSubmission act }
     requires full { told.old.full ≡ true → IsFullAt (knowing door.now.name pass) }
     requires room { HasRoom told.old.counts }
     ensures turn { result.0.turn ≡ door.now.turn }
+    ensures few { length pass.seen ≤ most → length result.0.seen ≤ most }
     ensures does { NextDoes voice.now told.old told.new (knowing door.now.name pass) (knowing door.now.name result.0) act result.1 }
 {
     let raw = entry_of(act);
     if told.full {
-        let fault = lost(told.say(alloc, voice, ActEnd::FullNow));
-        return (pass, fault);
+        let said = told.say(alloc, voice, ActEnd::FullNow);
+        return (pass, lost(said));
     }
     let (pass, answer) = enter(rt, alloc, door, pass, raw);
     match answer {
         Ok(end) => {
-            let fault = lost(told.say(alloc, voice, end));
-            (pass, fault)
+            let said = told.say(alloc, voice, end);
+            (pass, lost(said))
         }
-        Err(fault) => (pass, Some(fault)),
+        Err(fault) => (pass, Err(fault)),
     }
 }
 
@@ -114,12 +118,12 @@ fn entry_of(act: Act) -> Raw
     }
 }
 
-fn lost(said: Result<(), NoMemory>) -> Option<TalkFault>
+fn lost(said: Result<(), NoMemory>) -> Result<(), TalkFault>
     ensures { result ≡ lost said }
 {
     match said {
-        Ok(()) => None,
-        Err(_) => Some(TalkFault::NoMemory),
+        Ok(()) => Ok(()),
+        Err(_) => Err(TalkFault::NoMemory),
     }
 }
 

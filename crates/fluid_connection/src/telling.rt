@@ -2,7 +2,7 @@
 ghost use Rattle.std.specs.Prelude.{◌≡◌, ◌∷◌, [], ◌++◌, false, IfOk, IfErr};
 ghost use Rattle.fluid_voice.specs.States.{document_name};
 ghost use Rattle.fluid_voice.specs.Replies.{entry_replies};
-ghost use Rattle.fluid_connection.specs.Telling.{HasRoom, no_counts, with_end, full_behind, TellsFront};
+ghost use Rattle.fluid_connection.specs.Telling.{HasRoom, no_counts, with_end, full_behind, TellsFront, SaysOne};
 
 use fluid_ends::TalkFault;
 use fluid_json::NoMemory;
@@ -46,6 +46,23 @@ impl Told {
         }
     }
 
+    /// These replies, with nothing entered. Takes no memory.
+    pub(crate) fn of(replies: Replies) -> Told
+        ensures replies { result.replies.items ≡ replies }
+        ensures counts { result.counts ≡ no_counts }
+    {
+        Told {
+            replies: replies.into_vec(),
+            counts: Counts {
+                sequenced: 0,
+                dropped: 0,
+                nacked: 0,
+                absorbed: 0,
+            },
+            full: false,
+        }
+    }
+
     /// Notes how an entry ended, and says what is to be said to it. For want of memory a front of that is said.
     pub(crate) fn say(&mut self, alloc: Global, voice: &Voice, end: ActEnd) -> Result<(), NoMemory>
         requires { HasRoom self.old.counts }
@@ -62,17 +79,12 @@ impl Told {
 }
 
 /// What was said to one act alone, which enters no submission. For want of memory nothing is.
-pub(crate) fn said_one(
-    alloc: Global,
-    said: Result<Replies, NoMemory>,
-) -> (Told, Option<TalkFault>) {
-    let mut told = Told::new(alloc);
+pub(crate) fn say_one(alloc: Global, said: Result<Replies, NoMemory>) -> (Told, Option<TalkFault>)
+    ensures { SaysOne said result.0 result.1 }
+{
     match said {
-        Ok(replies) => {
-            told.replies = replies.into_vec();
-            (told, None)
-        }
-        Err(_) => (told, Some(TalkFault::NoMemory)),
+        Ok(replies) => (Told::of(replies), None),
+        Err(_) => (Told::new(alloc), Some(TalkFault::NoMemory)),
     }
 }
 

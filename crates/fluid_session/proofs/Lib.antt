@@ -3,4 +3,9 @@ pub mod Onward
 pub mod Passes
 pub mod Fronts
 pub mod Submitted
+pub mod Filling
+pub mod Counts
+pub mod Keys
+pub mod Doorways
+pub mod Leavings
 pub mod Wholly

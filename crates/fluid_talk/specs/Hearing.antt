@@ -60,12 +60,12 @@ pub record Reaches (name : List ℕ) (s t : Talking) (store : Storing) (acts : L
   pub handed : is_connected t.voice ≡ false → t.handed ≡ s.handed
   pub key : ((s.handed.name ≡ Some name) × (t.key ≡ s.key)) ⊎ OpensFor name s.key t.key
 
--- the key behind a text that reached no door: the service was asked for the document and refused it, by this fault, or since as many
--- documents are open as may be, which is told. Where memory was wanting it has no step more, and so where nothing is connected to
-abbrev pub KeyBehind : List Act → Option TalkFault → Keyed → Keyed → Type 0
-KeyBehind (act.Connect name write scopes detail moment ∷ rest) None k m = IsRefusedDoor name (TooManyDocuments MOST_DOCUMENTS) k m
-KeyBehind (act.Connect name write scopes detail moment ∷ rest) (Some (Door fault)) k m = IsRefusedDoor name fault k m
-KeyBehind acts failed k m = KeepsKey k m
+-- the key behind a text that reached no door. A connect that was done was refused, since as many documents are open as may be; one that
+-- failed at the service was refused by this fault. Where memory was wanting it has no step more, and so where nothing is connected to
+abbrev pub KeyBehind : List Act → List Did → Option TalkFault → Keyed → Keyed → Type 0
+KeyBehind (act.Connect name write scopes detail moment ∷ rest) (d ∷ done) failed k m = IsRefusedDoor name (TooManyDocuments MOST_DOCUMENTS) k m
+KeyBehind (act.Connect name write scopes detail moment ∷ rest) [] (Some (Door fault)) k m = IsRefusedDoor name fault k m
+KeyBehind acts done failed k m = KeepsKey k m
 
 -- it reached no door, and stays as it was
 pub record StaysAway (s t : Talking) (acts : List Act) (done : List Did) (failed : Option TalkFault) : Type 0 where
@@ -73,7 +73,7 @@ pub record StaysAway (s t : Talking) (acts : List Act) (done : List Did) (failed
   pub pass : t.pass ≡ s.pass
   pub handed : t.handed ≡ s.handed
   pub nothing : steps_in done ≡ []
-  pub key : KeyBehind acts failed s.key t.key
+  pub key : KeyBehind acts done failed s.key t.key
 
 abbrev pub ReachesBy : Option (List ℕ) → (s t : Talking) → Storing → List Act → List Did → Option TalkFault → Type 0
 ReachesBy None s t store acts done failed = StaysAway s t acts done failed
