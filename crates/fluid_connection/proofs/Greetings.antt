@@ -45,7 +45,7 @@ use Rattle.fluid_talk.specs.Hearing.{IsConnectEnd, IsFaultOf}
 use Rattle.fluid_connection.specs.declared.connecting.Connect.{Connect}
 use Rattle.fluid_connection.specs.Knowing.{knowing}
 use Rattle.fluid_connection.specs.Entering.{joined, looked, DoesOne, DoesAs}
-use Rattle.fluid_connection.specs.Connecting.{act_of, IsAheadIn, Greets, IsSettled}
+use Rattle.fluid_connection.specs.Connecting.{act_of, IsAheadIn, Greets, MaySettle}
 use Rattle.fluid_connection.proofs.Hears.{behind_later}
 
 -- ---- which ends and faults a door has
@@ -152,7 +152,7 @@ ahead_of p q c e one = by c.write c.name e one
     by false name (end.Given reply) one = tt
 
 -- what was answered can be settled
-pub greeted_settled : (c : Connect) (visit now : Visiting) (answer : Result ActEnd TalkFault) → visit.door.name ≡ c.name → Greets c visit now answer → IsSettled c.name c.write now answer
+pub greeted_settled : (c : Connect) (visit now : Visiting) (answer : Result ActEnd TalkFault) → visit.door.name ≡ c.name → Greets c visit now answer → MaySettle c.name c.write now answer
 greeted_settled c visit now answer named h = record {
   named = ap (λ d. d.name) h.door ∙ named;
   few = h.few;

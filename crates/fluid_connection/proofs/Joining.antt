@@ -100,7 +100,7 @@ module _ (name : List ℕ) (p q : APass) (scopes : Scopes) (detail : Tree) (mome
 
   full_given : (n : ℕ) → Grown (Err (lane.Full n)) → Does (Err (lane.Full n))
   full_given n grows =
-      let open_ = fault_open {A = List ℕ × Message} (is_worn_behind (entries grows.before)) (lane.Full n) (λ same. cc) grows.says.answers.worn in
+      let open_ = fault_open (List ℕ × Message) (is_worn_behind (entries grows.before)) (lane.Full n) (λ same. cc) grows.says.answers.worn in
       let refused = λ (told : p.turn.fixed.told ≡ true). full_first p.turn.fixed name scopes detail moment (entries grows.before) _ _ n ((grows.says.answers.told told).ruled open_) in
       record {
         found = grows.before;
@@ -117,7 +117,7 @@ module _ (name : List ℕ) (p q : APass) (scopes : Scopes) (detail : Tree) (mome
 
   many_given : Grown (Err lane.TooManyClients) → Does (Err lane.TooManyClients)
   many_given grows =
-      let open_ = fault_open {A = List ℕ × Message} (is_worn_behind (entries grows.before)) lane.TooManyClients (λ same. cc) grows.says.answers.worn in
+      let open_ = fault_open (List ℕ × Message) (is_worn_behind (entries grows.before)) lane.TooManyClients (λ same. cc) grows.says.answers.worn in
       record {
         found = grows.before;
         added = [];
@@ -133,7 +133,7 @@ module _ (name : List ℕ) (p q : APass) (scopes : Scopes) (detail : Tree) (mome
 
   -- no other fault comes where the document isn't worn
   named : (fault : LaneFault) → (fault ≡ lane.Worn → ⊥) → Grown (Err fault) → IsJoinFault p.turn.fixed fault
-  named fault other grows = grows.says.answers.named (fault_open {A = List ℕ × Message} (is_worn_behind (entries grows.before)) fault other grows.says.answers.worn)
+  named fault other grows = grows.says.answers.named (fault_open (List ℕ × Message) (is_worn_behind (entries grows.before)) fault other grows.says.answers.worn)
 
   fault_goes : (fault : LaneFault) → Grown (Err fault) → Goes (knowing name p) (knowing name q) (fault_steps fault)
   fault_goes fault grows = goes_with name p q _ _ grows
@@ -150,4 +150,4 @@ module _ (name : List ℕ) (p q : APass) (scopes : Scopes) (detail : Tree) (mome
   joins (Err lane.NoMemory) grows = record { goes = fault_goes lane.NoMemory grows; cause = λ before now. tt }
   joins (Err (lane.BadCheckpoint number bad)) grows = absurd (named (lane.BadCheckpoint number bad) (λ same. cc) grows)
   joins (Err (lane.TooLarge bytes)) grows = absurd (named (lane.TooLarge bytes) (λ same. cc) grows)
-  joins (Err lane.Worn) grows = record { goes = fault_goes lane.Worn grows; cause = λ before now. (refl, worn_seen {A = List ℕ × Message} p q _ grows grows.says.answers.worn) }
+  joins (Err lane.Worn) grows = record { goes = fault_goes lane.Worn grows; cause = λ before now. (refl, worn_seen (List ℕ × Message) p q _ grows grows.says.answers.worn) }
