@@ -10,3 +10,8 @@ mod Hears
 mod Reached
 mod Keyrings
 mod Greetings
+mod Passings
+mod Stretches
+mod Collections
+mod Leavings
+mod Standing

@@ -128,7 +128,7 @@ fn lost(said: Result<(), NoMemory>) -> Result<(), TalkFault>
 }
 
 // How an entry ended.
-fn ended(answer: Result<Verdict, LaneFault>) -> Result<ActEnd, TalkFault>
+pub(crate) fn ended(answer: Result<Verdict, LaneFault>) -> Result<ActEnd, TalkFault>
     ensures { result ≡ ended answer }
 {
     match answer {
