@@ -91,7 +91,7 @@ seq_is l = refl
 behind_at : (last len : ℕ) → len ≡ last → number_behind last ≤ len + 1
 behind_at last len same = omega (arith, min-le_left (last + 1) (2 ^ 64 - 1), same)
 
-told_number : ActEnd → ℕ
+abbrev told_number : ActEnd → ℕ
 told_number (end.Told last) = last
 told_number e = 0
 
@@ -107,7 +107,7 @@ told_next p q name scopes detail moment last one told =
     subst (λ l. number_behind last ≤ number_behind_last l) (sym same) (behind_at last (length (order_of one.found)) (sym (seq_is (ledger_of one.found)) ∙ ap told_number said))
 
 -- who writes gets the number behind the last one
-joined_number : ActEnd → ℕ
+abbrev joined_number : ActEnd → ℕ
 joined_number (end.Joined id number) = number
 joined_number e = 0
 

@@ -25,6 +25,7 @@ use Rattle.fluid_doors.specs.Answers.{is_worn_behind, IsRuled}
 use Rattle.fluid_doors.specs.Entering.{is_full_at, has_too_many_at, IsJoinFault, Joins, joined_as}
 use Rattle.fluid_voice.specs.declared.actions.Act.{Act}
 use Rattle.fluid_voice.specs.declared.actions.Act.TheVariants as act
+use Rattle.fluid_voice.specs.declared.ends.ActEnd.{ActEnd}
 use Rattle.fluid_voice.specs.declared.ends.ActEnd.TheVariants.{Joined, FullNow, TooMany}
 use Rattle.fluid_voice.specs.Ends.{join_of, joined_by, outcome}
 use Rattle.fluid_voice.specs.Ends.Outcome.{ends}
@@ -38,7 +39,7 @@ module _ (t : Terms) (name : List ℕ) (scopes : Scopes) (detail : Tree) (moment
   abbrev connect : Act
   connect = act.Connect name true scopes detail moment
 
-  abbrev join_end_by : Bool → Bool → _
+  abbrev join_end_by : Bool → Bool → ActEnd
   join_end_by a b = if a then FullNow else if b then TooMany else joined_by (entry_name (length (ledger l))) (verdict (ledger l) (join_of (ledger l) scopes detail moment))
 
   join_by : (held : Held) (a b : Bool) → (is_full_at t l).0 ≡ a → has_too_many_clients t.limits.clients (ledger l) (Join (entry_name (length (ledger l))) scopes detail moment) ≡ b
