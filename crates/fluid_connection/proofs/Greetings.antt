@@ -45,7 +45,7 @@ use Rattle.fluid_talk.specs.Hearing.{IsConnectEnd, IsFaultOf}
 use Rattle.fluid_connection.specs.declared.connecting.Connect.{Connect}
 use Rattle.fluid_connection.specs.Knowing.{knowing}
 use Rattle.fluid_connection.specs.Entering.{joined, looked, DoesOne, DoesAs}
-use Rattle.fluid_connection.specs.Connecting.{act_of, IsAheadIn, Greets, IsSettled}
+use Rattle.fluid_connection.specs.Connecting.{act_of, IsAheadIn, Greets, MaySettle}
 use Rattle.fluid_connection.proofs.Hears.{behind_later}
 
 -- ---- which ends and faults a door has
@@ -91,7 +91,7 @@ seq_is l = refl
 behind_at : (last len : ℕ) → len ≡ last → number_behind last ≤ len + 1
 behind_at last len same = omega (arith, min-le_left (last + 1) (2 ^ 64 - 1), same)
 
-told_number : ActEnd → ℕ
+abbrev told_number : ActEnd → ℕ
 told_number (end.Told last) = last
 told_number e = 0
 
@@ -107,7 +107,7 @@ told_next p q name scopes detail moment last one told =
     subst (λ l. number_behind last ≤ number_behind_last l) (sym same) (behind_at last (length (order_of one.found)) (sym (seq_is (ledger_of one.found)) ∙ ap told_number said))
 
 -- who writes gets the number behind the last one
-joined_number : ActEnd → ℕ
+abbrev joined_number : ActEnd → ℕ
 joined_number (end.Joined id number) = number
 joined_number e = 0
 
@@ -152,7 +152,7 @@ ahead_of p q c e one = by c.write c.name e one
     by false name (end.Given reply) one = tt
 
 -- what was answered can be settled
-pub greeted_settled : (c : Connect) (visit now : Visiting) (answer : Result ActEnd TalkFault) → visit.door.name ≡ c.name → Greets c visit now answer → IsSettled c.name c.write now answer
+pub greeted_settled : (c : Connect) (visit now : Visiting) (answer : Result ActEnd TalkFault) → visit.door.name ≡ c.name → Greets c visit now answer → MaySettle c.name c.write now answer
 greeted_settled c visit now answer named h = record {
   named = ap (λ d. d.name) h.door ∙ named;
   few = h.few;

@@ -117,10 +117,10 @@ module _ (s t : Talking) (before now : Storing) (text : List ℕ) (moment : ℕ)
       does = subst (λ f. Does s t before now text moment done f) (sym is.fault_is) does;
       replies = subst (λ rs. AreReplies h.fault (replies_behind s.voice (ended done)) rs) (sym is.replies)
           (subst (λ f. AreReplies f (replies_behind s.voice (ended done)) told.replies.items) (sym is.fault_is) said);
-      sequenced = is.sequenced ∙ ap (λ c. c.sequenced) counts;
-      dropped = is.dropped ∙ ap (λ c. c.dropped) counts;
-      nacked = is.nacked ∙ ap (λ c. c.nacked) counts;
-      absorbed = is.absorbed ∙ ap (λ c. c.absorbed) counts;
+      sequenced = omega (arith, is.sequenced, ap (λ c. c.sequenced) counts);
+      dropped = omega (arith, is.dropped, ap (λ c. c.dropped) counts);
+      nacked = omega (arith, is.nacked, ap (λ c. c.nacked) counts);
+      absorbed = omega (arith, is.absorbed, ap (λ c. c.absorbed) counts);
     };
   }
 

@@ -96,7 +96,7 @@ same_counts a b c d e f g h one two three four = rw (one, two, three, four) refl
 counts_none : (c : Counts) → with_ends c [] ≡ c
 counts_none c = same_counts _ _ _ _ _ _ _ _ (omega arith) (omega arith) (omega arith) (omega arith)
 
-counts_one : (c : Counts) (a : Act) (end : ActEnd) → with_end c end ≡ with_ends c ((a, end) ∷ [])
+pub counts_one : (c : Counts) (a : Act) (end : ActEnd) → with_end c end ≡ with_ends c ((a, end) ∷ [])
 counts_one c a end = same_counts _ _ _ _ _ _ _ _ (omega arith) (omega arith) (omega arith) (omega arith)
 
 counts_more : (c : Counts) (a : Act) (end : ActEnd) (done : List (Act × ActEnd)) → with_ends (with_end c end) done ≡ with_ends c ((a, end) ∷ done)
