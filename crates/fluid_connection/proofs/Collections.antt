@@ -134,12 +134,13 @@ fails_then name p m q from next old fault brings fails = record { goes = goes_on
 
 -- ---- a visit by its parts
 
-pub collects_back : (visit back : Visiting) (door : Doorway) (pass behind : APass) (next : ℕ) (answer : Result Collected TalkFault) → door ≡ visit.door → pass ≡ visit.pass → back ≡ record { door = door; pass = behind }
-    → CollectsAll door.name (knowing door.name pass) (knowing door.name behind) next answer → CollectsAll visit.door.name (visited visit) (visited back) next answer
-collects_back visit back door pass behind next answer same_door same_pass is does =
+pub collects_back : (visit back : Visiting) (lent door : Doorway) (pass behind : APass) (next : ℕ) (answer : Result Collected TalkFault) → lent ≡ door → door ≡ visit.door → pass ≡ visit.pass → back ≡ record { door = door; pass = behind }
+    → CollectsAll lent.name (knowing lent.name pass) (knowing lent.name behind) next answer → CollectsAll visit.door.name (visited visit) (visited back) next answer
+collects_back visit back lent door pass behind next answer same_lent same_door same_pass is does =
     subst (λ v. CollectsAll visit.door.name (visited visit) (visited v) next answer) (sym is)
     (subst (λ p. CollectsAll visit.door.name (knowing visit.door.name p) (knowing door.name behind) next answer) same_pass
-    (subst (λ d. CollectsAll d.name (knowing d.name pass) (knowing door.name behind) next answer) same_door does))
+    (subst (λ (d : Doorway). CollectsAll d.name (knowing d.name pass) (knowing door.name behind) next answer) same_door
+    (subst (λ (d : Doorway). CollectsAll d.name (knowing d.name pass) (knowing d.name behind) next answer) same_lent does)))
 
 pub comes_back : (visit back : Visiting) (door : Doorway) (behind : APass) → door ≡ visit.door → back ≡ record { door = door; pass = behind } → length behind.seen ≤ most → ComesBack visit back
 comes_back visit back door behind same_door is few = subst (λ v. ComesBack visit v) (sym is) (record { door = same_door; few = few })

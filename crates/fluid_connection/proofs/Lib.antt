@@ -13,5 +13,6 @@ mod Greetings
 mod Passings
 mod Stretches
 mod Collections
+mod Events
 mod Leavings
 mod Standing
