@@ -15,3 +15,4 @@ mod Stretches
 mod Collections
 mod Leavings
 mod Standing
+mod States
