@@ -23,7 +23,7 @@ use Rattle.fluid_talk.specs.Talking.{Knowing, Talking, Goes, order_of, number_be
 use Rattle.fluid_talk.specs.Collecting.{Feeds, FailsAs, IsCollectCause, CollectsBy, Collects}
 use Rattle.fluid_talk.specs.Leaving.{EntersLeave, HasLeft, IsLeaveCause, LeavesBy, Leaves}
 use Rattle.fluid_connection.specs.declared.collecting.Collected.{Collected}
-use Rattle.fluid_connection.specs.Talked.{Talked, pass_of, visited, talking, IsTalk, IsDelivered, IsSettled}
+use Rattle.fluid_connection.specs.Talked.{Talked, pass_of, visited, talking, IsTalk, IsDelivered, HasDelivered}
 use Rattle.fluid_connection.specs.Slices.{BringsAll, FailsToCollect, ComesBack}
 use Rattle.fluid_connection.specs.Leaving.{IsLeaveAct, EntersLeaving, FailsToLeave}
 use Rattle.fluid_connection.proofs.Passings.{goes_nowhere}
@@ -71,7 +71,7 @@ visit_within t visit is joined some = subst (λ v. (pass_of v).told ≡ true →
 -- ---- nothing is collected
 
 -- where all was delivered
-pub quiet_gives : (t : Talked) (settled : Option ℕ) → is_some settled ≡ true → IsSettled t settled → is_connected t.voice ≡ true → Collects (talking t) (talking t) (Ok [])
+pub quiet_gives : (t : Talked) (settled : Option ℕ) → is_some settled ≡ true → HasDelivered t settled → is_connected t.voice ≡ true → Collects (talking t) (talking t) (Ok [])
 quiet_gives t None some is joined = absurd (false≢true some)
 quiet_gives t (Some steps) some is joined = record {
   connected = λ _. record {
@@ -158,7 +158,7 @@ module _ (v : VoiceState) (k : AKey) (h : Option Visiting) (old new : Visiting) 
       few = λ _. back.few;
     }
 
-    pub collected_settled : (steps : ℕ) → IsSettled (standing (with_next c.next v) k new h) (Some steps)
+    pub collected_settled : (steps : ℕ) → HasDelivered (standing (with_next c.next v) k new h) (Some steps)
     collected_settled steps = λ told. number_is ∙ all.last (told_before told)
 
   -- it has left
@@ -206,7 +206,7 @@ has_leave (Reading name next) moment writes none = false≢true writes
 has_leave (Writing name id next) moment writes none = cc
 has_leave Used moment writes none = false≢true writes
 
-record IsLeaveOf (v : VoiceState) (moment : ℕ) (a : Act) : Type 0 where
+pub record IsLeaveOf (v : VoiceState) (moment : ℕ) (a : Act) : Type 0 where
   pub raw : Raw
   pub leave : leave_of moment v ≡ Some raw
   pub asks : a ≡ act.Enter raw

@@ -48,8 +48,8 @@ pub record IsTalk (t : Talked) : Type 0 where
 abbrev pub IsDelivered : Talking → Type 0
 IsDelivered t = t.pass.told ≡ true → next_number t.voice ≡ number_behind_last t.pass.seen
 
-abbrev pub IsSettled : Talked → Option ℕ → Type 0
-IsSettled t settled = IfSome settled (λ steps. IsDelivered (talking t))
+abbrev pub HasDelivered : Talked → Option ℕ → Type 0
+HasDelivered t settled = IfSome settled (λ steps. IsDelivered (talking t))
 
 -- only its visit is another one, or knows more
 pub record StaysBut (old new : Talked) : Type 0 where

@@ -41,7 +41,7 @@ pub struct Talk<B: Shelves> {
 }
 
 impl<B: Shelves> Model for Talk<B> {
-    ghost use Rattle.fluid_connection.specs.Talked.{Talked, IsTalk, IsSettled, talked_code};
+    ghost use Rattle.fluid_connection.specs.Talked.{Talked, IsTalk, HasDelivered, talked_code};
 
     ghost Value = { Talked };
 
@@ -49,7 +49,7 @@ impl<B: Shelves> Model for Talk<B> {
 
     ghost view = { λ t. record { voice = t.voice; key = t.key; visit = t.visit; handed = t.handed } };
 
-    ghost invariant = { λ t. IsTalk (record { voice = t.voice; key = t.key; visit = t.visit; handed = t.handed }) × IsSettled (record { voice = t.voice; key = t.key; visit = t.visit; handed = t.handed }) t.settled };
+    ghost invariant = { λ t. IsTalk (record { voice = t.voice; key = t.key; visit = t.visit; handed = t.handed }) × HasDelivered (record { voice = t.voice; key = t.key; visit = t.visit; handed = t.handed }) t.settled };
 }
 
 impl<B: Shelves> Talk<B> {
