@@ -1,5 +1,5 @@
 -- What a text of one that is connected asks for.
-use Rattle.std.proofs.Common.{◌≡◌, ◌≤◌, ◌⊎◌, inl, inr, ℕ, Bool, not, true, false, List, [], ◌∷◌, map, All, Ok, Err, is_ok, bytes_eq, if◌then◌else◌, refl, sym, subst}
+use Rattle.std.proofs.Common.{◌≡◌, ◌≤◌, ◌⊎◌, inl, inr, ℕ, Bool, not, true, false, List, [], ◌∷◌, map, All, Ok, Err, is_ok, bytes_eq, if◌then◌else◌, refl, sym, ◌∙◌, subst}
 use Rattle.std.proofs.lemmas.List.Elements.{All-head, All-tail}
 use Rattle.fluid_types.specs.Forms.{Read, largest}
 use Rattle.fluid_types.specs.declared.entries.Submission.{Submission}
@@ -168,3 +168,24 @@ entry_first (act.PutObject bytes ∷ acts) subs begins = subs.0
 pub question_chosen : (acts : List Act) → begin_with_entry acts ≡ false → AreAskedAtOnce acts → (a : Act) × ((acts ≡ a ∷ []) × IsQuestion a)
 question_chosen acts begins (inl subs) = absurd (entry_first acts subs begins)
 question_chosen acts begins (inr asks) = asks
+
+pub question_sole : (acts : List Act) → begin_with_entry acts ≡ false → AreAskedAtOnce acts → AreSole acts
+question_sole acts begins asked =
+    let q = question_chosen acts begins asked in
+    subst AreSole (sym q.1.0) tt
+
+pub question_some : (acts : List Act) (a : Act) → begin_with_entry acts ≡ false → AreAskedAtOnce acts → acts ≡ a ∷ [] → IsQuestion a
+question_some acts a begins asked same =
+    let q = question_chosen acts begins asked in
+    subst IsQuestion (head_same q.0 a (sym q.1.0 ∙ same)) q.1.1
+  where
+    head_same : (x y : Act) → x ∷ [] ≡ y ∷ [] → x ≡ y
+    head_same x y same = cc
+
+pub question_none : (acts : List Act) → begin_with_entry acts ≡ false → AreAskedAtOnce acts → acts ≡ [] → ⊥
+question_none acts begins asked same =
+    let q = question_chosen acts begins asked in
+    none_one q.0 (sym same ∙ q.1.0)
+  where
+    none_one : (x : Act) → [] ≡ x ∷ [] → ⊥
+    none_one x same = cc

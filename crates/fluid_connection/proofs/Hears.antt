@@ -38,6 +38,7 @@ use Rattle.fluid_connection.specs.declared.telling.Told.{Told as ATold}
 use Rattle.fluid_connection.specs.Knowing.{knowing}
 use Rattle.fluid_connection.specs.Talked.{Talked, IsTalk, pass_of}
 use Rattle.fluid_connection.specs.Telling.{no_counts, with_ends}
+use Rattle.fluid_connection.specs.Running.{AreSubmissions, EntersText}
 use Rattle.fluid_connection.specs.Hearing.{AreAskedApart, HearsActs, HearsOther, IsHeardOf}
 use Rattle.fluid_connection.proofs.Running.{goes_nowhere, memory_cause}
 use Rattle.fluid_connection.proofs.Choosing.{not_two}
@@ -260,3 +261,50 @@ module _ (s t : Talking) (before : Storing) (text : List ℕ) (moment : ℕ) (to
       keeps (act.Summary asked ∷ acts) = kept
       keeps (act.GetObject id ∷ acts) = kept
       keeps (act.PutObject bytes ∷ acts) = kept
+
+-- ---- entries of a text
+
+subs_hold : (acts rest : List Act) → AreSubmissions (acts ++ rest) → (held : Held) → held_after held acts ≡ held
+subs_hold [] rest subs held = refl
+subs_hold (act.Enter raw ∷ acts) rest subs held = subs_hold acts rest subs.1 held
+subs_hold (act.Say reply ∷ acts) rest subs held = absurd subs.0
+subs_hold (act.Connect name write scopes detail moment ∷ acts) rest subs held = absurd subs.0
+subs_hold (act.Deltas from to ∷ acts) rest subs held = absurd subs.0
+subs_hold (act.Summary asked ∷ acts) rest subs held = absurd subs.0
+subs_hold (act.GetObject id ∷ acts) rest subs held = absurd subs.0
+subs_hold (act.PutObject bytes ∷ acts) rest subs held = absurd subs.0
+
+subs_same : (s : Storing) (done rest : List Act) → AreSubmissions (done ++ rest) → HoldsWith done s s
+subs_same s done rest is = by s.content
+  where
+    by : (o : Option Held) → o ≡ option_map (λ held. held_after held done) o
+    by None = refl
+    by (Some held) = ap Some (sym (subs_hold done rest is held))
+
+-- of the store nothing is asked
+pub hears_entries : (s : VoiceState) (p q : Knowing) (store : Storing) (acts : List Act) (told : ATold) (fault : Option TalkFault) → AreSubmissions acts → EntersText s p q acts told fault
+    → HearsActs s p q store store acts told fault
+hears_entries s p q store acts told fault subs h =
+    let d = h.does in
+    record {
+      done = h.done;
+      does = record {
+        rest = d.rest;
+        asked = d.asked;
+        whole = d.whole;
+        cause = d.cause store store;
+        are_done = d.are_done;
+        full = d.full_stays;
+        goes = d.goes;
+        found = d.found;
+        answered = d.answered store;
+        said = d.told;
+        store = record {
+          later = omega arith;
+          told = refl;
+          holds = holds_by store (acts_in h.done) d.rest fault (subs_same store (acts_in h.done) d.rest (subst AreSubmissions d.asked subs));
+          untouched = λ _. refl;
+        };
+      };
+      counts = h.counts;
+    }

@@ -16,3 +16,4 @@ mod Collections
 mod Events
 mod Leavings
 mod Standing
+mod States

@@ -9,6 +9,8 @@ use Rattle.fluid_connection.proofs.Hears.{hears_connected}
 use Rattle.fluid_connection.proofs.Reached.{connect_lost}
 use Rattle.fluid_connection.proofs.Keyrings.{reached_service}
 use Rattle.fluid_connection.proofs.Greetings.{ahead_of}
+use Rattle.fluid_connection.proofs.States.{fresh_talk}
+use Rattle.fluid_connection.proofs.Standing.{has_visit}
 use Rattle.fluid_connection.proofs.laws.all_lemmas.Goals as goal
 
 pub returns : goal.returns
