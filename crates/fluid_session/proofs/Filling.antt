@@ -16,7 +16,6 @@ use Rattle.fluid_rules.specs.Counted.{is_counted, counted, is_full}
 use Rattle.fluid_rules.specs.declared.limits.Limits.{Limits}
 use Rattle.fluid_store.specs.Held.{Held}
 use Rattle.fluid_store.specs.Storing.{Storing}
-use Rattle.fluid_table.specs.Table.{byte_order}
 use Rattle.fluid_lane.specs.declared.steps.Step.{Step}
 use Rattle.fluid_lane.specs.Steps.{ledger}
 use Rattle.fluid_voice.specs.declared.actions.Act.{Act}
@@ -87,8 +86,8 @@ round_counted r is =
 
 -- ---- one entry
 
-nothing_held : Held
-nothing_held = empty {cmp = byte_order}
+pub nothing_held : Held
+nothing_held = empty
 
 ends_same : (a b : ActEnd) → ends a ≡ ends b → a ≡ b
 ends_same a b same = cc

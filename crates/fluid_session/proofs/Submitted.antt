@@ -82,7 +82,7 @@ of_read_writing : (name own : List ℕ) (next moment : ℕ) (read : Read Spelled
 of_read_writing name own next moment (Ok e) = of_writing name own next moment e
 of_read_writing name own next moment (Err fault) = (tt, tt)
 
-no_connects : (s : VoiceState) (text : List ℕ) (moment : ℕ) → is_connected s ≡ true → NoConnects (acts_of s text moment)
+pub no_connects : (s : VoiceState) (text : List ℕ) (moment : ℕ) → is_connected s ≡ true → NoConnects (acts_of s text moment)
 unfolding acts_of
 no_connects Fresh text moment joined = absurd (false≢true joined)
 no_connects (Reading name next) text moment joined = of_read_reading name next moment (event_spelled text)

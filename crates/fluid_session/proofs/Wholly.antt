@@ -1,5 +1,5 @@
 -- A whole session, from its account.
-use Rattle.std.proofs.Common.{◌≡◌, ◌⊎◌, inl, inr, ℕ, ◌+◌, ◌-◌, ◌^◌, ◌<◌, ◌≤◌, Bool, true, false, List, [], ◌∷◌, ◌++◌, length, Option, Some, None, Result, Ok, Err, refl, sym, ap, subst, ◌∙◌, arith, append_assoc, append-nil, length-append}
+use Rattle.std.proofs.Common.{◌≡◌, ◌⊎◌, inl, inr, ℕ, ◌+◌, ◌-◌, ◌^◌, ◌<◌, ◌≤◌, Bool, true, false, List, [], ◌∷◌, ◌++◌, length, Option, Some, None, Result, Ok, Err, refl, sym, ap, subst, ◌∙◌, arith, append_assoc, append-nil, length-append, zero-add}
 use Rattle.std.specs.Option.{option_map}
 use Rattle.std.proofs.lemmas.Bool.{false≢true}
 use Rattle.fluid_turn.specs.declared.view.Numbered.{Numbered}
@@ -114,7 +114,7 @@ unread_by events number tally counted is few =
     let same : tally.unread ≡ (counted_behind nothing events).unread = ap (λ (t : Tally). t.unread) counted in
     let below : (counted_behind nothing events).unread < 2 ^ 64 - 1 = omega (arith, same, few) in
     let exact = sum_exact (λ t. t.unread) unread_summed events nothing below in
-    is ∙ same ∙ exact ∙ unread_sum events
+    is ∙ same ∙ exact ∙ zero-add (sum_in (λ t. t.unread) events) ∙ unread_sum events
 
 -- the numbers of these events, of which only the steps of some are verdicts
 has_counts : (report : Report) (tally : Tally) (events : List Event) (steps : List Step) → HasNumbers report tally → tally ≡ counted_behind nothing events → tally.unread ≤ most_unread → length steps ≤ most
