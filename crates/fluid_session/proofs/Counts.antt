@@ -1,6 +1,5 @@
 -- The numbers of a report: sums over the texts, counted in the steps of the pass.
-use Rattle.std.proofs.Common.{◌≡◌, ℕ, suc, ◌+◌, ◌-◌, ◌^◌, ◌<◌, ◌≤◌, Bool, true, false, not, List, [], ◌∷◌, ◌++◌, length, map, filter, Option, Some, None, refl, sym, ap, subst, ◌∙◌, arith, if◌then◌else◌, length-append}
-use Rattle.std.proofs.lemmas.Bool.{false≢true}
+use Rattle.std.proofs.Common.{◌≡◌, ℕ, suc, ◌+◌, ◌-◌, ◌^◌, ◌<◌, ◌≤◌, Bool, true, false, not, List, [], ◌∷◌, ◌++◌, length, filter, Option, Some, None, refl, sym, ap, subst, ◌∙◌, arith, if◌then◌else◌, zero-add}
 use Rattle.std.proofs.lemmas.List.Filters.{length-filter_both}
 use Rattle.fluid_turn.specs.declared.view.Numbered.{Numbered}
 use Rattle.fluid_turn.specs.Entries.{entries, made_by, is_number}
@@ -24,16 +23,15 @@ use Rattle.fluid_voice.specs.Suits.{Suits}
 use Rattle.fluid_voice.specs.Laws.{IsOneAnswer}
 use Rattle.fluid_voice.proofs.Ahead.{others_connect}
 use Rattle.fluid_ends.specs.Adding.{AddsBy}
-use Rattle.fluid_ends.specs.Faults.{talk_steps}
 use Rattle.fluid_ends.specs.declared.fault.TalkFault.{TalkFault}
 use Rattle.fluid_ends.specs.declared.fault.TalkFault.TheVariants.{Door, Lane, Delta, Store, NoMemory}
 use Rattle.fluid_talk.specs.Talking.{Talking}
 use Rattle.fluid_talk.specs.Doing.{Did, AreDone, acts_in, ended, steps_in, may_steps}
 use Rattle.fluid_session.specs.declared.tally.Tally.{Tally}
 use Rattle.fluid_session.specs.Counted.{plus, capped, counts_of}
-use Rattle.fluid_session.specs.Events.{Event, Stand, Collection, Round, IsRound, AreEvents, behind, counted_with, counted_behind}
+use Rattle.fluid_session.specs.Events.{Event, Stand, Round, IsRound, AreEvents, behind, counted_behind}
 use Rattle.fluid_session.specs.Events.Event.{brings, hears}
-use Rattle.fluid_session.specs.Lines.{count_steps, steps_of, steps_of_round, unread_in, entered, GoesOn}
+use Rattle.fluid_session.specs.Lines.{count_steps, steps_of, steps_of_round, unread_in}
 use Rattle.fluid_session.proofs.Passes.{AllApart, goes_on}
 use Rattle.fluid_session.proofs.Submitted.{IsNoConnect, NoConnects, round_none}
 
@@ -102,7 +100,7 @@ unread_sum (hears r ∷ es) = ap (λ n. (counts_of r.heard).unread + n) (unread_
 -- ---- verdicts in the steps
 
 count-append : (kind : Verdict → Bool) (a b : List Step) → count_steps kind (a ++ b) ≡ count_steps kind a + count_steps kind b
-count-append kind [] b = refl
+count-append kind [] b = sym (zero-add (count_steps kind b))
 count-append kind (Entered raw verdict ∷ a) b = let rest = count-append kind a b in omega (arith, rest)
 count-append kind (Aside side ∷ a) b = count-append kind a b
 
@@ -279,7 +277,7 @@ module _ (kind : Verdict → Bool) (f : Tally → ℕ) (counts : IsCountOf kind 
   sum_apart (hears r ∷ es) ((apart, is), all) = let one = apart_counts r apart is in let rest = sum_apart es all in omega (arith, one, rest)
 
 pub sum-append : (f : Tally → ℕ) (a b : List Event) → sum_in f (a ++ b) ≡ sum_in f a + sum_in f b
-sum-append f [] b = refl
+sum-append f [] b = sym (zero-add (sum_in f b))
 sum-append f (brings c ∷ a) b = sum-append f a b
 sum-append f (hears r ∷ a) b = let rest = sum-append f a b in omega (arith, rest)
 

@@ -1,5 +1,5 @@
 -- The key along a session, and what it tells of the documents that are open.
-use Rattle.std.proofs.Common.{◌≡◌, inl, inr, ℕ, ◌+◌, ◌≤◌, Bool, true, false, not, ◌&&◌, nat_le, List, [], ◌∷◌, ◌++◌, length, map, Option, Some, None, Result, Ok, Err, refl, sym, ap, subst, ◌∙◌, arith, append-nil, length-append}
+use Rattle.std.proofs.Common.{◌≡◌, inl, inr, ℕ, ◌+◌, ◌≤◌, Bool, true, false, not, ◌&&◌, List, [], ◌∷◌, ◌++◌, length, map, Option, Some, None, Result, Ok, Err, refl, sym, ap, subst, ◌∙◌, arith, append-nil, length-append}
 use Rattle.std.proofs.lemmas.Bool.{false≢true, leb-true}
 use Rattle.fluid_turn.specs.declared.view.Numbered.{Numbered}
 use Rattle.fluid_turn.specs.Entries.{IsPrefix, by_seat, entries}
@@ -97,7 +97,7 @@ worn_many : (count : ℕ) → ◌≡◌ {A = Result (Unit {0}) DoorFault} (Err (
 worn_many count same = cc
 
 -- who is told so finds as many documents open as may be, and not this one
-beyond_by : (opened_is full worn told : Bool) (count : ℕ) → IsAnswerBy opened_is (refusal_by worn full) told (Err (door.TooManyDocuments count)) → (opened_is ≡ false) × (full ≡ true)
+beyond_by : (opened_is full worn told : Bool) (count : ℕ) → IsAnswerBy {A = Unit {0}} opened_is (refusal_by worn full) told (Err (door.TooManyDocuments count)) → (opened_is ≡ false) × (full ≡ true)
 beyond_by true full worn told count answer = absurd answer
 beyond_by false full true told count (inl memory) = absurd (no_memory_many count (not_so (door.TooManyDocuments count) memory))
 beyond_by false full true told count (inr same) = absurd (worn_many count same)
@@ -107,15 +107,19 @@ beyond_by false false false told count answer = absurd answer
 and_true : (a b : Bool) → a ≡ false → b ≡ true → (not a && b) ≡ true
 and_true a b h k = rw (h, k) refl
 
+-- the answer that too many documents are open
+abbrev refused_many : Result (Unit {0}) DoorFault
+refused_many = Err (door.TooManyDocuments MOST_DOCUMENTS)
+
 asked_beyond : (name : List ℕ) (k m : Keyed) → IsRefusedDoor name (door.TooManyDocuments MOST_DOCUMENTS) k m → is_beyond (opened_by m) name ≡ true
 asked_beyond name k m asks =
     let l : List ShelfStep = entries asks.before in
     let both = beyond_by (is_opened name l) (is_full l) (is_worn l) k.told MOST_DOCUMENTS asks.is in
-    let steps : visit_steps name (Err {T = Unit {0}} (door.TooManyDocuments MOST_DOCUMENTS)) l ≡ [] = none_by (is_opened name l) (refusal l) in
+    let steps : visit_steps name refused_many l ≡ [] = none_by (is_opened name l) (refusal l) in
     let seen : m.seen ≡ asks.before = asks.seen ∙ ap (λ added. asks.before ++ map (by_seat k.number) added) steps ∙ append-nil asks.before in
     subst (λ (x : List (Numbered ShelfStep)). is_beyond (opened (entries x)) name ≡ true) (sym seen) (and_true (is_opened name l) (is_full l) both.0 both.1)
   where
-    none_by : (b : Bool) (refused : Option DoorFault) → visit_steps_by b refused name (Err {T = Unit {0}} (door.TooManyDocuments MOST_DOCUMENTS)) ≡ []
+    none_by : (b : Bool) (refused : Option DoorFault) → visit_steps_by b refused name refused_many ≡ []
     none_by true refused = refl
     none_by false (Some fault) = refl
     none_by false None = refl
@@ -139,7 +143,8 @@ beyond_later k m name (rest, is) few beyond =
     let all : opened_by m ≡ opened_by k ++ opened (entries rest) = ap (λ (x : List (Numbered ShelfStep)). opened (entries x)) is ∙ ap opened (entries-append k.seen rest) ∙ opened-append (entries k.seen) (entries rest) in
     let many : MOST_DOCUMENTS ≤ length (opened_by k) = leb-true MOST_DOCUMENTS (length (opened_by k)) (second_true _ _ beyond) in
     let sum : length (opened_by m) ≡ length (opened_by k) + length (opened (entries rest)) = ap length all ∙ length-append (opened_by k) (opened (entries rest)) in
-    let none : opened (entries rest) ≡ [] = none_of_length (opened (entries rest)) (omega (arith, many, sum, few)) in
+    let no_more : length (opened (entries rest)) ≤ 0 = omega (arith, many, sum, few) in
+    let none : opened (entries rest) ≡ [] = none_of_length (opened (entries rest)) no_more in
     subst (λ l. is_beyond l name ≡ true) (sym (all ∙ ap (λ l. opened_by k ++ l) none ∙ append-nil (opened_by k))) beyond
 
 -- of each text
@@ -235,6 +240,7 @@ round_beyond r is = by (is_connected r.from.voice) refl
 pub all_beyond : (es : List Event) (s t : Stand) (k : Keyed) → AreEvents s es t → IsPrefix t.talk.key.seen k.seen → length (opened_by k) ≤ MOST_DOCUMENTS → AreBeyond k es
 all_beyond [] s t k same later few = tt
 all_beyond (brings c ∷ es) s t k (begins, (is, more)) later few = all_beyond es (behind (brings c) s) t k more later few
-all_beyond (hears r ∷ es) s t k (begins, (is, more)) later few =
-    (each_later r.to.key k r.done (prefix_trans r.to.key.seen t.talk.key.seen k.seen (key_on es (behind (hears r) s) t more) later) few (round_beyond r is),
-    all_beyond es (behind (hears r) s) t k more later few)
+all_beyond (hears r ∷ es) s t k (begins, (is, more)) later few = (
+  each_later r.to.key k r.done (prefix_trans r.to.key.seen t.talk.key.seen k.seen (key_on es (behind (hears r) s) t more) later) few (round_beyond r is),
+  all_beyond es (behind (hears r) s) t k more later few,
+)

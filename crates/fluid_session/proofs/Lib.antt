@@ -9,3 +9,4 @@ pub mod Keys
 pub mod Doorways
 pub mod Leavings
 pub mod Wholly
+pub mod Completed

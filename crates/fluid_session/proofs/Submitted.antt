@@ -31,7 +31,7 @@ use Rattle.fluid_talk.specs.Doing.{Did, AreDone, acts_in, ends_in, steps_in}
 use Rattle.fluid_talk.specs.Hearing.{Does}
 use Rattle.fluid_session.specs.Events.{Event, Stand, Round, IsRound, AreWhole, AreEvents, behind}
 use Rattle.fluid_session.specs.Events.Event.{brings, hears}
-use Rattle.fluid_session.specs.Lines.{entered, entered_in, tried_in, subs_in, AreFronts, MayBreakLast}
+use Rattle.fluid_session.specs.Lines.{entered, tried_in, subs_in, AreFronts, MayBreakLast}
 use Rattle.fluid_session.proofs.Passes.{goes_on}
 use Rattle.fluid_session.proofs.Fronts.{front_behind, front_last}
 
@@ -82,7 +82,7 @@ of_read_writing : (name own : List ℕ) (next moment : ℕ) (read : Read Spelled
 of_read_writing name own next moment (Ok e) = of_writing name own next moment e
 of_read_writing name own next moment (Err fault) = (tt, tt)
 
-no_connects : (s : VoiceState) (text : List ℕ) (moment : ℕ) → is_connected s ≡ true → NoConnects (acts_of s text moment)
+pub no_connects : (s : VoiceState) (text : List ℕ) (moment : ℕ) → is_connected s ≡ true → NoConnects (acts_of s text moment)
 unfolding acts_of
 no_connects Fresh text moment joined = absurd (false≢true joined)
 no_connects (Reading name next) text moment joined = of_read_reading name next moment (event_spelled text)
