@@ -26,8 +26,11 @@ use Rattle.fluid_lane.specs.declared.steps.Step.{Step}
 use Rattle.fluid_lane.specs.declared.steps.Step.TheVariants.{Entered}
 use Rattle.fluid_lane.specs.declared.fault.LaneFault.{LaneFault}
 use Rattle.fluid_lane.specs.declared.fault.LaneFault.TheVariants as lane
-use Rattle.fluid_lane.specs.Steps.{ledger}
+use Rattle.fluid_lane.specs.Steps.{ledger, steps_of}
 use Rattle.fluid_lane.proofs.Listed.{ledger-append}
+use Rattle.fluid_doors.specs.Terms.{Doorway}
+use Rattle.fluid_doors.specs.Passing.{APass, Grows}
+use Rattle.fluid_doors.specs.Entering.{Joins, joined_as}
 use Rattle.fluid_doors.specs.Looking.{SuitsLook}
 use Rattle.fluid_service.specs.Visiting.{Visiting}
 use Rattle.fluid_voice.specs.declared.actions.Act.{Act}
@@ -47,6 +50,7 @@ use Rattle.fluid_connection.specs.Knowing.{knowing}
 use Rattle.fluid_connection.specs.Entering.{joined, looked, DoesOne, DoesAs}
 use Rattle.fluid_connection.specs.Connecting.{act_of, IsAheadIn, Greets, MaySettle}
 use Rattle.fluid_connection.proofs.Hears.{behind_later}
+use Rattle.fluid_connection.proofs.Joining.{joins}
 
 -- ---- which ends and faults a door has
 
@@ -162,3 +166,37 @@ greeted_settled c visit now answer named h = record {
     by : (r : Result ActEnd TalkFault) → DoesAs (knowing visit.door.name visit.pass) (knowing now.door.name now.pass) (act_of c) r → IfOk r (IsAheadIn c.write (knowing now.door.name now.pass))
     by (Ok e) one = ahead_of (knowing visit.door.name visit.pass) (knowing now.door.name now.pass) c e one
     by (Err fault) failed = tt
+
+-- ---- a visit behind asking its document
+
+pub greets_join : (c : Connect) (visit now : Visiting) (door : Doorway) (p q : APass) (r : Result (List ℕ × Message) LaneFault) → door ≡ visit.door → p ≡ visit.pass → now ≡ record { door = door; pass = q }
+    → p.turn ≡ door.turn → c.write ≡ true → Grows p q (steps_of (joined_as c.scopes c.detail c.moment) r) (Joins door.turn.fixed c.scopes c.detail c.moment r) → Greets c visit now (joined r)
+greets_join c visit now door p q r is_door is_pass is_now turn write grows =
+    let grown = subst (λ t. Grows p q (steps_of (joined_as c.scopes c.detail c.moment) r) (Joins t.fixed c.scopes c.detail c.moment r)) (sym turn) grows in
+    let ends = joined_ends visit.door.name c.name c.write c.scopes c.detail c.moment r in
+    subst (λ n. Greets c visit n (joined r)) (sym is_now) (record {
+      door = is_door;
+      few = grows.few;
+      does =
+          subst (λ d. DoesAs (knowing d.name visit.pass) (knowing door.name q) (act_of c) (joined r)) is_door
+          (subst (λ k. DoesAs (knowing door.name k) (knowing door.name q) (act_of c) (joined r)) is_pass
+          (subst (λ w. DoesAs (knowing door.name p) (knowing door.name q) (act.Connect c.name w c.scopes c.detail c.moment) (joined r)) (sym write)
+          (joins door.name c.name p q c.scopes c.detail c.moment r grown)));
+      ends = ends.0;
+      faults = ends.1;
+    })
+
+pub greets_read : (c : Connect) (visit now : Visiting) (door : Doorway) (p q : APass) (a : Act) (r : Result ActEnd TalkFault) → door ≡ visit.door → p ≡ visit.pass → now ≡ record { door = door; pass = q }
+    → a ≡ act_of c → length q.seen ≤ most → (answer : Result ActEnd DeltaFault) → r ≡ looked answer → IfOk answer (SuitsLook a) → DoesAs (knowing door.name p) (knowing door.name q) a r → Greets c visit now r
+greets_read c visit now door p q a r is_door is_pass is_now is_act few answer is suits does =
+    let ends = looked_ends visit.door.name c.name c.write c.scopes c.detail c.moment answer (subst (λ b. IfOk answer (SuitsLook b)) is_act suits) in
+    subst (λ n. Greets c visit n r) (sym is_now) (record {
+      door = is_door;
+      few = few;
+      does =
+          subst (λ d. DoesAs (knowing d.name visit.pass) (knowing door.name q) (act_of c) r) is_door
+          (subst (λ k. DoesAs (knowing door.name k) (knowing door.name q) (act_of c) r) is_pass
+          (subst (λ b. DoesAs (knowing door.name p) (knowing door.name q) b r) is_act does));
+      ends = subst (λ x. IfOk x (IsConnectEnd (Some visit.door.name) (act_of c))) (sym is) ends.0;
+      faults = subst (λ x. IfErr x (λ fault. IsFaultOf (Some visit.door.name) (Some fault))) (sym is) ends.1;
+    })

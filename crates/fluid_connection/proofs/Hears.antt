@@ -14,7 +14,10 @@ use Rattle.fluid_lane.specs.declared.steps.Step.{Step}
 use Rattle.fluid_lane.specs.Steps.{ledger}
 use Rattle.fluid_lane.proofs.Listed.{ledger-append}
 use Rattle.fluid_codec.specs.declared.replies.Reply.{Reply}
+use Rattle.fluid_doors.specs.Terms.{Doorway}
+use Rattle.fluid_doors.specs.Passing.{APass}
 use Rattle.fluid_service.specs.Visiting.{Visiting}
+use Rattle.fluid_service.specs.Keys.{AKey}
 use Rattle.fluid_voice.specs.declared.states.VoiceState.{VoiceState}
 use Rattle.fluid_voice.specs.declared.states.VoiceState.TheVariants.{Fresh, Reading, Writing, Used}
 use Rattle.fluid_voice.specs.declared.actions.Act.{Act}
@@ -308,3 +311,20 @@ hears_entries s p q store acts told fault subs h =
       };
       counts = h.counts;
     }
+
+-- ---- a visit behind them
+
+pub visit_hears : (s : VoiceState) (visit now : Visiting) (door : Doorway) (p q : APass) (a b : Storing) (acts : List Act) (told : ATold) (fault : Option TalkFault) → door ≡ visit.door → p ≡ visit.pass
+    → now ≡ record { door = door; pass = q } → HearsActs s (knowing door.name p) (knowing door.name q) a b acts told fault
+    → HearsActs s (knowing visit.door.name visit.pass) (knowing now.door.name now.pass) a b acts told fault
+visit_hears s visit now door p q a b acts told fault is_door is_pass is_now h =
+    subst (λ n. HearsActs s (knowing visit.door.name visit.pass) (knowing n.door.name n.pass) a b acts told fault) (sym is_now)
+    (subst (λ d. HearsActs s (knowing d.name visit.pass) (knowing door.name q) a b acts told fault) is_door
+    (subst (λ k. HearsActs s (knowing door.name k) (knowing door.name q) a b acts told fault) is_pass h))
+
+-- a connected one behind its acts
+pub hears_talk : (v w : VoiceState) (k : AKey) (visit now : Visiting) (handed : Option Visiting) (a b : Storing) (acts : List Act) (told : ATold) (fault : Option TalkFault)
+    → IsTalk (record { voice = v; key = k; visit = Some visit; handed = handed }) → w ≡ v → (length visit.pass.seen ≤ most → length now.pass.seen ≤ most)
+    → HearsActs v (knowing visit.door.name visit.pass) (knowing now.door.name now.pass) a b acts told fault → IsTalk (record { voice = w; key = k; visit = Some now; handed = handed })
+hears_talk v w k visit now handed a b acts told fault is same few h =
+    talk_goes (record { voice = v; key = k; visit = Some visit; handed = handed }) (record { voice = w; key = k; visit = Some now; handed = handed }) _ is same h.does.goes few

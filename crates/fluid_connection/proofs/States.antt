@@ -42,7 +42,7 @@ fresh_of Used off unused = false_true (sym unused)
 -- ---- one that was connected
 
 some_behind : (last : ℕ) → 0 < number_behind last
-some_behind last = le-min {1} {last + 1} {2 ^ 64 - 1} (omega arith) (omega arith)
+some_behind last = le-min {k = 1} {a = last + 1} {b = 2 ^ 64 - 1} (omega arith) (omega arith)
 
 pub settled_talk : (name : List ℕ) (write : Bool) (visit : Visiting) (e : ActEnd) (key : AKey) (handed : Option Visiting) → MaySettle name write visit (Ok e)
     → IsTalk (record { voice = connect_state name write Fresh e; key = key; visit = Some visit; handed = handed })
