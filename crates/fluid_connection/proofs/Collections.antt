@@ -103,7 +103,7 @@ module _ (name : List ℕ) (p m q : Knowing) (from next : ℕ) (old new : List R
       let was = brings.told told in
       let now = batched told in
       let front : fed old ≡ slice (order_of q.seen) from next =
-          was.is ∙ sym (slice-grows (order_of m.seen) grown.0 from next first ordered was.within) ∙ ap (λ o. slice o from next) (sym grown.1) in
+      was.is ∙ sym (slice-grows (order_of m.seen) grown.0 from next first ordered was.within) ∙ ap (λ o. slice o from next) (sym grown.1) in
       let to : s.next ≡ next + length takes.messages = takes.puts.next in
       record {
         is = fed_is ∙ ap (λ ms. ms ++ takes.messages) front ∙ ap (λ ms. slice (order_of q.seen) from next ++ ms) now.stretch

@@ -78,7 +78,10 @@ where
         ensures visit { result.1 ≡ option_or self.visit self.handed }
     {
         let Talk {
-            key, visit, handed, ..
+            key,
+            visit,
+            handed,
+            ..
         } = self;
         match visit {
             Some(visit) => (key, Some(visit)),

@@ -27,8 +27,7 @@ slices-preserved g c =
     let p = knowing name c.args.pass in
     let m = knowing name c.slices.pass in
     let q = knowing name c.collect_next-back.result.0 in
-    let takes = subst (λ r. TakesNext name m q c.slices.next c.slices.replies.items c.collect_next-back.new.replies.items r) c.in-Ok.is c.collect_next-back.ensures.does in
-    (
+    let takes = subst (λ r. TakesNext name m q c.slices.next c.slices.replies.items c.collect_next-back.new.replies.items r) c.in-Ok.is c.collect_next-back.ensures.does in (
       tt,
       tt,
       c.collect_next-back.ensures.turn,

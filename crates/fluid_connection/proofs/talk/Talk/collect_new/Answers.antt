@@ -33,7 +33,7 @@ pub invariant_of-self : goal.invariant_of-self
 invariant_of-self g c =
     let t : Talked = record { voice = c.self.inside.voice; key = c.self.inside.key; visit = c.self.inside.visit; handed = c.self.inside.handed } in
     let fails : FailsToCollect (visited c.in-Some.visit) (visited c.collect_all-visit.result.0) c.in_err-replies.field-0.0 =
-        subst (λ r. CollectsAll c.in-Some.visit.door.name (visited c.in-Some.visit) (visited c.collect_all-visit.result.0) c.args.next r) c.in_err-replies.was c.collect_all-visit.ensures.does in
+    subst (λ r. CollectsAll c.in-Some.visit.door.name (visited c.in-Some.visit) (visited c.collect_all-visit.result.0) c.args.next r) c.in_err-replies.was c.collect_all-visit.ensures.does in
     (behind_stays t c.in-Some.visit c.collect_all-visit.result.0 c.self.invariant.0 (sym c.take.ensures.value ∙ c.in-Some.is) c.collect_all-visit.ensures.back _ fails.goes, tt)
 
 pub returns-in_err-replies-clause-key : goal.returns-in_err-replies-clause-key
@@ -44,7 +44,7 @@ returns-in_err-replies-clause-does g c =
     let t : Talked = record { voice = c.self.inside.voice; key = c.self.inside.key; visit = c.self.inside.visit; handed = c.self.inside.handed } in
     let u : Talked = standing c.self.inside.voice c.self.inside.key c.collect_all-visit.result.0 c.self.inside.handed in
     let fails : FailsToCollect (visited c.in-Some.visit) (visited c.collect_all-visit.result.0) c.in_err-replies.field-0.0 =
-        subst (λ r. CollectsAll c.in-Some.visit.door.name (visited c.in-Some.visit) (visited c.collect_all-visit.result.0) c.args.next r) c.in_err-replies.was c.collect_all-visit.ensures.does in
+    subst (λ r. CollectsAll c.in-Some.visit.door.name (visited c.in-Some.visit) (visited c.collect_all-visit.result.0) c.args.next r) c.in_err-replies.was c.collect_all-visit.ensures.does in
     let e = err_from_is_err_and c.from_residual.result c.from_residual.ensures.1 in
     subst (λ r. CollectsBy (talking c.args.self.now) (talking u) r) (sym e.1)
     (subst (λ f. FailsAs (talking c.args.self.now) (talking u) IsCollectCause f) (sym e.2)
@@ -56,9 +56,8 @@ invariant_of-self-2 g c =
     let t : Talked = record { voice = c.self.inside.voice; key = c.self.inside.key; visit = c.self.inside.visit; handed = c.self.inside.handed } in
     let joined : is_connected c.self.inside.voice ≡ true = ap (λ (s : Talked). is_connected s.voice) c.self.view_is ∙ c.requires.connected in
     let all : BringsAll c.in-Some.visit.door.name (visited c.in-Some.visit) (visited c.collect_all-visit.result.0) (next_number c.self.inside.voice) c.in_ok-replies.field-0 =
-        subst (λ n. BringsAll c.in-Some.visit.door.name (visited c.in-Some.visit) (visited c.collect_all-visit.result.0) n c.in_ok-replies.field-0) (c.requires.next ∙ sym (ap (λ (s : Talked). next_number s.voice) c.self.view_is))
-            (subst (λ r. CollectsAll c.in-Some.visit.door.name (visited c.in-Some.visit) (visited c.collect_all-visit.result.0) c.args.next r) c.in_ok-replies.was c.collect_all-visit.ensures.does) in
-    (
+    subst (λ n. BringsAll c.in-Some.visit.door.name (visited c.in-Some.visit) (visited c.collect_all-visit.result.0) n c.in_ok-replies.field-0) (c.requires.next ∙ sym (ap (λ (s : Talked). next_number s.voice) c.self.view_is))
+    (subst (λ r. CollectsAll c.in-Some.visit.door.name (visited c.in-Some.visit) (visited c.collect_all-visit.result.0) c.args.next r) c.in_ok-replies.was c.collect_all-visit.ensures.does) in (
       behind_talk t c.in-Some.visit c.collect_all-visit.result.0 c.self.invariant.0 (sym c.take.ensures.value ∙ c.in-Some.is) c.collect_all-visit.ensures.back joined c.in_ok-replies.field-0 all c.advance.new.self c.advance.ensures,
       behind_delivered t c.in-Some.visit c.collect_all-visit.result.0 c.self.invariant.0 (sym c.take.ensures.value ∙ c.in-Some.is) c.collect_all-visit.ensures.back joined c.in_ok-replies.field-0 all c.advance.new.self c.advance.ensures c.in_ok-replies.field-0.steps,
     )
@@ -72,7 +71,7 @@ returns-clause-does g c =
     let u : Talked = standing c.advance.new.self c.self.inside.key c.collect_all-visit.result.0 c.self.inside.handed in
     let joined : is_connected c.self.inside.voice ≡ true = ap (λ (s : Talked). is_connected s.voice) c.self.view_is ∙ c.requires.connected in
     let all : BringsAll c.in-Some.visit.door.name (visited c.in-Some.visit) (visited c.collect_all-visit.result.0) (next_number c.self.inside.voice) c.in_ok-replies.field-0 =
-        subst (λ n. BringsAll c.in-Some.visit.door.name (visited c.in-Some.visit) (visited c.collect_all-visit.result.0) n c.in_ok-replies.field-0) (c.requires.next ∙ sym (ap (λ (s : Talked). next_number s.voice) c.self.view_is))
-            (subst (λ r. CollectsAll c.in-Some.visit.door.name (visited c.in-Some.visit) (visited c.collect_all-visit.result.0) c.args.next r) c.in_ok-replies.was c.collect_all-visit.ensures.does) in
+    subst (λ n. BringsAll c.in-Some.visit.door.name (visited c.in-Some.visit) (visited c.collect_all-visit.result.0) n c.in_ok-replies.field-0) (c.requires.next ∙ sym (ap (λ (s : Talked). next_number s.voice) c.self.view_is))
+    (subst (λ r. CollectsAll c.in-Some.visit.door.name (visited c.in-Some.visit) (visited c.collect_all-visit.result.0) c.args.next r) c.in_ok-replies.was c.collect_all-visit.ensures.does) in
     subst (λ (s : Talked). Feeds (talking s) (talking u) c.new.result) c.self.view_is
     (behind_feeds t c.in-Some.visit c.collect_all-visit.result.0 c.self.invariant.0 (sym c.take.ensures.value ∙ c.in-Some.is) c.collect_all-visit.ensures.back joined c.in_ok-replies.field-0 all c.advance.new.self c.advance.ensures c.new.result c.new.ensures)
