@@ -1,13 +1,11 @@
 -- What a connection collects, slice by slice.
-use Rattle.std.proofs.Common.{◌≡◌, ◌∙◌, ℕ, ◌+◌, ◌<◌, ◌≤◌, Bool, true, false, List, [], ◌∷◌, ◌++◌, length, map, All, Option, Some, None, Result, Ok, Err, append-nil, refl, sym, ap, subst, arith, length-append}
+use Rattle.std.proofs.Common.{◌≡◌, ◌∙◌, ℕ, ◌+◌, ◌<◌, ◌≤◌, Bool, true, false, List, [], ◌++◌, length, All, Result, Ok, Err, append-nil, refl, sym, ap, subst, arith, length-append}
 use Rattle.fluid_document.specs.Entries.{most}
 use Rattle.std.proofs.lemmas.List.Elements.{All-nil, All-append}
-use Rattle.fluid_turn.specs.declared.view.Numbered.{Numbered}
 use Rattle.fluid_types.specs.declared.messages.Message.{Message}
 use Rattle.fluid_types.specs.Order.{AreNumberedFrom}
 use Rattle.fluid_types.proofs.Numbers.{numbered_same, numbered_append}
 use Rattle.fluid_deltas.specs.Pushed.{slice}
-use Rattle.fluid_deltas.specs.Ranges.{AreNumbersOf}
 use Rattle.fluid_deltas.specs.declared.fault.DeltaFault.{DeltaFault}
 use Rattle.fluid_deltas.specs.declared.fault.DeltaFault.TheVariants.{DeltaFailed, NoMemory, BadDelta, Worn}
 use Rattle.fluid_lane.specs.declared.steps.Step.{Step}
@@ -18,15 +16,14 @@ use Rattle.fluid_doors.specs.Collecting.{batch, Collects}
 use Rattle.fluid_codec.specs.declared.replies.Reply.{Reply}
 use Rattle.fluid_voice.specs.Feed.{fed, IsEventOf, most_in_event}
 use Rattle.fluid_ends.specs.declared.fault.TalkFault.{TalkFault}
-use Rattle.fluid_ends.specs.declared.fault.TalkFault.TheVariants as talk
 use Rattle.fluid_ends.specs.Faults.{of_delta}
-use Rattle.fluid_talk.specs.Talking.{Knowing, Goes, order_of, number_behind_last}
+use Rattle.fluid_talk.specs.Talking.{Knowing, order_of, number_behind_last}
 use Rattle.fluid_service.specs.Visiting.{Visiting}
 use Rattle.fluid_connection.specs.Knowing.{knowing}
 use Rattle.fluid_connection.specs.Talked.{visited}
 use Rattle.fluid_connection.specs.declared.collecting.Slice.{Slice}
 use Rattle.fluid_connection.specs.declared.collecting.Collected.{Collected}
-use Rattle.fluid_connection.specs.Slices.{event_of, PutsEvent, PutsAnswer, TakesSlice, FailsToCollect, TakesNext, IsStretch, Brings, BringsAll, CollectsAll, ComesBack}
+use Rattle.fluid_connection.specs.Slices.{event_of, PutsAnswer, TakesSlice, FailsToCollect, TakesNext, IsStretch, Brings, CollectsAll, ComesBack}
 use Rattle.fluid_connection.proofs.Passes.{goes_with, long_seen}
 use Rattle.fluid_connection.proofs.Passings.{goes_on, goes_nowhere}
 use Rattle.fluid_connection.proofs.Stretches.{order-prefix, slice-none, slice-grows, slice-joins, IsBatch, batch-is, fed-append, fed-event, event-whole}

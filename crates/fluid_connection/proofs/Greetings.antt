@@ -1,11 +1,9 @@
 -- What a document answers to a connect.
-use Rattle.std.proofs.Common.{◌≡◌, ◌∙◌, ◌⊎◌, inl, inr, ℕ, ◌+◌, ◌-◌, ◌<◌, ◌≤◌, ◌^◌, min, Bool, true, false, if◌then◌else◌, List, [], ◌∷◌, ◌++◌, length, map, Option, Some, None, Result, Ok, Err, IfOk, IfErr, append-nil, length-append, refl, sym, ap, subst, arith}
+use Rattle.std.proofs.Common.{◌≡◌, ◌∙◌, ℕ, ◌+◌, ◌-◌, ◌≤◌, ◌^◌, Bool, true, false, if◌then◌else◌, List, ◌++◌, length, map, Some, None, Result, Ok, Err, IfOk, IfErr, append-nil, refl, sym, ap, subst, arith}
 use Rattle.std.specs.FinMap.{empty}
 use Rattle.std.proofs.Math.Nat.{min-le_left}
 use Rattle.fluid_json.specs.Tree.{Tree}
-use Rattle.fluid_turn.specs.declared.view.Numbered.{Numbered}
 use Rattle.fluid_turn.specs.Entries.{by_seat, entries}
-use Rattle.fluid_turn.proofs.Lists.{entries-append}
 use Rattle.fluid_types.specs.Ledger.{Ledger, order, seq}
 use Rattle.fluid_types.specs.Names.{entry_name}
 use Rattle.fluid_types.specs.declared.entries.Scopes.{Scopes}
@@ -13,21 +11,16 @@ use Rattle.fluid_types.specs.declared.entries.Raw.{Raw}
 use Rattle.fluid_types.specs.declared.messages.Message.{Message}
 use Rattle.fluid_types.specs.declared.verdicts.Verdict.{Verdict}
 use Rattle.fluid_types.specs.declared.verdicts.Verdict.TheVariants as verdict
-use Rattle.fluid_types.proofs.Ledgers.{order-append}
 use Rattle.fluid_rules.specs.Rules.{verdict as verdict_of}
 use Rattle.fluid_rules.specs.Counted.{is_full, has_too_many_clients}
 use Rattle.fluid_rules.proofs.Verdicts.{verdict-is_message, message-number}
 use Rattle.fluid_document.specs.Entries.{most}
 use Rattle.fluid_deltas.specs.declared.fault.DeltaFault.{DeltaFault}
 use Rattle.fluid_deltas.specs.declared.fault.DeltaFault.TheVariants as delta
-use Rattle.fluid_store.specs.Held.{Held}
 use Rattle.fluid_store.specs.Storing.{Storing}
-use Rattle.fluid_lane.specs.declared.steps.Step.{Step}
-use Rattle.fluid_lane.specs.declared.steps.Step.TheVariants.{Entered}
 use Rattle.fluid_lane.specs.declared.fault.LaneFault.{LaneFault}
 use Rattle.fluid_lane.specs.declared.fault.LaneFault.TheVariants as lane
-use Rattle.fluid_lane.specs.Steps.{ledger, steps_of}
-use Rattle.fluid_lane.proofs.Listed.{ledger-append}
+use Rattle.fluid_lane.specs.Steps.{steps_of}
 use Rattle.fluid_doors.specs.Terms.{Doorway}
 use Rattle.fluid_doors.specs.Passing.{APass, Grows}
 use Rattle.fluid_doors.specs.Entering.{Joins, joined_as}
@@ -38,11 +31,9 @@ use Rattle.fluid_voice.specs.declared.actions.Act.TheVariants as act
 use Rattle.fluid_voice.specs.declared.ends.ActEnd.{ActEnd}
 use Rattle.fluid_voice.specs.declared.ends.ActEnd.TheVariants as end
 use Rattle.fluid_voice.specs.States.{number_behind}
-use Rattle.fluid_voice.specs.Ends.{Outcome, outcome, join_of, join_end, joined_by}
+use Rattle.fluid_voice.specs.Ends.{Outcome, join_of, join_end, joined_by}
 use Rattle.fluid_voice.specs.Ends.Outcome.{ends}
 use Rattle.fluid_ends.specs.declared.fault.TalkFault.{TalkFault}
-use Rattle.fluid_ends.specs.Asking.{found_in}
-use Rattle.fluid_ends.specs.Faults.{refused_by, of_delta}
 use Rattle.fluid_talk.specs.Talking.{Knowing, ledger_of, order_of, number_behind_last}
 use Rattle.fluid_talk.specs.Hearing.{IsConnectEnd, IsFaultOf}
 use Rattle.fluid_connection.specs.declared.connecting.Connect.{Connect}

@@ -1,17 +1,14 @@
 -- What a join through a door does, as a connection knows it.
-use Rattle.std.proofs.Common.{◌≡◌, ◌∙◌, inl, inr, ◌⊎◌, ℕ, Bool, true, false, nat_le, List, [], ◌∷◌, length, Result, Ok, Err, if◌then◌else◌, append-nil, refl, sym, ap, subst}
-use Rattle.std.specs.FinMap.{empty}
+use Rattle.std.proofs.Common.{◌≡◌, ◌∙◌, inl, inr, ℕ, Bool, true, false, List, [], ◌∷◌, length, Result, Ok, Err, if◌then◌else◌, append-nil, refl, sym, ap, subst}
 use Rattle.fluid_json.specs.Tree.{Tree}
 use Rattle.fluid_turn.specs.Entries.{entries}
 use Rattle.fluid_types.specs.Names.{entry_name}
 use Rattle.fluid_types.specs.declared.entries.Scopes.{Scopes}
 use Rattle.fluid_types.specs.declared.entries.Raw.TheVariants.{Join}
 use Rattle.fluid_types.specs.declared.messages.Message.{Message}
-use Rattle.fluid_types.specs.declared.verdicts.Verdict.{Verdict}
 use Rattle.fluid_types.specs.declared.verdicts.Verdict.TheVariants.{Sequenced}
-use Rattle.fluid_rules.specs.Rules.{verdict, joined as joined_in}
-use Rattle.fluid_rules.specs.Counted.{counted, has_too_many_clients}
-use Rattle.fluid_document.specs.Entries.{most}
+use Rattle.fluid_rules.specs.Rules.{verdict}
+use Rattle.fluid_rules.specs.Counted.{has_too_many_clients}
 use Rattle.fluid_store.specs.Held.{Held}
 use Rattle.fluid_lane.specs.declared.steps.Step.{Step}
 use Rattle.fluid_lane.specs.declared.fault.LaneFault.{LaneFault}
@@ -22,7 +19,7 @@ use Rattle.fluid_lane.specs.Steps.{ledger, asides, steps_of, fault_steps}
 use Rattle.fluid_doors.specs.declared.bench.Terms.{Terms}
 use Rattle.fluid_doors.specs.Passing.{APass, Grows}
 use Rattle.fluid_doors.specs.Answers.{is_worn_behind, IsRuled}
-use Rattle.fluid_doors.specs.Entering.{is_full_at, has_too_many_at, IsJoinFault, Joins, joined_as}
+use Rattle.fluid_doors.specs.Entering.{is_full_at, IsJoinFault, Joins, joined_as}
 use Rattle.fluid_voice.specs.declared.actions.Act.{Act}
 use Rattle.fluid_voice.specs.declared.actions.Act.TheVariants as act
 use Rattle.fluid_voice.specs.declared.ends.ActEnd.{ActEnd}
@@ -95,7 +92,7 @@ module _ (name own : List ℕ) (p q : APass) (scopes : Scopes) (detail : Tree) (
             let tells = grows.says.answers.told told in
             let passes = joins_pass p.turn.fixed own scopes detail moment (entries grows.before) _ _ (id, message) (tells.ruled open_) in
             join_by p.turn.fixed own scopes detail moment (entries grows.before) held false false passes.0 (grows.says.limited told ∙ passes.1)
-                ∙ ap ends (joined_right p.turn.fixed own scopes detail moment (entries grows.before) id message tells.is_right.0 tells.is_right.1);
+            ∙ ap ends (joined_right p.turn.fixed own scopes detail moment (entries grows.before) id message tells.is_right.0 tells.is_right.1);
         limit = tt;
       }
 

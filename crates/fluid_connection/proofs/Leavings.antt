@@ -1,5 +1,5 @@
 -- What entering a leave does.
-use Rattle.std.proofs.Common.{◌≡◌, ◌∙◌, ℕ, true, false, List, [], Result, Ok, Err, refl, sym, ap, subst}
+use Rattle.std.proofs.Common.{◌≡◌, ◌∙◌, ℕ, false, List, Result, Ok, Err, refl, sym, subst}
 use Rattle.std.proofs.lemmas.Bool.{false≢true}
 use Rattle.fluid_turn.specs.Entries.{entries}
 use Rattle.fluid_types.specs.Fits.{Fits}
@@ -20,12 +20,11 @@ use Rattle.fluid_voice.specs.declared.actions.Act.TheVariants as act
 use Rattle.fluid_voice.specs.declared.ends.ActEnd.{ActEnd}
 use Rattle.fluid_service.specs.Visiting.{Visiting}
 use Rattle.fluid_ends.specs.declared.fault.TalkFault.{TalkFault}
-use Rattle.fluid_ends.specs.declared.fault.TalkFault.TheVariants as talk
 use Rattle.fluid_talk.specs.Talking.{Goes}
 use Rattle.fluid_connection.specs.Knowing.{knowing}
 use Rattle.fluid_connection.specs.Talked.{visited}
 use Rattle.fluid_connection.specs.Entering.{ended}
-use Rattle.fluid_connection.specs.Leaving.{IsLeave, EntersLeaving, FailsToLeave, EntersBy}
+use Rattle.fluid_connection.specs.Leaving.{IsLeave, EntersBy}
 use Rattle.fluid_connection.proofs.Passes.{goes_with, fault_open, worn_seen}
 
 leave_uncounted : (raw : Raw) → IsLeave raw → is_counted raw ≡ false

@@ -1,10 +1,9 @@
 -- A connect: what comes of it, whether its document was reached or not.
-use Rattle.std.proofs.Common.{◌≡◌, ◌∙◌, ◌⊎◌, inl, inr, ℕ, ◌+◌, ◌<◌, ◌≤◌, Bool, true, false, List, [], ◌∷◌, ◌++◌, length, map, Option, Some, None, if◌then◌else◌, Result, Ok, Err, IfSome, append-nil, All, IfOk, refl, sym, ap, subst, arith}
+use Rattle.std.proofs.Common.{◌≡◌, ◌∙◌, ◌⊎◌, inl, inr, ℕ, Bool, true, false, List, [], ◌∷◌, ◌++◌, Option, Some, None, if◌then◌else◌, Result, Ok, Err, IfSome, append-nil, All, IfOk, refl, sym, ap, subst, arith}
 use Rattle.std.proofs.lemmas.List.Elements.{All-head}
 use Rattle.fluid_json.specs.declared.memory.NoMemory.{NoMemory as Refused}
 use Rattle.fluid_types.specs.Names.{entry_name}
 use Rattle.fluid_types.proofs.EntryNames.{entry_name-is_name}
-use Rattle.fluid_turn.specs.Entries.{IsPrefix, by_seat}
 use Rattle.fluid_store.specs.Storing.{Storing}
 use Rattle.fluid_codec.specs.declared.replies.Reply.{Reply}
 use Rattle.fluid_lane.specs.declared.steps.Step.{Step}
@@ -12,9 +11,7 @@ use Rattle.fluid_opening.specs.declared.opening.TheConstants.{MOST_DOCUMENTS}
 use Rattle.fluid_opening.specs.declared.fault.DoorFault.{DoorFault}
 use Rattle.fluid_opening.specs.declared.fault.DoorFault.TheVariants as door
 use Rattle.fluid_service.specs.Visiting.{Visiting}
-use Rattle.fluid_service.specs.Keys.{AKey}
 use Rattle.fluid_voice.specs.declared.refusals.ConnectRefusal.TheVariants.{TooManyDocuments}
-use Rattle.fluid_voice.specs.declared.states.VoiceState.{VoiceState}
 use Rattle.fluid_voice.specs.declared.states.VoiceState.TheVariants.{Fresh}
 use Rattle.fluid_voice.specs.declared.actions.Act.{Act}
 use Rattle.fluid_voice.specs.declared.actions.Act.TheVariants as act
@@ -22,25 +19,25 @@ use Rattle.fluid_voice.specs.declared.ends.ActEnd.{ActEnd}
 use Rattle.fluid_voice.specs.declared.ends.ActEnd.TheVariants.{Said, Joined, Told, Entered, FullNow, TooMany, Given}
 use Rattle.fluid_voice.specs.States.{is_connected, is_used}
 use Rattle.fluid_voice.specs.Refusals.{refused}
-use Rattle.fluid_voice.specs.Suits.{Suits, SuitsConnect}
+use Rattle.fluid_voice.specs.Suits.{SuitsConnect}
 use Rattle.fluid_voice.specs.Fitting.{IsFitting}
-use Rattle.fluid_voice.specs.Replies.{connect_replies, connect_state, replies_to, entered_verdict}
+use Rattle.fluid_voice.specs.Replies.{connect_replies, connect_state, entered_verdict}
 use Rattle.fluid_ends.specs.declared.fault.TalkFault.{TalkFault}
 use Rattle.fluid_ends.specs.declared.fault.TalkFault.TheVariants.{Door, Lane, Delta, Store, NoMemory}
 use Rattle.fluid_ends.specs.Adding.{AddsBy}
 use Rattle.fluid_talk.specs.Talking.{Knowing, Talking, Goes}
 use Rattle.fluid_talk.specs.Doing.{Did, steps_in, may_steps, seen_behind, IsSeenLast, AreFound, AreAnswered}
 use Rattle.fluid_talk.specs.Causes.{IsDoorFault, IsNoMemory, IsCauseOf, IsCauseAt}
-use Rattle.fluid_talk.specs.Shelves.{KeepsKey, OpensFor, IsRefusedDoor}
-use Rattle.fluid_talk.specs.Hearing.{AreReplies, KeyBehind, IsConnectEnd, IsFaultOf, Reaches, HearsApart}
+use Rattle.fluid_talk.specs.Shelves.{KeepsKey, IsRefusedDoor}
+use Rattle.fluid_talk.specs.Hearing.{AreReplies, KeyBehind, IsConnectEnd, IsFaultOf, Reaches}
 use Rattle.fluid_connection.specs.declared.connecting.Connect.{Connect}
 use Rattle.fluid_connection.specs.declared.telling.Told.{Told as ATold}
-use Rattle.fluid_connection.specs.Knowing.{knowing, keyed}
+use Rattle.fluid_connection.specs.Knowing.{knowing}
 use Rattle.fluid_connection.specs.Talked.{Talked, pass_of, talking}
 use Rattle.fluid_connection.specs.Telling.{no_counts, SaysOne}
 use Rattle.fluid_connection.specs.Entering.{did_of, DoesOne, FailsOne}
 use Rattle.fluid_connection.specs.Hearing.{HearsOther}
-use Rattle.fluid_connection.specs.Connecting.{act_of, FitsJoin, ReachesVisit, Greets, IsSaid, IsRefused, SettlesBy}
+use Rattle.fluid_connection.specs.Connecting.{act_of, FitsJoin, ReachesVisit, Greets, IsRefused, SettlesBy}
 use Rattle.fluid_connection.proofs.Running.{answered_same, no_replies}
 use Rattle.fluid_connection.proofs.Questions.{not_counted, full_alone}
 

@@ -1,12 +1,11 @@
 -- What a collection and a leave make of a connection.
-use Rattle.std.proofs.Common.{◌≡◌, ◌∙◌, ℕ, ◌+◌, ◌<◌, ◌≤◌, max, Bool, true, false, List, [], length, All, Option, Some, None, is_some, option_map, IfSome, Result, Ok, Err, refl, sym, ap, subst, arith, length-append}
+use Rattle.std.proofs.Common.{◌≡◌, ◌∙◌, ℕ, ◌+◌, ◌≤◌, max, true, false, List, [], length, All, Option, Some, None, is_some, option_map, Result, Ok, refl, sym, ap, subst, arith, length-append}
 use Rattle.std.proofs.lemmas.List.Elements.{All-nil}
 use Rattle.std.proofs.lemmas.Bool.{false≢true}
 use Rattle.fluid_turn.specs.Entries.{made_by}
 use Rattle.fluid_rules.specs.Rules.{IsLegal}
 use Rattle.fluid_types.specs.declared.entries.Raw.{Raw}
 use Rattle.fluid_types.specs.declared.entries.Raw.TheVariants.{Leave}
-use Rattle.fluid_document.specs.Entries.{most}
 use Rattle.fluid_lane.specs.declared.steps.Step.{Step}
 use Rattle.fluid_codec.specs.declared.replies.Reply.{Reply}
 use Rattle.fluid_voice.specs.declared.states.VoiceState.{VoiceState}
@@ -27,7 +26,7 @@ use Rattle.fluid_talk.specs.Talking.{Knowing, Talking, Goes, IsSound, ledger_of,
 use Rattle.fluid_talk.specs.Collecting.{Feeds, FailsAs, IsCollectCause, CollectsBy, Collects}
 use Rattle.fluid_talk.specs.Leaving.{EntersLeave, HasLeft, IsLeaveCause, LeavesBy, Leaves}
 use Rattle.fluid_connection.specs.declared.collecting.Collected.{Collected}
-use Rattle.fluid_connection.specs.Talked.{Talked, pass_of, visited, talking, IsTalk, IsDelivered, HasDelivered}
+use Rattle.fluid_connection.specs.Talked.{Talked, pass_of, visited, talking, IsTalk, HasDelivered}
 use Rattle.fluid_connection.specs.Slices.{BringsAll, FailsToCollect, ComesBack}
 use Rattle.fluid_connection.specs.Leaving.{IsLeaveAct, EntersLeaving, FailsToLeave}
 use Rattle.fluid_connection.proofs.Passings.{goes_nowhere}

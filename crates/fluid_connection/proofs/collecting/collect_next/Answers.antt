@@ -1,6 +1,5 @@
-use Rattle.std.proofs.Common.{List, ◌∙◌, sym, subst}
+use Rattle.std.proofs.Common.{◌∙◌, sym, subst}
 use Rattle.fluid_lane.specs.Steps.{range_steps}
-use Rattle.fluid_types.specs.declared.messages.Message.{Message}
 use Rattle.fluid_doors.specs.Passing.{Grows}
 use Rattle.fluid_doors.specs.Collecting.{Collects}
 use Rattle.fluid_voice.specs.Feed.{most_in_event}

@@ -1,4 +1,4 @@
-use Rattle.std.proofs.Common.{◌≡◌, ◌∙◌, refl, sym, ap}
+use Rattle.std.proofs.Common.{◌∙◌, refl, sym, ap}
 use Rattle.fluid_connection.proofs.Greetings.{greets_join}
 use Rattle.fluid_connection.proofs.connecting.join.Goals as goal
 

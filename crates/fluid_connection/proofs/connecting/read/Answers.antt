@@ -1,4 +1,4 @@
-use Rattle.std.proofs.Common.{◌≡◌, ◌∙◌, refl, sym, ap}
+use Rattle.std.proofs.Common.{◌∙◌, sym, ap}
 use Rattle.fluid_connection.specs.Connecting.{name_of}
 use Rattle.fluid_connection.proofs.Greetings.{greets_read}
 use Rattle.fluid_connection.proofs.connecting.read.Goals as goal

@@ -1,8 +1,3 @@
-use Rattle.std.proofs.Common.{◌≡◌, true, Some, sym, ap, subst}
-use Rattle.fluid_turn.specs.Entries.{made_by}
-use Rattle.fluid_rules.specs.Rules.{IsLegal}
-use Rattle.fluid_talk.specs.Talking.{ledger_of}
-use Rattle.fluid_connection.specs.Talked.{pass_of, visited}
 use Rattle.fluid_connection.proofs.Standing.{known_some, legal_some, known_none, legal_none}
 use Rattle.fluid_connection.proofs.talk.know_visit.Goals as goal
 

@@ -1,4 +1,4 @@
-use Rattle.std.proofs.Common.{◌≡◌, ◌∙◌, if◌then◌else◌, None, refl, sym, ap, subst}
+use Rattle.std.proofs.Common.{◌∙◌, if◌then◌else◌, None, sym, ap, subst}
 use Rattle.fluid_voice.specs.States.{is_connected}
 use Rattle.fluid_connection.specs.Knowing.{keyed}
 use Rattle.fluid_connection.specs.Talked.{Talked, pass_of, talking}

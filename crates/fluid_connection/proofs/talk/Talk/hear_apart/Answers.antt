@@ -1,4 +1,4 @@
-use Rattle.std.proofs.Common.{◌≡◌, ◌∙◌, refl, sym, ap, subst}
+use Rattle.std.proofs.Common.{◌∙◌, refl, ap}
 use Rattle.fluid_connection.specs.Knowing.{keyed}
 use Rattle.fluid_connection.specs.Talked.{Talked, pass_of, talking}
 use Rattle.fluid_connection.proofs.Reached.{apart_none, apart_say, connect_fits}

@@ -1,6 +1,6 @@
-use Rattle.std.proofs.Common.{◌≡◌, ◌∙◌, true, is_some, IfSome, Some, Ok, Err, sym, ap, subst}
+use Rattle.std.proofs.Common.{◌∙◌, is_some, IfSome, sym, ap, subst}
 use Rattle.std.proofs.lemmas.Result.{err_from_is_err_and}
-use Rattle.fluid_voice.specs.States.{client_id, is_connected, leave_of}
+use Rattle.fluid_voice.specs.States.{client_id}
 use Rattle.fluid_voice.specs.Fitting.{IsFitting}
 use Rattle.fluid_talk.specs.Leaving.{LeavesBy, HasLeft, IsLeaveCause}
 use Rattle.fluid_talk.specs.Collecting.{FailsAs}

@@ -1,4 +1,4 @@
-use Rattle.std.proofs.Common.{◌≡◌, ◌∙◌, true, is_some, Ok, sym, ap, subst}
+use Rattle.std.proofs.Common.{◌∙◌, is_some, Ok, sym, ap, subst}
 use Rattle.fluid_voice.specs.declared.states.VoiceState.{VoiceState}
 use Rattle.fluid_voice.specs.States.{client_id}
 use Rattle.fluid_talk.specs.Leaving.{Leaves}
