@@ -1,0 +1,9 @@
+pub mod Knowing
+pub mod Talked
+pub mod Slices
+pub mod Leaving
+pub mod Entering
+pub mod Telling
+pub mod Running
+pub mod Hearing
+pub mod Connecting
