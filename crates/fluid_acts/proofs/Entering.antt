@@ -1,5 +1,5 @@
 -- Acts that enter an entry: what they leave, and how they end.
-use Rattle.std.proofs.Common.{◌≡◌, ◌⊎◌, inl, inr, ℕ, ◌+◌, Bool, true, false, ◌||◌, List, [], ◌∷◌, length, Option, Some, None, Ok, Err, IfErr, option_map, refl, sym, ap, subst, ◌∙◌, arith}
+use Rattle.std.proofs.Common.{◌≡◌, ◌⊎◌, inl, inr, ℕ, ◌+◌, Bool, true, false, ◌||◌, List, [], ◌∷◌, length, Option, Some, None, Result, Ok, Err, IfErr, option_map, refl, sym, ap, subst, ◌∙◌, arith}
 use Rattle.std.specs.Prelude.{if◌then◌else◌, IsSome}
 use Rattle.std.specs.FinMap.{get}
 use Rattle.fluid_io.specs.Causes.{Tells}
@@ -45,7 +45,7 @@ use Rattle.fluid_ends.specs.declared.fault.TalkFault.{TalkFault}
 use Rattle.fluid_ends.specs.declared.fault.TalkFault.TheVariants.{Lane, NoMemory}
 use Rattle.fluid_ends.specs.Faults.{refused_by}
 use Rattle.fluid_ends.specs.Adding.{AddsBy}
-use Rattle.fluid_acts.specs.AtLane.{KeepsCheckpoints, IsEndAt, IsWorn, IsLimited, IsLimitFault, is_limited, entries_after, is_entering, is_asked_of_lane, OnLane}
+use Rattle.fluid_acts.specs.AtLane.{KeepsCheckpoints, IsEndAt, IsWorn, IsRangeOf, OwesBy, IsLimited, IsLimitFault, is_limited, entries_after, is_entering, is_asked_of_lane, OnLane}
 use Rattle.fluid_acts.specs.Doing.{found_in}
 use Rattle.fluid_acts.specs.Parts.{DoesOnLane, FindsLane, JoinedEnd}
 use Rattle.fluid_acts.proofs.Limited.{Rules, IsWhy, why, err_same, refuses_one, refuses_two, first_one, none_of_one, first_two, none_of_two}
@@ -109,6 +109,7 @@ pub record EntersBy (a : Act) (old : Standing) (rules : Rules) : Type 0 where
   pub full : (entries : ℕ) → first_refusal rules ≡ Some (lane.Full entries) → IsEndAt old a FullNow × Suits a FullNow
   pub many : first_refusal rules ≡ Some lane.TooManyClients → IsEndAt old a TooMany × Suits a TooMany
   pub ends_full : (entries : ℕ) → first_refusal rules ≡ Some (lane.Full entries) → (l : List Step) (held : Held) → FindsLane old l → outcome (found_in old.limits (ledger l) held) a ≡ ends FullNow
+  pub ranges : (new : Standing) (result : Result ActEnd TalkFault) → IsRangeOf a old new result
   pub ends_many : first_refusal rules ≡ Some lane.TooManyClients → (l : List Step) (held : Held) → FindsLane old l → outcome (found_in old.limits (ledger l) held) a ≡ ends TooMany
 
 full_worn : (entries : ℕ) → ◌≡◌ {A = LaneFault} (lane.Full entries) lane.Worn → ⊥
@@ -162,6 +163,10 @@ module _ (a : Act) (raw : Raw) (old new : Standing) (rules : Rules) (by : Enters
   untouched : is_asked_of_lane a ≡ false → new ≡ old
   untouched none = absurd (true_is (sym by.asked ∙ none))
 
+  -- it enters
+  reads : is_entering a ≡ false → new.owed ≡ old.owed
+  reads none = absurd (true_is (sym by.entering ∙ none))
+
   -- a worn lane says so
   abbrev Worn : LaneFault → Type 0
   Worn fault = is_worn old ≡ true → (fault ≡ lane.Worn) × (new ≡ old)
@@ -174,13 +179,15 @@ module _ (a : Act) (raw : Raw) (old new : Standing) (rules : Rules) (by : Enters
   Limited fault = is_worn old ≡ false → is_limited old a ≡ true → IsLimited old new (refused_by fault)
 
   -- the lane failed, and nothing was entered
-  fails : (fault : LaneFault) → refused_by fault ≡ Err (Lane fault) → Worn fault → Limited fault → new.entries ≡ old.entries → Goes old new (fault_steps fault) → OnLane a old new (Err (Lane fault))
-  fails fault own worn limited stays goes = record {
+  fails : (fault : LaneFault) → refused_by fault ≡ Err (Lane fault) → OwesBy new (Err (Lane fault)) → Worn fault → Limited fault → new.entries ≡ old.entries → Goes old new (fault_steps fault) → OnLane a old new (Err (Lane fault))
+  fails fault own owes worn limited stays goes = record {
     added = fault_steps fault;
     adds = refl;
     goes = goes;
     entries = stays ∙ sym (by.stays (Lane fault));
-    level = tt;
+    owes = λ entering. owes;
+    level = reads;
+    range = by.ranges new (Err (Lane fault));
     checkpoints = tt;
     ends = tt;
     worn = λ is entering. subst (IsWorn old new) own (says_worn fault worn is entering);
@@ -211,7 +218,7 @@ module _ (a : Act) (raw : Raw) (old new : Standing) (rules : Rules) (by : Enters
 
   refused : {A : Type 0} (fault : LaneFault) → Goes old new (fault_steps fault) → Worn fault → Limited fault → IsWhy old rules fault → Enters {A = A} raw old new (Err fault) → DoesOnLane a old new (refused_by fault)
   refused (lane.LogFailed note) goes worn limited is enters = record {
-    lane = fails (lane.LogFailed note) refl worn limited enters.entries goes;
+    lane = fails (lane.LogFailed note) refl enters.owes worn limited enters.entries goes;
     end = λ l held finds. tt;
     suits = tt;
     cause = (by.entering, enters.cause);
@@ -224,7 +231,9 @@ module _ (a : Act) (raw : Raw) (old new : Standing) (rules : Rules) (by : Enters
           adds = by.no_full;
           goes = goes;
           entries = enters.entries ∙ sym by.stays_full;
-          level = λ was. enters.owes;
+          owes = λ entering. enters.owes;
+          level = reads;
+          range = by.ranges new (Ok FullNow);
           checkpoints = keeps_refused old new enters.kept;
           ends = (by.full entries first).0;
           worn = says_worn (lane.Full entries) worn;
@@ -246,7 +255,9 @@ module _ (a : Act) (raw : Raw) (old new : Standing) (rules : Rules) (by : Enters
           adds = by.no_many;
           goes = goes;
           entries = enters.entries ∙ sym by.stays_many;
-          level = λ was. enters.owes;
+          owes = λ entering. enters.owes;
+          level = reads;
+          range = by.ranges new (Ok TooMany);
           checkpoints = keeps_refused old new enters.kept;
           ends = (by.many first).0;
           worn = says_worn lane.TooManyClients worn;
@@ -258,7 +269,7 @@ module _ (a : Act) (raw : Raw) (old new : Standing) (rules : Rules) (by : Enters
         cause = tt;
       }
   refused (lane.DeltaFailed note) goes worn limited is enters = record {
-    lane = fails (lane.DeltaFailed note) refl worn limited enters.entries goes;
+    lane = fails (lane.DeltaFailed note) refl enters.owes worn limited enters.entries goes;
     end = λ l held finds. tt;
     suits = tt;
     cause = (by.entering, enters.cause);
@@ -269,7 +280,9 @@ module _ (a : Act) (raw : Raw) (old new : Standing) (rules : Rules) (by : Enters
       adds = refl;
       goes = goes;
       entries = enters.entries ∙ sym (by.stays NoMemory);
-      level = tt;
+      owes = λ entering. tt;
+      level = reads;
+      range = by.ranges new (Err NoMemory);
       checkpoints = tt;
       ends = tt;
       worn = says_worn lane.NoMemory worn;
@@ -283,7 +296,7 @@ module _ (a : Act) (raw : Raw) (old new : Standing) (rules : Rules) (by : Enters
   refused (lane.BadCheckpoint number bad) goes worn limited is enters = absurd (never (lane.BadCheckpoint number bad) (λ same. cc) (λ failed. failed) (λ limit. limit) is)
   refused (lane.TooLarge bytes) goes worn limited is enters = absurd (never (lane.TooLarge bytes) (λ same. cc) (λ failed. failed) (λ limit. limit) is)
   refused lane.Worn goes worn limited is enters = record {
-    lane = fails lane.Worn refl worn limited enters.entries goes;
+    lane = fails lane.Worn refl tt worn limited enters.entries goes;
     end = λ l held finds. tt;
     suits = tt;
     cause = (by.entering, worn_why is);
@@ -342,6 +355,7 @@ module _ (law : LaneSays) (raw : Raw) (old : Standing) where
     full = λ entries first. ((first_one _ _ _ first).0, tt);
     many = λ first. absurd (full_many _ (first_one _ _ _ first).1);
     ends_full = λ entries first l held finds. entry_ends true l held finds (first_one _ _ _ first).0;
+    ranges = λ new result. tt;
     ends_many = λ first. absurd (full_many _ (first_one _ _ _ first).1);
   }
 
@@ -361,7 +375,9 @@ module _ (law : LaneSays) (raw : Raw) (old : Standing) where
           adds = refl;
           goes = goes;
           entries = enters.entries;
-          level = λ was. enters.owes;
+          owes = λ entering. enters.owes;
+          level = λ none. absurd (true_is none);
+          range = tt;
           checkpoints = keeps_entered (raw_printed raw) old new enters.kept;
           ends = (open_, is);
           worn = λ worn entering. not_worn (is_worn old) gate.passes.0 worn;
@@ -446,6 +462,7 @@ module _ (law : LaneSays) (name : List ℕ) (scopes : Scopes) (detail : Tree) (m
     full = λ entries first. (first_full entries first, tt);
     many = λ first. (first_many first, tt);
     ends_full = λ entries first l held finds. connect_ends true (has_too_many old).0 l held finds (first_full entries first) refl;
+    ranges = λ new result. tt;
     ends_many = λ first l held finds. connect_ends false true l held finds (first_many first).0 (first_many first).1;
   }
 
@@ -479,7 +496,9 @@ module _ (law : LaneSays) (name : List ℕ) (scopes : Scopes) (detail : Tree) (m
           adds = record { message = message; is = refl; numbered = refl };
           goes = goes;
           entries = enters.entries;
-          level = λ was. enters.owes;
+          owes = λ entering. enters.owes;
+          level = λ none. absurd (true_is none);
+          range = tt;
           checkpoints = keeps_entered (raw_printed (Join own scopes detail moment)) old new enters.kept;
           ends = (open_, (refl, next));
           worn = λ worn entering. not_worn (is_worn old) gate.passes.0 worn;

@@ -24,9 +24,9 @@ use Rattle.fluid_voice.specs.declared.actions.Act.TheVariants as act
 use Rattle.fluid_voice.specs.declared.ends.ActEnd.TheVariants.{Given}
 use Rattle.fluid_voice.specs.Ends.{range_asked, range_from, bounded, placed, most_deltas, deltas_in, out_of_range}
 use Rattle.fluid_voice.specs.Ends.Outcome.{ends}
-use Rattle.fluid_ends.specs.declared.fault.TalkFault.TheVariants.{Delta}
+use Rattle.fluid_ends.specs.declared.fault.TalkFault.TheVariants.{Delta, NoMemory}
 use Rattle.fluid_ends.specs.Faults.{of_delta}
-use Rattle.fluid_acts.specs.AtLane.{KeepsCheckpoints, IsRangeEnd, OnLane}
+use Rattle.fluid_acts.specs.AtLane.{KeepsCheckpoints, IsRangeEnd, RangesBy, OnLane}
 use Rattle.fluid_acts.specs.Parts.{DoesOnLane}
 use Rattle.fluid_acts.proofs.Entering.{said}
 
@@ -101,9 +101,11 @@ module _ (law : LaneSays) (from to : ℤ) (old : Standing) where
       adds = refl;
       goes = goes;
       entries = refl;
-      level = λ was. was;
+      owes = λ entering. absurd (true_is (sym entering));
+      level = λ reads. refl;
       checkpoints = record { count = refl; texts = refl };
       ends = subst (λ r. IsRangeEnd r (Given (out_of_range f))) (sym is) refl;
+      range = subst (λ r. RangesBy r old old (Ok (Given (out_of_range f)))) (sym is) refl;
       worn = λ worn entering. absurd (true_is (sym entering));
       limited = λ unworn limited. absurd (true_is (sym limited));
       untouched = λ none. absurd (true_is none);
@@ -124,18 +126,20 @@ module _ (law : LaneSays) (from to : ℤ) (old : Standing) where
         by None some t = absurd (true_is (sym some))
         by (Some content) some t = t
 
-    pub range_given : {V : Type 0} (messages : V → List Message) (v : V) → Goes old new [] → Ranges messages first end old new (Ok v)
+    pub range_given : {V : Type 0} (messages : V → List Message) (v : V) → is_worn old ≡ false → Goes old new [] → Ranges messages first end old new (Ok v)
         → ((l : List Step) → LaneStands old l → Tells old.keeping.content (λ _. messages v ≡ slice (order (ledger l)) first end))
         → DoesOnLane asks old new (Ok (Given (Deltas first (messages v))))
-    range_given messages v goes ranges slices = record {
+    range_given messages v open_ goes ranges slices = record {
       lane = record {
         added = [];
         adds = refl;
         goes = goes;
         entries = ranges.same.0;
-        level = λ was. ranges.same.1.1 ∙ was;
+        owes = λ entering. absurd (true_is (sym entering));
+        level = λ reads. ranges.same.1.1;
         checkpoints = keeps messages (Ok v) ranges;
         ends = subst (λ r. IsRangeEnd r (Given (Deltas first (messages v)))) (sym is) (refl, ranges.reads.numbers);
+        range = subst (λ r. RangesBy r old new (Ok (Given (Deltas first (messages v))))) (sym is) (λ worn. absurd (true_is (sym worn ∙ open_)));
         worn = λ worn entering. absurd (true_is (sym entering));
         limited = λ unworn limited. absurd (true_is (sym limited));
         untouched = λ none. absurd (true_is none);
@@ -147,13 +151,16 @@ module _ (law : LaneSays) (from to : ℤ) (old : Standing) where
       cause = tt;
     }
 
-    fails : (fault : DeltaFault) → Goes old new (delta_steps fault) → new.entries ≡ old.entries → OnLane asks old new (Err (Delta fault))
-    fails fault goes stays = record {
+    fails : (fault : DeltaFault) → Goes old new (delta_steps fault) → new.entries ≡ old.entries → new.owed ≡ old.owed → (is_worn old ≡ true → (fault ≡ delta.Worn) × (new ≡ old))
+        → OnLane asks old new (Err (Delta fault))
+    fails fault goes stays owed worn = record {
       added = delta_steps fault;
       adds = refl;
       goes = goes;
       entries = stays;
-      level = tt;
+      owes = λ entering. absurd (true_is (sym entering));
+      level = λ reads. owed;
+      range = subst (λ r. RangesBy r old new (Err (Delta fault))) (sym is) (λ old_worn. (ap (λ f. Err (Delta f)) (worn old_worn).0, (worn old_worn).1));
       checkpoints = tt;
       ends = tt;
       worn = λ worn entering. absurd (true_is (sym entering));
@@ -162,17 +169,19 @@ module _ (law : LaneSays) (from to : ℤ) (old : Standing) where
     }
 
     -- a lane that isn't worn
-    range_stops : {V : Type 0} (messages : V → List Message) (fault : DeltaFault) → Goes old new (delta_steps fault) → Ranges messages first end old new (Err fault)
+    range_stops : {V : Type 0} (messages : V → List Message) (fault : DeltaFault) → is_worn old ≡ false → Goes old new (delta_steps fault) → Ranges messages first end old new (Err fault)
         → ((l : List Step) → LaneStands old l → Tells old.keeping.content (λ _. IsSlice messages (slice (order (ledger l)) first end) (Err fault)))
         → DoesOnLane asks old new (Err (of_delta fault))
-    range_stops messages (delta.DeltaFailed note) goes ranges slices = record { lane = fails (delta.DeltaFailed note) goes ranges.same.0; end = λ l held finds. tt; suits = tt; cause = (refl, ranges.reads.cause) }
-    range_stops messages delta.NoMemory goes ranges slices = record {
+    range_stops messages (delta.DeltaFailed note) open_ goes ranges slices = record { lane = fails (delta.DeltaFailed note) goes ranges.same.0 ranges.same.1.1 (λ worn. absurd (true_is (sym worn ∙ open_))); end = λ l held finds. tt; suits = tt; cause = (refl, ranges.reads.cause) }
+    range_stops messages delta.NoMemory open_ goes ranges slices = record {
       lane = record {
         added = [];
         adds = refl;
         goes = goes;
         entries = ranges.same.0;
-        level = tt;
+        owes = λ entering. absurd (true_is (sym entering));
+        level = λ reads. ranges.same.1.1;
+        range = subst (λ r. RangesBy r old new (Err NoMemory)) (sym is) (λ worn. absurd (true_is (sym worn ∙ open_)));
         checkpoints = tt;
         ends = tt;
         worn = λ worn entering. absurd (true_is (sym entering));
@@ -183,13 +192,13 @@ module _ (law : LaneSays) (from to : ℤ) (old : Standing) where
       suits = tt;
       cause = tt;
     }
-    range_stops messages (delta.BadDelta number) goes ranges slices = record {
-      lane = fails (delta.BadDelta number) goes ranges.same.0;
+    range_stops messages (delta.BadDelta number) open_ goes ranges slices = record {
+      lane = fails (delta.BadDelta number) goes ranges.same.0 ranges.same.1.1 (λ worn. absurd (true_is (sym worn ∙ open_)));
       end = λ l held finds. tt;
       suits = tt;
       cause = (refl, record { first = first; end = end; asked = is; within = ranges.reads.bad; bad = ranges.answer; never = slices });
     }
-    range_stops messages delta.Worn goes ranges slices = absurd ranges.reads.cause
+    range_stops messages delta.Worn open_ goes ranges slices = absurd ranges.reads.cause
 
     -- a worn lane gives no messages
     pub range_fails : {V : Type 0} (messages : V → List Message) (fault : DeltaFault) → Goes old new (delta_steps fault)
@@ -200,12 +209,13 @@ module _ (law : LaneSays) (from to : ℤ) (old : Standing) where
       where
         by : (b : Bool) → is_worn old ≡ b → DoesOnLane asks old new (Err (of_delta fault))
         by true is = subst (λ f. DoesOnLane asks old new (Err (of_delta f))) (sym (worn is).0) (record {
-          lane = fails delta.Worn (subst (λ f. Goes old new (delta_steps f)) (worn is).0 goes) (ap (λ (s : Standing). s.entries) (worn is).1);
+          lane = fails delta.Worn (subst (λ f. Goes old new (delta_steps f)) (worn is).0 goes) (ap (λ (s : Standing). s.entries) (worn is).1) (ap (λ (s : Standing). s.owed) (worn is).1)
+              (λ old_worn. (refl, (worn is).1));
           end = λ l held finds. tt;
           suits = tt;
           cause = (refl, is);
         })
-        by false is = range_stops messages fault goes (ranges is) (slices is)
+        by false is = range_stops messages fault is goes (ranges is) (slices is)
 
 -- ---- the numbers and the summaries that a lane tells
 

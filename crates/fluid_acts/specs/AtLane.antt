@@ -7,7 +7,8 @@ use Rattle.fluid_types.specs.declared.entries.Raw.TheVariants.{Join}
 use Rattle.fluid_types.specs.declared.fault.Field.{Field}
 use Rattle.fluid_types.specs.Names.{entry_name}
 use Rattle.fluid_log.specs.Keeping.{Keeping}
-use Rattle.fluid_codec.specs.declared.replies.Reply.TheVariants.{Deltas}
+use Rattle.fluid_codec.specs.declared.events.Asked.{Asked}
+use Rattle.fluid_codec.specs.declared.replies.Reply.TheVariants.{Deltas, Summary}
 use Rattle.fluid_core.specs.Entering.{verdict_in}
 use Rattle.fluid_document.specs.Entries.{Entries, taken_up}
 use Rattle.fluid_deltas.specs.Ranges.{IsNoted, AreNumbersOf, range_of}
@@ -22,9 +23,9 @@ use Rattle.fluid_voice.specs.declared.actions.Act.{Act}
 use Rattle.fluid_voice.specs.declared.actions.Act.TheVariants as act
 use Rattle.fluid_voice.specs.declared.ends.ActEnd.{ActEnd}
 use Rattle.fluid_voice.specs.declared.ends.ActEnd.TheVariants.{Joined, Told, Entered, FullNow, TooMany, Given}
-use Rattle.fluid_voice.specs.Ends.{range_asked, out_of_range}
+use Rattle.fluid_voice.specs.Ends.{range_asked, out_of_range, summary_among}
 use Rattle.fluid_ends.specs.declared.fault.TalkFault.{TalkFault}
-use Rattle.fluid_ends.specs.declared.fault.TalkFault.TheVariants.{Lane, NoMemory}
+use Rattle.fluid_ends.specs.declared.fault.TalkFault.TheVariants.{Lane, Delta, NoMemory}
 use Rattle.fluid_ends.specs.Adding.{Adds}
 pub use Rattle.fluid_ends.specs.Asking.{is_entering, is_asked_of_lane}
 
@@ -62,17 +63,39 @@ IsRangeEnd (Ok range) (Given (Deltas first messages)) = (first ≡ range.0) × A
 IsRangeEnd (Ok range) end = ⊥
 IsRangeEnd (Err f) end = end ≡ Given (out_of_range f)
 
+-- the acknowledged summary that was asked for, among those that the lane keeps
+abbrev pub IsSummaryEnd : Standing → Asked → ActEnd → Type 0
+IsSummaryEnd s asked end = end ≡ Given (Summary (summary_among s.entries.state.scribe.acks asked))
+
 abbrev pub IsEndAt : Standing → Act → ActEnd → Type 0
 IsEndAt s (act.Enter raw) end = IsEntryEnd s raw end
 IsEndAt s (act.Connect name true scopes detail moment) end = IsJoinEnd s end
 IsEndAt s (act.Connect name false scopes detail moment) end = end ≡ Told s.entries.state.sequencer.sequence
 IsEndAt s (act.Deltas from to) end = IsRangeEnd (range_asked s.entries.state.sequencer.sequence from to) end
+IsEndAt s (act.Summary asked) end = IsSummaryEnd s asked end
 IsEndAt s act end = ⊤
 
 -- a worn lane says so, or memory was wanting before it was asked
 pub record IsWorn (old new : Standing) (result : Result ActEnd TalkFault) : Type 0 where
   pub answer : (result ≡ Err NoMemory) ⊎ (result ≡ Err (Lane lane.Worn))
   pub same : new ≡ old
+
+-- of a worn lane a range is answered so; one that is out of range isn't asked of the lane
+abbrev pub RangesBy : Result (ℕ × ℕ) Field → Standing → Standing → Result ActEnd TalkFault → Type 0
+RangesBy (Ok range) old new result = is_worn old ≡ true → (result ≡ Err (Delta delta.Worn)) × (new ≡ old)
+RangesBy (Err f) old new result = new ≡ old
+
+abbrev pub IsRangeOf : Act → Standing → Standing → Result ActEnd TalkFault → Type 0
+IsRangeOf (act.Deltas from to) old new result = RangesBy (range_asked old.entries.state.sequencer.sequence from to) old new result
+IsRangeOf a old new result = ⊤
+
+-- whether a cut is owed behind an entry: none behind an end, and one where the log failed. A lane may be worn, and memory wanting, before
+-- one is looked for
+abbrev pub OwesBy : Standing → Result ActEnd TalkFault → Type 0
+OwesBy new (Ok end) = new.owed ≡ false
+OwesBy new (Err (Lane (lane.LogFailed note))) = new.owed ≡ true
+OwesBy new (Err (Lane (lane.DeltaFailed note))) = new.owed ≡ false
+OwesBy new (Err fault) = ⊤
 
 -- the lane has reached a limit that refuses the act
 abbrev pub is_limited : Standing → Act → Bool
@@ -97,11 +120,14 @@ pub record OnLane (a : Act) (old new : Standing) (result : Result ActEnd TalkFau
   pub adds : Adds a result added
   pub goes : Goes old new added
   pub entries : new.entries ≡ entries_after old.entries a result
-  -- where the act doesn't fail, no cut is owed behind it unless one was before, and no checkpoint is stored
-  pub level : OnOk result (old.owed ≡ false → new.owed ≡ false)
+  -- an act that reads leaves a cut as owed as it was
+  pub owes : is_entering a ≡ true → OwesBy new result
+  pub level : is_entering a ≡ false → new.owed ≡ old.owed
+  -- where the act doesn't fail, no checkpoint is stored
   pub checkpoints : OnOk result (KeepsCheckpoints old.keeping new.keeping)
   pub ends : IfOk result (IsEndAt old a)
   pub worn : is_worn old ≡ true → is_entering a ≡ true → IsWorn old new result
+  pub range : IsRangeOf a old new result
   pub limited : is_worn old ≡ false → is_limited old a ≡ true → IsLimited old new result
   pub untouched : is_asked_of_lane a ≡ false → new ≡ old
 
