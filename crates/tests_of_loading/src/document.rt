@@ -4,8 +4,8 @@ use fluid_core::Core;
 use fluid_io::FaultPlan;
 use fluid_json::{Json, Text, read};
 use fluid_loader::{Given, ListLink, Order};
-use fluid_store::{MemoryObjects, upload};
-use fluid_tree::from_json;
+use fluid_store::{MemoryObjects, Objects, upload};
+use fluid_tree::{Id, from_json};
 use fluid_types::{ClientId, Kind, Message, Nack, NackRule, Raw, Scopes, Verdict};
 use fluid_versions::put_version;
 use std::alloc::Global;
@@ -124,7 +124,17 @@ pub(crate) fn said(
             copied(rt, alloc, "")
         }
         "message" => {
-            push(rt, alloc, &mut document.link.order, rest);
+            let pushed = document.link.order.push(alloc, rest).expect(rt, "memory");
+            copied(rt, alloc, if pushed { "" } else { "not next" })
+        }
+        "spoil" => {
+            let (id, text) = rest.split_once(' ').unwrap_or((rest, ""));
+            let id = Id::read(id).expect(rt, "an id");
+            let objects = &mut document.link.objects;
+            objects
+                .put(alloc, &id, text.as_bytes())
+                .ok()
+                .expect(rt, "memory");
             copied(rt, alloc, "")
         }
         "put" => put(rt, alloc, &mut document.link.objects, rest),

@@ -2,7 +2,10 @@
 use crate::document::{Document, new_document, said};
 use crate::play::play;
 use crate::told::fault_text;
+use fluid_json::Text;
 use fluid_loader::{Container, Pick};
+use fluid_store::store_object;
+use fluid_tree::{Id, ObjectEntry, tree_bytes};
 use std::alloc::Global;
 use std::process::Abort;
 use std::test::Fail;
@@ -40,6 +43,7 @@ fn what_one_client_uploads_another_loads(rt: HostRuntime) -> Result<(), Fail> {
                 "summarize p",
                 "at 6 with 0: 636cb14c83245091ae086c8aeced17e21342b86f",
             ),
+            ("tree p", "636cb14c83245091ae086c8aeced17e21342b86f"),
             ("scribe", "ack 7"),
             ("edit p delete m k", "edited"),
             ("load r latest", "at 10"),
@@ -222,6 +226,32 @@ fn each_call_of_the_link_fails_once(rt: HostRuntime) -> Result<(), Fail> {
     Ok(())
 }
 
+// Under the id of the first tree stand other bytes, so that it isn't put; the second is put whole.
+#[test]
+fn a_tree_may_clash(rt: HostRuntime) -> Result<(), Fail> {
+    play(
+        &rt,
+        rt.alloc(),
+        &[
+            ("load p none", "at 1"),
+            ("edit p attach m map", "edited"),
+            ("pump p", "at 2"),
+            ("tree p", "d95f62e402c626b08319d070373fb1b1c5921200"),
+            ("spoil d95f62e402c626b08319d070373fb1b1c5921200 x", ""),
+            ("summarize p", "clash"),
+            ("summarize p", "clash"),
+            ("edit p set m a 1", "edited"),
+            ("pump p", "at 3"),
+            (
+                "summarize p",
+                "at 3 with 0: 093804b363d4fe9f3218a36c0a9de31539e2ac9f",
+            ),
+            ("scribe", "ack 4"),
+        ],
+    );
+    Ok(())
+}
+
 // A map `m` whose content isn't JSON is uploaded by hand, and acknowledged, since the scribe doesn't read it.
 #[test]
 fn an_acknowledged_summary_may_be_bad(rt: HostRuntime) -> Result<(), Fail> {
@@ -340,5 +370,57 @@ fn the_first_path_outside_the_form_is_named(rt: HostRuntime) -> Result<(), Fail>
     let id = "4b825dc642cb6eb9a060e54bf8d69288fbee4904";
     assert_acknowledged(&rt, alloc, &mut document, id, "bad summary .");
     drop(document);
+    assert_unheld(&rt, alloc);
+    Ok(())
+}
+
+// A version whose `.app` isn't held.
+fn assert_unheld(rt: &impl Abort, alloc: Global) {
+    let mut document = new_document(rt, alloc);
+    drop(said(rt, alloc, &mut document, "message", SUMMARIZE));
+    let mut entries = Vec::new(alloc);
+    let app = ObjectEntry {
+        name: Text::copied(alloc, ".app").expect(rt, "memory"),
+        tree: true,
+        id: Id::new([7; 20]),
+    };
+    entries.push(app).expect(rt, "memory");
+    let bytes = tree_bytes(alloc, entries.as_slice()).expect(rt, "memory");
+    let id = store_object(alloc, &mut document.link.objects, bytes.as_slice())
+        .ok()
+        .expect(rt, "a store");
+    let id = id.print(alloc).expect(rt, "memory");
+    assert_acknowledged(rt, alloc, &mut document, id.as_str(), "bad summary .app");
+    drop(entries);
+    drop(document);
+}
+
+// A message that isn't the next, one that refers to one behind it, and one in another spelling aren't put behind the others.
+#[test]
+fn an_order_has_the_next_message_alone(rt: HostRuntime) -> Result<(), Fail> {
+    play(
+        &rt,
+        rt.alloc(),
+        &[
+            (
+                r#"message {"clientId":"c0","clientSequenceNumber":1,"contents":null,"minimumSequenceNumber":0,"referenceSequenceNumber":0,"sequenceNumber":2,"timestamp":0,"type":"op"}"#,
+                "not next",
+            ),
+            (
+                r#"message {"clientId":"c0","clientSequenceNumber":1,"contents":null,"minimumSequenceNumber":0,"referenceSequenceNumber":2,"sequenceNumber":1,"timestamp":0,"type":"op"}"#,
+                "not next",
+            ),
+            (
+                r#"message { "clientId":"c0","clientSequenceNumber":1,"contents":null,"minimumSequenceNumber":0,"referenceSequenceNumber":0,"sequenceNumber":1,"timestamp":0,"type":"op"}"#,
+                "not next",
+            ),
+            ("message x", "not next"),
+            (
+                r#"message {"clientId":"c0","clientSequenceNumber":1,"contents":null,"minimumSequenceNumber":0,"referenceSequenceNumber":1,"sequenceNumber":1,"timestamp":0,"type":"op"}"#,
+                "",
+            ),
+            ("reload p none", "at 1"),
+        ],
+    );
     Ok(())
 }

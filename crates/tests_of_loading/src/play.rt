@@ -4,10 +4,10 @@
 //     fetched P          the numbers of the messages and the ids of the objects that were fetched by the last load
 //     pump P, beat P, show P      as in their names; at P: the container's number
 //     edit P E           an edit; what is taken is sequenced at once
-//     summarize P        `at N with H: ID`, H being the number of handles
+//     summarize P        `at N with H: ID`, H being the number of handles; tree P: the id of its tree
 //     scribe             the scribe answers the pending summary: `ack N` or `nack N`
-//     enter RAW          an entry; message TEXT: a message behind the others, whatever the core has
-//     put TREE           a summary tree is put: its id
+//     enter RAW          an entry; message TEXT: a message behind the others, whatever the core has, or `not next`
+//     put TREE           a summary tree is put: its id; spoil ID TEXT: this text is put under the id
 //     refuse             the next submission is refused
 //     fail K             the K-th call of the link from now on fails
 use crate::document::{Document, copied, join, new_document, said, sequence};
@@ -15,7 +15,7 @@ use crate::edits::edit_of;
 use crate::told::{fault_or, fault_text, numbered};
 use fluid_json::{Text, print};
 use fluid_loader::{Container, Link, ListLink, Pick};
-use fluid_tree::Id;
+use fluid_tree::{Id, id_of};
 use fluid_types::ClientId;
 use std::alloc::Global;
 use std::process::Abort;
@@ -131,12 +131,20 @@ fn asked(
             let json = container.state(alloc).expect(rt, "memory");
             print(alloc, &json).expect(rt, "memory")
         }
+        "tree" => tree_id(rt, alloc, container),
         "edit" => edited(rt, alloc, container, link, rest),
         "beat" => beaten(rt, alloc, container, link),
         "summarize" => summarized(rt, alloc, container, link),
         "fetched" => fetched(rt, alloc, link),
         _ => copied(rt, alloc, "no such line"),
     }
+}
+
+fn tree_id(rt: &impl Abort, alloc: Global, container: &Container) -> Text {
+    let tree = container.tree(alloc).expect(rt, "memory");
+    let id = id_of(alloc, &tree).ok().expect(rt, "a tree");
+    drop(tree);
+    id.print(alloc).expect(rt, "memory")
 }
 
 fn pumped(rt: &impl Abort, alloc: Global, container: &mut Container, link: &mut ListLink) -> Text {

@@ -1,7 +1,9 @@
 // Lives of connections: what each hears, what that asks for, how it ends, and what is said.
 use crate::telling::{told_acts, told_leave, told_replies, told_state};
-use crate::worlds::{End, end_of};
-use fluid_voice::{Act, Voice, has_front_nack};
+use crate::worlds::{End, end_of, message};
+use fluid_codec::print_event;
+use fluid_types::Messages;
+use fluid_voice::{Act, ActEnd, Voice, has_front_nack};
 use std::alloc::Global;
 use std::process::Abort;
 
@@ -23,6 +25,8 @@ enum Step {
     Stands(&'static str),
     // It would leave so.
     Leaves(&'static str),
+    // One message is told so; none where this is empty.
+    Tells(&'static str),
     // The messages before this number were delivered.
     Delivers(u64),
     // Its leave is sequenced.
@@ -59,6 +63,9 @@ impl Life {
 
     fn end(&mut self, rt: &impl Abort, alloc: Global, end: &End, wanted: &str) {
         let act = self.acts.pop().expect(rt, "an act");
+        if let Act::Enter(_) = &act {
+            self.hand_on(rt, alloc, end_of(rt, alloc, end, &act), wanted);
+        }
         let end = end_of(rt, alloc, end, &act);
         let replies = self.voice.take(alloc, act, end).expect(rt, "memory");
         let told = told_replies(alloc, replies.as_slice()).expect(rt, "memory");
@@ -66,6 +73,31 @@ impl Life {
         self.unread = has_front_nack(replies.as_slice());
         drop(told);
         drop(replies);
+    }
+
+    // The same of an entry that was handed on.
+    fn hand_on(&self, rt: &impl Abort, alloc: Global, end: ActEnd, wanted: &str) {
+        let replies = self.voice.take_entry(alloc, end).expect(rt, "memory");
+        let told = told_replies(alloc, replies.as_slice()).expect(rt, "memory");
+        assert!(rt; told.as_str() == wanted, "replies: {told}");
+        drop(told);
+        drop(replies);
+    }
+
+    fn tell(&self, rt: &impl Abort, alloc: Global, wanted: &str) {
+        let mut messages = Vec::new(alloc);
+        messages.push(message(rt, alloc)).expect(rt, "memory");
+        let messages = Messages::new(messages);
+        match self.voice.event(alloc, messages).expect(rt, "memory") {
+            Some(reply) => {
+                let text = print_event(alloc, &reply).expect(rt, "memory");
+                let told = text.as_str();
+                assert!(rt; told == wanted, "tells: {told}");
+                drop(text);
+                drop(reply);
+            }
+            None => assert!(rt; wanted.is_empty(), "tells nothing"),
+        }
     }
 
     fn say(&mut self, rt: &impl Abort, alloc: Global, text: &str, wanted: &str) {
@@ -91,10 +123,15 @@ impl Life {
 
     fn go(&mut self, rt: &impl Abort, alloc: Global) {
         let act = self.voice.leave(alloc, MOMENT).expect(rt, "memory");
-        self.acts
-            .push(act.expect(rt, "a leave"))
-            .expect(rt, "memory");
-        self.end(rt, alloc, &End::Sequenced, "");
+        let act = act.expect(rt, "a leave");
+        let refused = ActEnd::FullNow;
+        self.voice.take_leave(&refused);
+        assert!(rt; self.voice.writes(), "it has left");
+        let end = end_of(rt, alloc, &End::Sequenced, &act);
+        self.voice.take_leave(&end);
+        drop(refused);
+        drop(end);
+        drop(act);
     }
 
     fn close(&mut self, rt: &impl Abort) {
@@ -113,6 +150,7 @@ impl Life {
             Step::Unread(wanted) => assert!(rt; self.unread == *wanted, "unread"),
             Step::Stands(wanted) => self.stand(rt, alloc, *wanted),
             Step::Leaves(wanted) => self.leave(rt, alloc, *wanted),
+            Step::Tells(wanted) => self.tell(rt, alloc, *wanted),
             Step::Delivers(next) => self.voice.advance(*next),
             Step::Goes => self.go(rt, alloc),
             Step::Closes => self.close(rt),
@@ -161,6 +199,7 @@ const FRESH: &[Step] = &[
     Step::Fresh,
     Step::Stands("fresh"),
     Step::Leaves(""),
+    Step::Tells(""),
     Step::Says(
         "hello",
         r#"["nack","",[{"content":{"code":400,"message":"bad event: not JSON","type":"BadRequestError"},"operation":null,"sequenceNumber":-1}]]"#,
@@ -297,6 +336,9 @@ enter {"clientId":"c0","moment":7,"operation":{"clientSequenceNumber":9,"content
     ),
     Step::Says(CONNECT, ALREADY_CONNECTED),
     Step::Stands("writing d c0 1"),
+    Step::Tells(
+        r#"["op","d",[{"clientId":"c0","clientSequenceNumber":1,"contents":"a","minimumSequenceNumber":1,"referenceSequenceNumber":1,"sequenceNumber":2,"timestamp":7,"type":"op"}]]"#,
+    ),
     Step::Delivers(4),
     Step::Stands("writing d c0 4"),
     // What was delivered stays so.
@@ -305,6 +347,7 @@ enter {"clientId":"c0","moment":7,"operation":{"clientSequenceNumber":9,"content
     Step::Leaves(r#"enter {"clientId":"c0","moment":7,"raw":"leave"}"#),
     Step::Goes,
     Step::Stands("used"),
+    Step::Tells(""),
     Step::Leaves(""),
     Step::Delivers(5),
     Step::Stands("used"),

@@ -2,7 +2,7 @@
 use fluid_codec::read_message;
 use fluid_json::Bytes;
 use fluid_tree::{Id, SummaryRef};
-use fluid_types::{ClientId, Messages, Nack, NackRule, Raw, Submission, Verdict};
+use fluid_types::{ClientId, Message, Messages, Nack, NackRule, Raw, Submission, Verdict};
 use fluid_voice::{Act, ActEnd, ConnectRefusal, Reply, out_of_range, range_asked, summary_asked};
 use std::alloc::Global;
 use std::process::Abort;
@@ -30,7 +30,8 @@ pub enum End {
     Stored,
 }
 
-const MESSAGE: &str =
+// As it stands in an order and in an event.
+pub const MESSAGE: &str =
     r#"{"clientId":"c0","clientSequenceNumber":1,"contents":"a","minimumSequenceNumber":1,"referenceSequenceNumber":1,"sequenceNumber":2,"timestamp":7,"type":"op"}"#;
 
 pub fn end_of(rt: &impl Abort, alloc: Global, end: &End, act: &Act) -> ActEnd {
@@ -62,8 +63,11 @@ fn joined(rt: &impl Abort, alloc: Global, id: &str, number: u64) -> ActEnd {
 }
 
 fn sequenced(rt: &impl Abort, alloc: Global) -> ActEnd {
-    let message = read_message(alloc, MESSAGE).expect(rt, "a message");
-    ActEnd::Entered(Verdict::Sequenced(message))
+    ActEnd::Entered(Verdict::Sequenced(message(rt, alloc)))
+}
+
+pub fn message(rt: &impl Abort, alloc: Global) -> Message {
+    read_message(alloc, MESSAGE).expect(rt, "a message")
 }
 
 fn too_many_documents(rt: &impl Abort, alloc: Global) -> ActEnd {
