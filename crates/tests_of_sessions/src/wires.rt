@@ -14,11 +14,14 @@ const CONNECT: &str =
 
 const READ: &str = r#"["connect_document",{"id":"d","mode":"read","scopes":["doc:read"]}]"#;
 
-const SUBMIT: &str = r#"["submitOp","c0",[{"clientSequenceNumber":1,"contents":"a","referenceSequenceNumber":1,"type":"op"},{"clientSequenceNumber":1,"contents":"a","referenceSequenceNumber":1,"type":"op"},{"clientSequenceNumber":2,"contents":"b","referenceSequenceNumber":1,"type":"op"}]]"#;
+const SUBMIT: &str =
+    r#"["submitOp","c0",[{"clientSequenceNumber":1,"contents":"a","referenceSequenceNumber":1,"type":"op"},{"clientSequenceNumber":1,"contents":"a","referenceSequenceNumber":1,"type":"op"},{"clientSequenceNumber":2,"contents":"b","referenceSequenceNumber":1,"type":"op"}]]"#;
 
-const LAST: &str = r#"["op","d",[{"clientId":"c0","clientSequenceNumber":1,"contents":"a","minimumSequenceNumber":1,"referenceSequenceNumber":1,"sequenceNumber":2,"timestamp":7,"type":"op"},{"clientId":"c0","clientSequenceNumber":2,"contents":"b","minimumSequenceNumber":1,"referenceSequenceNumber":1,"sequenceNumber":3,"timestamp":7,"type":"op"}]]"#;
+const LAST: &str =
+    r#"["op","d",[{"clientId":"c0","clientSequenceNumber":1,"contents":"a","minimumSequenceNumber":1,"referenceSequenceNumber":1,"sequenceNumber":2,"timestamp":7,"type":"op"},{"clientId":"c0","clientSequenceNumber":2,"contents":"b","minimumSequenceNumber":1,"referenceSequenceNumber":1,"sequenceNumber":3,"timestamp":7,"type":"op"}]]"#;
 
-const FOREIGN: &str = r#"["submitOp","c5",[{"clientSequenceNumber":1,"contents":"a","referenceSequenceNumber":1,"type":"op"}]]"#;
+const FOREIGN: &str =
+    r#"["submitOp","c5",[{"clientSequenceNumber":1,"contents":"a","referenceSequenceNumber":1,"type":"op"}]]"#;
 
 const ONE: &str =
     r#"{"clientSequenceNumber":1,"contents":null,"referenceSequenceNumber":1,"type":"op"}"#;
@@ -49,13 +52,97 @@ fn came(end: char, number: u64, sequenced: u64, dropped: u64, unread: u64, sent:
 
 // Which receives and sends fail, and what comes of a wire with two texts.
 const FAILING: [(&[u64], &[u64], Came); 7] = [
-    (&[], &[], Came { end: 'c', number: 0, sequenced: 2, dropped: 1, nacked: 0, unread: 0, sent: 3 }),
-    (&[1], &[], Came { end: 'w', number: 0, sequenced: 0, dropped: 0, nacked: 0, unread: 0, sent: 0 }),
-    (&[2], &[], Came { end: 'w', number: 0, sequenced: 0, dropped: 0, nacked: 0, unread: 0, sent: 2 }),
-    (&[3], &[], Came { end: 'w', number: 0, sequenced: 2, dropped: 1, nacked: 0, unread: 0, sent: 3 }),
-    (&[], &[1], Came { end: 'w', number: 0, sequenced: 0, dropped: 0, nacked: 0, unread: 0, sent: 0 }),
-    (&[], &[2], Came { end: 'w', number: 0, sequenced: 0, dropped: 0, nacked: 0, unread: 0, sent: 1 }),
-    (&[], &[3], Came { end: 'w', number: 0, sequenced: 2, dropped: 1, nacked: 0, unread: 0, sent: 2 }),
+    (
+        &[],
+        &[],
+        Came {
+            end: 'c',
+            number: 0,
+            sequenced: 2,
+            dropped: 1,
+            nacked: 0,
+            unread: 0,
+            sent: 3,
+        },
+    ),
+    (
+        &[1],
+        &[],
+        Came {
+            end: 'w',
+            number: 0,
+            sequenced: 0,
+            dropped: 0,
+            nacked: 0,
+            unread: 0,
+            sent: 0,
+        },
+    ),
+    (
+        &[2],
+        &[],
+        Came {
+            end: 'w',
+            number: 0,
+            sequenced: 0,
+            dropped: 0,
+            nacked: 0,
+            unread: 0,
+            sent: 2,
+        },
+    ),
+    (
+        &[3],
+        &[],
+        Came {
+            end: 'w',
+            number: 0,
+            sequenced: 2,
+            dropped: 1,
+            nacked: 0,
+            unread: 0,
+            sent: 3,
+        },
+    ),
+    (
+        &[],
+        &[1],
+        Came {
+            end: 'w',
+            number: 0,
+            sequenced: 0,
+            dropped: 0,
+            nacked: 0,
+            unread: 0,
+            sent: 0,
+        },
+    ),
+    (
+        &[],
+        &[2],
+        Came {
+            end: 'w',
+            number: 0,
+            sequenced: 0,
+            dropped: 0,
+            nacked: 0,
+            unread: 0,
+            sent: 1,
+        },
+    ),
+    (
+        &[],
+        &[3],
+        Came {
+            end: 'w',
+            number: 0,
+            sequenced: 2,
+            dropped: 1,
+            nacked: 0,
+            unread: 0,
+            sent: 2,
+        },
+    ),
 ];
 
 #[test]
@@ -63,7 +150,13 @@ fn a_wire_with_two_texts_and_each_of_its_calls_failing(rt: HostRuntime) -> Resul
     let alloc = rt.alloc();
     for (receives, sends, wanted) in FAILING {
         let service = serve(&rt, alloc, Limits::FULL);
-        let mut wire = wire(&rt, alloc, all(&rt, alloc, &[CONNECT, SUBMIT]), receives, sends);
+        let mut wire = wire(
+            &rt,
+            alloc,
+            all(&rt, alloc, &[CONNECT, SUBMIT]),
+            receives,
+            sends,
+        );
         assert_eq!(rt; sit(&rt, alloc, &service, &mut wire), wanted);
         if wanted.sent == 3 {
             assert_eq!(rt; last_out(wire.history()), LAST);
@@ -79,9 +172,15 @@ fn a_reader_behind_a_writer_gets_what_comes_behind_it(rt: HostRuntime) -> Result
     let alloc = rt.alloc();
     let service = serve(&rt, alloc, Limits::FULL);
     let mut writer = wire(&rt, alloc, all(&rt, alloc, &[CONNECT, SUBMIT]), &[], &[]);
-    assert_eq!(rt; sit(&rt, alloc, &service, &mut writer), came('c', 0, 2, 1, 0, 3));
+    assert_eq!(rt;
+        sit(&rt, alloc, &service, &mut writer),
+        came('c', 0, 2, 1, 0, 3)
+    );
     let mut reader = wire(&rt, alloc, all(&rt, alloc, &[READ, FOREIGN]), &[], &[]);
-    assert_eq!(rt; sit(&rt, alloc, &service, &mut reader), came('c', 0, 0, 0, 1, 2));
+    assert_eq!(rt;
+        sit(&rt, alloc, &service, &mut reader),
+        came('c', 0, 0, 0, 1, 2)
+    );
     assert_eq!(rt;
         last_out(reader.history()),
         r#"["nack","d",[{"content":{"code":403,"message":"read only connection","type":"InvalidScopeError"},"operation":null,"sequenceNumber":-1}]]"#
@@ -104,11 +203,31 @@ fn hostile<R: Abort + Wait>(rt: &R, alloc: Global, texts: VecDeque<Text>, wanted
 #[test]
 fn hostile_wires_end(rt: HostRuntime) -> Result<(), Fail> {
     let alloc = rt.alloc();
-    hostile(&rt, alloc, all(&rt, alloc, &[CONNECT, FOREIGN]), came('c', 0, 0, 0, 1, 3));
-    hostile(&rt, alloc, prefixes(&rt, alloc), came('c', 0, 0, 0, 265, 267));
-    hostile(&rt, alloc, unread(&rt, alloc), came('a', 1000, 0, 0, 1000, 1002));
+    hostile(
+        &rt,
+        alloc,
+        all(&rt, alloc, &[CONNECT, FOREIGN]),
+        came('c', 0, 0, 0, 1, 3),
+    );
+    hostile(
+        &rt,
+        alloc,
+        prefixes(&rt, alloc),
+        came('c', 0, 0, 0, 265, 267),
+    );
+    hostile(
+        &rt,
+        alloc,
+        unread(&rt, alloc),
+        came('a', 1000, 0, 0, 1000, 1002),
+    );
     hostile(&rt, alloc, copies(&rt, alloc), came('c', 0, 1, 9999, 0, 3));
-    hostile(&rt, alloc, long(&rt, alloc), came('t', 1_048_577, 0, 0, 0, 2));
+    hostile(
+        &rt,
+        alloc,
+        long(&rt, alloc),
+        came('t', 1_048_577, 0, 0, 0, 2),
+    );
     Ok(())
 }
 
