@@ -17,7 +17,7 @@ use Rattle.fluid_types.specs.declared.verdicts.Verdict.{Verdict}
 use Rattle.fluid_types.specs.declared.verdicts.Verdict.TheVariants.{Sequenced}
 use Rattle.fluid_rules.specs.Rules.{verdict, IsLegal}
 use Rattle.fluid_rules.specs.Past.{is_sequenced}
-use Rattle.fluid_rules.specs.Counted.{is_counted}
+use Rattle.fluid_rules.specs.Counted.{is_counted, has_too_many_clients}
 use Rattle.fluid_scribe.specs.declared.job.Job.{Job}
 use Rattle.fluid_core.specs.Entering.{verdict_in, job_of}
 use Rattle.fluid_document.specs.Entries.{most, entries_of}
@@ -341,8 +341,9 @@ joined_numbers old scopes detail moment (Ok (raw, message)) few fresh is said =
 joined_numbers old scopes detail moment (Err fault) few fresh is said = tt
 
 pub joins : (old new : Standing) (scopes : Scopes) (detail : Tree) (moment : ℕ) (result : Result (Raw × Message) LaneFault) (l : List Step) → LaneSays → IsGated old new (is_full old ∷ has_too_many old ∷ []) IsOutside result
-    → IfErr result (IsCausedBy old.keeping.faults new.keeping.faults) → IfOk result (λ r. r.0 ≡ Join (entry_name old.entries.entered) scopes detail moment) → IfOk result (λ r. Sequenced r.1 ≡ verdict_in old.entries.state r.0) → old.entries.state.sequencer.sequence ≤ old.entries.entered → LaneStands old l → Joins (terms_of old) scopes detail moment (with_id result) l
-joins old new scopes detail moment result l law gate caused raw said few stands =
+    → IfErr result (IsCausedBy old.keeping.faults new.keeping.faults) → IfOk result (λ r. r.0 ≡ Join (entry_name old.entries.entered) scopes detail moment) → IfOk result (λ r. Sequenced r.1 ≡ verdict_in old.entries.state r.0) → old.entries.state.sequencer.sequence ≤ old.entries.entered
+    → (SaysOf old (ledger l) → has_too_many old ≡ (has_too_many_clients old.limits.clients (ledger l) (Join (entry_name (length (ledger l))) scopes detail moment), TooManyClients)) → LaneStands old l → Joins (terms_of old) scopes detail moment (with_id result) l
+joins old new scopes detail moment result l law gate caused raw said few many stands =
     let a = answers old new l (is_full old ∷ has_too_many old ∷ []) (is_full_at (terms_of old) l ∷ has_too_many_at (terms_of old) l ∷ []) IsOutside IsOutside (IsJoinFault (terms_of old)) (λ r. Unit {0}) result law stands (tt, (tt, tt)) outside_not_worn
     (record { rules_are = ((λ _. refl), ((λ _. tt), tt)); each = join_fault (terms_of old) old.keeping.faults new.keeping.faults; log = λ note rose. rose }) gate caused
     (λ is says. (
@@ -362,6 +363,9 @@ joins old new scopes detail moment result l law gate caused raw said few stands 
             };
       };
       numbered = joined_numbers old scopes detail moment result few (no_worn old (first_refusal (is_full old ∷ has_too_many old ∷ [])) result gate.passes) raw said;
+      limited = λ is.
+          let says = told_is old.keeping.content (SaysOf old (ledger l)) is (law old l stands) in
+          ap (λ (rule : Bool × LaneFault). rule.0) (sym (many says)) ∙ ap (nat_le old.limits.clients) says.count;
     }
 
 pub is_join : (scopes : Scopes) (detail : Tree) (moment : ℕ) (id : List ℕ) (result : Result (Raw × Message) LaneFault) → IfOk result (λ r. r.0 ≡ Join id scopes detail moment) → IfOk result (IsJoinOf scopes detail moment)

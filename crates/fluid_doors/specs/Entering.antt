@@ -10,7 +10,7 @@ use Rattle.fluid_types.specs.declared.verdicts.Verdict.{Verdict}
 use Rattle.fluid_types.specs.declared.verdicts.Verdict.TheVariants.{Sequenced, Dropped}
 use Rattle.fluid_rules.specs.Rules.{verdict, joined, IsLegal}
 use Rattle.fluid_rules.specs.Past.{is_sequenced}
-use Rattle.fluid_rules.specs.Counted.{is_counted, counted}
+use Rattle.fluid_rules.specs.Counted.{is_counted, counted, has_too_many_clients}
 use Rattle.fluid_core.specs.Entering.{IsUpTo}
 use Rattle.fluid_document.specs.Entries.{most}
 use Rattle.fluid_lane.specs.declared.steps.Step.{Step}
@@ -70,9 +70,11 @@ pub record HasNumbers (a : List ℕ × Message) : Type 0 where
   pub entry : (n : ℕ) × ((n < most) × (a.0 ≡ entry_name n))
   pub message : IsUpTo most a.1.number
 
+-- Where the keeper tells its content, the join is one of a client that isn't joined, so that the limit of clients holds for it
 pub record Joins (t : Terms) (scopes : Scopes) (detail : Tree) (moment : ℕ) (result : Result (List ℕ × Message) LaneFault) (l : List Step) : Type 0 where
   pub answers : Answers t (IsJoinFault t) (is_full_at t l ∷ has_too_many_at t l ∷ []) IsOutside (IsJoined scopes detail moment l) result l
   pub numbered : IfOk result HasNumbers
+  pub limited : t.told ≡ true → has_too_many_clients t.limits.clients (ledger l) (Join (entry_name (length (ledger l))) scopes detail moment) ≡ (has_too_many_at t l).0
 
 -- the step of a join
 abbrev pub joined_as : Scopes → Tree → ℕ → List ℕ × Message → List Step

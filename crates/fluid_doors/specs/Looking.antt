@@ -10,6 +10,7 @@ use Rattle.fluid_lane.specs.Steps.{ledger}
 use Rattle.fluid_voice.specs.declared.actions.Act.{Act}
 use Rattle.fluid_voice.specs.declared.actions.Act.TheVariants.{Connect, Deltas, Summary}
 use Rattle.fluid_voice.specs.declared.ends.ActEnd.{ActEnd}
+use Rattle.fluid_voice.specs.declared.ends.ActEnd.TheVariants.{Told}
 use Rattle.fluid_voice.specs.Ends.{range_asked, Held, Found, outcome}
 use Rattle.fluid_voice.specs.Ends.Outcome.{ends}
 use Rattle.fluid_voice.specs.Suits.{Suits}
@@ -40,10 +41,16 @@ pub record LooksTold (t : Terms) (act : Act) (result : Result ActEnd DeltaFault)
   -- a delta is never bad
   pub faults : IfErr result IsReadFault
 
--- Over any keeper the end is one that the act may have, and worn comes only where the list is as long as may be
+-- an end that the act may have; a connect is told a number
+abbrev pub SuitsLook : Act → ActEnd → Type 0
+SuitsLook (Connect name write scopes detail moment) (Told last) = ⊤
+SuitsLook (Connect name write scopes detail moment) end = ⊥
+SuitsLook act end = Suits act end
+
+-- Over any keeper the end is such a one, and worn comes only where the list is as long as may be
 pub record Looks (t : Terms) (act : Act) (result : Result ActEnd DeltaFault) (l : List Step) : Type 0 where
   pub worn : IfErr result (λ fault. IsWornDelta fault → is_worn_behind l ≡ true)
-  pub suits : IfOk result (Suits act)
+  pub suits : IfOk result (SuitsLook act)
   pub faults : IfErr result (IsLookFault act)
   pub told : t.told ≡ true → LooksTold t act result l
 

@@ -25,7 +25,7 @@ use Rattle.fluid_document.specs.Loading.{newest}
 use Rattle.fluid_doors.specs.Laws.{NewIsKept}
 use Rattle.fluid_opening.specs.Faults.{of_starting}
 use Rattle.fluid_opening.specs.declared.fault.DoorFault.TheVariants.{Lane}
-use Rattle.fluid_service.specs.Steps.{IsStartFault}
+use Rattle.fluid_opening.specs.Steps.{IsStartFault}
 use Rattle.fluid_service.specs.Shelved.{IsKeeperKept, AreKept, IsOfStart, IsStartOf}
 use Rattle.fluid_service.specs.Opening.{GoesOn}
 use Rattle.fluid_service.proofs.Beginnings.{IsQuiet, quiet_start, told_at, tell_at, started_quiet, left_kept, wrong_still}
@@ -214,8 +214,8 @@ module _ (law : CheckpointIsLoaded) (fresh_kept : NewIsKept) (name : List ℕ) (
             told_at k.content one.content (λ _. IsNotBad other) one.tells (partly.never one.kept.0 (tell_at k.content one.content (IsKept false one.kept.0) one.tells one.kept.1))
 
         by : (told : Bool) → is_some old.held ≡ told → (fault : LaneFault) → StartsPartly k left moment fault → of_starting fault ≡ Lane fault → IsStartFault told fault
-        by told is (lane.LogFailed note) partly of = tt
-        by told is (lane.DeltaFailed note) partly of = tt
+        by told is (lane.LogFailed note) partly of = partly.cause.rose
+        by told is (lane.DeltaFailed note) partly of = partly.cause.rose
         by told is lane.Worn partly of = tt
         by told is lane.NoMemory partly of = cc
         by false is (lane.Full entries) partly of = refl

@@ -5,8 +5,8 @@ use Rattle.std.proofs.lemmas.Bool.{false≢true}
 use Rattle.fluid_table.proofs.Places.{get_removed}
 use Rattle.fluid_rules.proofs.Ids.{own_id, same_id}
 use Rattle.fluid_log.specs.Shelving.{Shelving}
-use Rattle.fluid_service.specs.declared.steps.ShelfStep.{ShelfStep}
-use Rattle.fluid_service.specs.declared.steps.ShelfTerms.{ShelfTerms}
+use Rattle.fluid_opening.specs.declared.shelf.ShelfStep.{ShelfStep}
+use Rattle.fluid_service.specs.declared.terms.ShelfTerms.{ShelfTerms}
 use Rattle.fluid_service.specs.Visiting.{Visiting, name_of, is_among}
 use Rattle.fluid_service.specs.Shelved.{Shelved, terms_of, shelf_terms, AllServed, AreDistinct, IsShelf, ShelfStands}
 use Rattle.fluid_service.specs.Keys.{Serving}

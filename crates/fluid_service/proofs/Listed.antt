@@ -5,9 +5,9 @@ use Rattle.fluid_log.specs.Shelving.{Shelving}
 use Rattle.fluid_lane.specs.declared.fault.LaneFault.TheVariants as lane
 use Rattle.fluid_opening.specs.declared.fault.DoorFault.{DoorFault}
 use Rattle.fluid_opening.specs.declared.fault.DoorFault.TheVariants.{ShelfFailed, Lane, TooManyDocuments, NoMemory}
-use Rattle.fluid_service.specs.declared.steps.ShelfStep.{ShelfStep}
-use Rattle.fluid_service.specs.declared.steps.ShelfStep.TheVariants.{Opened, Failed}
-use Rattle.fluid_service.specs.Steps.{opened, failures, last_failure}
+use Rattle.fluid_opening.specs.declared.shelf.ShelfStep.{ShelfStep}
+use Rattle.fluid_opening.specs.declared.shelf.ShelfStep.TheVariants.{Opened, Failed}
+use Rattle.fluid_opening.specs.Steps.{opened, failures, last_failure}
 use Rattle.fluid_service.specs.Shelved.{FailedSo, AllFailedSo}
 use Rattle.fluid_service.specs.Opening.{GoesOn}
 

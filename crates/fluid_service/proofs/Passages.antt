@@ -7,10 +7,10 @@ use Rattle.fluid_turn.specs.Seats.{seeing}
 use Rattle.fluid_document.specs.Entries.{most}
 use Rattle.fluid_opening.specs.declared.fault.DoorFault.{DoorFault}
 use Rattle.fluid_opening.specs.declared.fault.DoorFault.TheVariants.{NoMemory}
-use Rattle.fluid_service.specs.declared.steps.ShelfStep.{ShelfStep}
-use Rattle.fluid_service.specs.declared.steps.ShelfTerms.{ShelfTerms}
+use Rattle.fluid_opening.specs.declared.shelf.ShelfStep.{ShelfStep}
+use Rattle.fluid_service.specs.declared.terms.ShelfTerms.{ShelfTerms}
 use Rattle.fluid_service.specs.Visiting.{Visiting, IsFound}
-use Rattle.fluid_service.specs.Steps.{is_opened, refusal, opening_steps, visit_steps, visit_steps_by, IsNoMemory, IsOpeningFault, IsAnswerBy}
+use Rattle.fluid_opening.specs.Steps.{is_opened, refusal, opening_steps, visit_steps, visit_steps_by, IsNoMemory, IsOpeningFault, IsAnswerBy}
 use Rattle.fluid_service.specs.Keys.{AKey, adding, Passes, IsVisitOf, Reaches, OpensNew}
 
 pub adding_none : (k : AKey) → k ≡ adding [] k

@@ -24,11 +24,11 @@ use Rattle.fluid_opening.specs.Opening.{Opens, OpenDoes, StartFails, IsRisen}
 use Rattle.fluid_opening.specs.declared.opening.TheConstants.{MOST_DOCUMENTS}
 use Rattle.fluid_opening.specs.declared.fault.DoorFault.{DoorFault}
 use Rattle.fluid_opening.specs.declared.fault.DoorFault.TheVariants.{ShelfFailed, Lane, TooManyDocuments, NoMemory}
-use Rattle.fluid_service.specs.declared.steps.ShelfStep.{ShelfStep}
-use Rattle.fluid_service.specs.declared.steps.ShelfStep.TheVariants.{Opened, Failed}
-use Rattle.fluid_service.specs.declared.steps.ShelfTerms.{ShelfTerms}
+use Rattle.fluid_opening.specs.declared.shelf.ShelfStep.{ShelfStep}
+use Rattle.fluid_opening.specs.declared.shelf.ShelfStep.TheVariants.{Opened, Failed}
+use Rattle.fluid_service.specs.declared.terms.ShelfTerms.{ShelfTerms}
 use Rattle.fluid_service.specs.Visiting.{Visiting, name_of, is_among, find_visit, FindsVisit, IsFound, IsSplitOf}
-use Rattle.fluid_service.specs.Steps.{opened, is_opened, is_worn, is_full, refusal, refusal_by, IsOpeningFault}
+use Rattle.fluid_opening.specs.Steps.{opened, is_opened, is_worn, is_full, refusal, refusal_by, IsOpeningFault}
 use Rattle.fluid_service.specs.Shelved.{Shelved, terms_of, shelf_terms, nothing_open, with_failure, is_open, AreKept, IsServed, AllServed, AreDistinct, IsShelf, FailedSo, ShelfStands, Continues, IsStartOf}
 use Rattle.fluid_service.specs.Keys.{IsVisitOf}
 use Rattle.fluid_service.specs.Opening.{IsDoorOf, OpensVisit, GoesOn, KeepsVisit, KeepsRest, FailsToStart, StartsVisit}
@@ -201,14 +201,15 @@ failed_shelf s name fault shelf few = record {
 -- ---- the list behind a step
 
 pub stands_same : (s : Shelved) (new : Shelving) (l : List ShelfStep) → GoesOn s.shelving new → ShelfStands s l → ShelfStands (shelved s new) (l ++ [])
-stands_same s new l on stands = subst (ShelfStands (shelved s new)) (sym (append-nil l)) (record { names = stands.names; failed = stands.failed; last = stands.last; causes = causes_on s.shelving new l on stands.causes })
+stands_same s new l on stands = subst (ShelfStands (shelved s new)) (sym (append-nil l)) (record { names = stands.names; failed = stands.failed; last = stands.last; causes = causes_on s.shelving new l on stands.causes; few = stands.few })
 
-pub stands_opened : (s : Shelved) (new : Shelving) (visit : Visiting) (name : List ℕ) (l : List ShelfStep) → GoesOn s.shelving new → name_of visit ≡ name → ShelfStands s l → ShelfStands (enrolled s new visit) (l ++ Opened name ∷ [])
-stands_opened s new visit name l on named stands = record {
+pub stands_opened : (s : Shelved) (new : Shelving) (visit : Visiting) (name : List ℕ) (l : List ShelfStep) → length s.visits < MOST_DOCUMENTS → GoesOn s.shelving new → name_of visit ≡ name → ShelfStands s l → ShelfStands (enrolled s new visit) (l ++ Opened name ∷ [])
+stands_opened s new visit name l room on named stands = record {
   names = names_push s.visits visit ∙ ap (λ n. map name_of s.visits ++ n ∷ []) named ∙ ap (λ names. names ++ name ∷ []) stands.names ∙ sym (opened-opened l name);
   failed = stands.failed ∙ sym (failures-opened l name);
   last = stands.last ∙ sym (last-opened l name);
   causes = causes-opened new l name (causes_on s.shelving new l on stands.causes);
+  few = let count = opened_is s l stands in let more = ap length (opened-opened l name) in let one = length-append (opened l) (name ∷ []) in omega (arith, room, count, more, one);
 }
 
 pub stands_failed : (s : Shelved) (new : Shelving) (name : List ℕ) (fault : DoorFault) (l : List ShelfStep) → GoesOn s.shelving new → FailedSo new name fault → ShelfStands s l
@@ -218,6 +219,7 @@ stands_failed s new name fault l on so stands = record {
   failed = ap (λ n. n + 1) stands.failed ∙ sym (failures-failed l name fault);
   last = sym (last-failed l name fault);
   causes = causes-failed new l name fault (causes_on s.shelving new l on stands.causes) so;
+  few = subst (λ names. length names ≤ MOST_DOCUMENTS) (sym (opened-failed l name fault)) stands.few;
 }
 
 -- ---- an opening, by its answer
@@ -225,10 +227,10 @@ stands_failed s new name fault l on so stands = record {
 pub rest_continues : (old new : Shelved) → GoesOn old.shelving new.shelving → KeepsRest old new → Continues old new []
 rest_continues old new on rest = subst (λ t. Continues old t []) (sym rest) (record { terms = terms_are old new.shelving on.told; list = λ l stands. stands_same old new.shelving l on stands })
 
-pub opens_continues : (name : List ℕ) (moment : ℕ) (old new : Shelved) (visit : Visiting) → GoesOn old.shelving new.shelving → KeepsVisit name moment old new visit → Continues old new (Opened name ∷ [])
-opens_continues name moment old new visit on keeps =
+pub opens_continues : (name : List ℕ) (moment : ℕ) (old new : Shelved) (visit : Visiting) → length old.visits < MOST_DOCUMENTS → GoesOn old.shelving new.shelving → KeepsVisit name moment old new visit → Continues old new (Opened name ∷ [])
+opens_continues name moment old new visit room on keeps =
     subst (λ t. Continues old t (Opened name ∷ [])) (sym keeps.becomes)
-    (record { terms = terms_are old new.shelving on.told; list = λ l stands. stands_opened old new.shelving keeps.own name l on keeps.opens.door.name_is stands })
+    (record { terms = terms_are old new.shelving on.told; list = λ l stands. stands_opened old new.shelving keeps.own name l room on keeps.opens.door.name_is stands })
 
 pub fails_continues : (name : List ℕ) (moment : ℕ) (fault : DoorFault) (old mid new : Shelved) → GoesOn old.shelving mid.shelving → FailsToStart name moment old mid fault → new ≡ with_failure name fault mid
     → Continues old new (Failed name fault ∷ [])
@@ -311,7 +313,7 @@ module _ (law : CheckpointIsLoaded) (fresh : NewIsKept) (limits : Limits) (name 
   starts_not s t (ShelfFailed note) was is does cause rest = record {
     does = rw (was, is) does;
     cause = rw is (omega (arith, cause.last));
-    may = tt;
+    may = does.1.rose;
     rest = rest;
   }
   starts_not s t (Lane fault) was is does cause rest = record {

@@ -4,9 +4,9 @@ use Rattle.std.specs.FinMap.{get}
 use Rattle.fluid_log.specs.Keeping.{Keeping}
 use Rattle.fluid_log.specs.Shelving.{Shelving, PutsBack}
 use Rattle.fluid_rules.specs.declared.limits.Limits.{Limits}
-use Rattle.fluid_service.specs.declared.steps.ShelfStep.{ShelfStep}
+use Rattle.fluid_opening.specs.declared.shelf.ShelfStep.{ShelfStep}
 use Rattle.fluid_service.specs.Visiting.{Visiting, name_of, is_among}
-use Rattle.fluid_service.specs.Steps.{is_opened}
+use Rattle.fluid_opening.specs.Steps.{is_opened}
 use Rattle.fluid_service.specs.Shelved.{Shelved, IsKeeperKept, AreKept, AreDistinct, AllServed, shelf_terms}
 use Rattle.fluid_service.specs.Keys.{Serving}
 

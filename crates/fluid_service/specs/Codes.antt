@@ -16,8 +16,8 @@ use Rattle.fluid_doors.specs.Terms.{Doorway}
 use Rattle.fluid_doors.specs.Passing.{APass}
 use Rattle.fluid_opening.specs.declared.fault.DoorFault.{DoorFault}
 use Rattle.fluid_opening.specs.contracts.fault.DoorFault as faults
-use Rattle.fluid_service.specs.contracts.steps.ShelfStep as shelf_steps
-use Rattle.fluid_service.specs.contracts.steps.ShelfTerms as shelf_terms
+use Rattle.fluid_opening.specs.contracts.shelf.ShelfStep as shelf_steps
+use Rattle.fluid_service.specs.contracts.terms.ShelfTerms as shelf_terms
 use Rattle.fluid_service.specs.Visiting.{Visiting, Enrolled}
 use Rattle.fluid_service.specs.Shelved.{Shelved}
 use Rattle.fluid_service.specs.Keys.{Serving}

@@ -5,10 +5,10 @@ use Rattle.fluid_turn.specs.Entries.{IsPrefix, by_seat, entries}
 use Rattle.fluid_turn.specs.Seats.{Turning, Known}
 use Rattle.fluid_document.specs.Entries.{most}
 use Rattle.fluid_opening.specs.declared.fault.DoorFault.{DoorFault}
-use Rattle.fluid_service.specs.declared.steps.ShelfStep.{ShelfStep}
-use Rattle.fluid_service.specs.declared.steps.ShelfTerms.{ShelfTerms}
+use Rattle.fluid_opening.specs.declared.shelf.ShelfStep.{ShelfStep}
+use Rattle.fluid_service.specs.declared.terms.ShelfTerms.{ShelfTerms}
 use Rattle.fluid_service.specs.Visiting.{Visiting}
-use Rattle.fluid_service.specs.Steps.{IsAnswer, IsAnswerBy}
+use Rattle.fluid_opening.specs.Steps.{IsAnswer, IsAnswerBy}
 use Rattle.fluid_service.specs.Shelved.{IsServed}
 
 -- a service is the turn of its shelf, and a key is a seat of it

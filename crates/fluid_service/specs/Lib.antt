@@ -1,5 +1,4 @@
 pub mod Visiting
-pub mod Steps
 pub mod Shelved
 pub mod Keys
 pub mod Opening

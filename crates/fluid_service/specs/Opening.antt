@@ -11,7 +11,7 @@ use Rattle.fluid_opening.specs.declared.fault.DoorFault.{DoorFault}
 use Rattle.fluid_opening.specs.declared.fault.DoorFault.TheVariants.{TooManyDocuments, NoMemory}
 use Rattle.fluid_service.specs.Visiting.{Visiting, IsSplitOf}
 use Rattle.fluid_service.specs.Shelved.{Shelved, shelf_terms, IsServed, IsStartOf, FailedSo}
-use Rattle.fluid_service.specs.Steps.{IsOpeningFault}
+use Rattle.fluid_opening.specs.Steps.{IsOpeningFault}
 
 -- the door is one of this lane: its turn begins with a list of steps for which the lane stands
 pub record IsDoorOf (name : List ℕ) (lane : Standing) (visit : Visiting) : Type 0 where

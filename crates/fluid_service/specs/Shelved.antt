@@ -17,11 +17,11 @@ use Rattle.fluid_doors.specs.Terms.{Doorway}
 use Rattle.fluid_opening.specs.declared.opening.TheConstants.{MOST_DOCUMENTS}
 use Rattle.fluid_opening.specs.declared.fault.DoorFault.{DoorFault}
 use Rattle.fluid_opening.specs.declared.fault.DoorFault.TheVariants.{ShelfFailed, Lane, TooManyDocuments, NoMemory}
-use Rattle.fluid_service.specs.declared.steps.ShelfStep.{ShelfStep}
-use Rattle.fluid_service.specs.declared.steps.ShelfStep.TheVariants.{Opened, Failed}
-use Rattle.fluid_service.specs.declared.steps.ShelfTerms.{ShelfTerms}
+use Rattle.fluid_opening.specs.declared.shelf.ShelfStep.{ShelfStep}
+use Rattle.fluid_opening.specs.declared.shelf.ShelfStep.TheVariants.{Opened, Failed}
+use Rattle.fluid_service.specs.declared.terms.ShelfTerms.{ShelfTerms}
 use Rattle.fluid_service.specs.Visiting.{Visiting, name_of, is_among}
-use Rattle.fluid_service.specs.Steps.{opened, failures, last_failure}
+use Rattle.fluid_opening.specs.Steps.{opened, failures, last_failure}
 
 -- ---- keepers that are kept
 
@@ -126,12 +126,13 @@ AllFailedSo s [] = ⊤
 AllFailedSo s (Opened name ∷ steps) = AllFailedSo s steps
 AllFailedSo s (Failed name fault ∷ steps) = FailedSo s name fault × AllFailedSo s steps
 
--- the open documents are those that were opened, in order; the failures are counted, and the last one is kept
+-- the open documents are those that were opened, in order, and not more than may be; the failures are counted, and the last one is kept
 pub record ShelfStands (s : Shelved) (l : List ShelfStep) : Type 0 where
   pub names : map name_of s.visits ≡ opened l
   pub failed : s.failed ≡ failures l
   pub last : s.last ≡ last_failure l
   pub causes : AllFailedSo s.shelving l
+  pub few : length (opened l) ≤ MOST_DOCUMENTS
 
 -- the shelf goes on with these steps: what never changes stays, and whatever list it stood for, it stands for that list with
 -- these steps

@@ -1,11 +1,11 @@
 -- A door with a pass of it, and the visits of the open documents.
 use Rattle.std.specs.Prelude.{◌≡◌, ⊤, ℕ, Bool, true, false, List, [], ◌∷◌, ◌++◌, map, if◌then◌else◌, Option, Some, None, Result, Ok, Err}
-use Rattle.std.specs.List.{list_any}
 use Rattle.std.specs.Str.{bytes_eq}
 use Rattle.fluid_turn.specs.Seats.{IsNew}
 use Rattle.fluid_json.specs.declared.memory.NoMemory.{NoMemory}
 use Rattle.fluid_doors.specs.Terms.{Doorway}
 use Rattle.fluid_doors.specs.Passing.{APass}
+pub use Rattle.fluid_opening.specs.Steps.{is_among}
 
 pub record Visiting : Type 0 where
   pub door : Doorway
@@ -40,10 +40,6 @@ AreNamed text (row ∷ rows) = ((text row.0 ≡ row.1.0) × (row.1.0 ≡ name_of
 abbrev pub TakesLast : List Visiting → List Visiting → Option (List ℕ × Visiting) → Type 0
 TakesLast old new None = (old ≡ []) × (new ≡ old)
 TakesLast old new (Some (name, visit)) = (old ≡ new ++ visit ∷ []) × (name ≡ name_of visit)
-
--- the name is one of these
-abbrev pub is_among : List ℕ → List (List ℕ) → Bool
-is_among name names = list_any (bytes_eq name) names
 
 -- the visit under a name
 abbrev pub find_visit : List ℕ → List Visiting → Option Visiting

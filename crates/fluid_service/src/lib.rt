@@ -6,9 +6,9 @@
 //!
 //! - `service`: the service, and the keys of it. `closing`: how a call enters its step and gives the shelf back. `ending`: how all
 //!   documents are closed.
-//! - `shelf`: what is done by whoever has the shelf in hand, by the list of steps for which it stands; `steps`: these steps.
+//! - `shelf`: what is done by whoever has the shelf in hand, by the list of steps for which it stands. `terms`: what never changes of a service.
 //! - `visit`: a door with a pass of it. `roll`: the visits by name. `opening`: how a door is made. `laws`: with
-//!   which shelves a service may begin.
+//!   which shelves a service may begin, and what holds of every key.
 #![tactic(auto)]
 
 mod closing;
@@ -18,13 +18,13 @@ mod opening;
 mod roll;
 mod service;
 mod shelf;
-mod steps;
+mod terms;
 mod visit;
 
 pub use fluid_doors::{Door, Pass};
-pub use fluid_opening::{DoorFault, MOST_DOCUMENTS};
-pub use laws::new_shelves_are_kept;
+pub use fluid_opening::{DoorFault, MOST_DOCUMENTS, ShelfStep};
+pub use laws::{know_key, new_shelves_are_kept};
 pub use service::{Key, Service};
 pub use shelf::Shelf;
-pub use steps::{ShelfStep, ShelfTerms};
+pub use terms::ShelfTerms;
 pub use visit::Visit;

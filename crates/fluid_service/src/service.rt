@@ -3,7 +3,7 @@ ghost use Rattle.std.specs.Prelude.{◌≡◌, ◌≤◌, List, [], IfOk, IfErr}
 ghost use Rattle.fluid_log.specs.declared.keeper.TheConstants.{LONGEST_KEPT};
 ghost use Rattle.fluid_log.specs.Shelving.{AreWhole};
 ghost use Rattle.fluid_document.specs.Entries.{most};
-ghost use Rattle.fluid_service.specs.Steps.{opened, visit_steps};
+ghost use Rattle.fluid_opening.specs.Steps.{opened, visit_steps};
 ghost use Rattle.fluid_service.specs.Shelved.{AreKept, GiveKept, shelf_terms};
 ghost use Rattle.fluid_service.specs.Keys.{Passes, Reaches};
 ghost use Rattle.fluid_service.specs.Closing.{Closes};

@@ -50,6 +50,12 @@ impl<K: Keeper> Visit<K> {
         &self.door
     }
 
+    pub fn pass(&self) -> &Pass<K>
+        ensures { result.now ≡ self.now.pass }
+    {
+        &self.pass
+    }
+
     /// The pass is one of the door.
     pub fn know(&self)
         ensures { self.now.pass.turn ≡ self.now.door.turn }

@@ -3,4 +3,10 @@ pub mod Onward
 pub mod Passes
 pub mod Fronts
 pub mod Submitted
+pub mod Filling
+pub mod Counts
+pub mod Keys
+pub mod Doorways
+pub mod Leavings
 pub mod Wholly
+pub mod Completed

@@ -1,5 +1,5 @@
 -- How what is known of a connection goes on along the events of its session.
-use Rattle.std.proofs.Common.{◌≡◌, ℕ, ◌+◌, ◌-◌, ◌<◌, ◌≤◌, max, Bool, true, false, List, [], ◌∷◌, ◌++◌, length, take, drop, map, Option, Some, None, refl, sym, ap, subst, ◌∙◌, arith, append_assoc, append-nil}
+use Rattle.std.proofs.Common.{◌≡◌, ◌⊎◌, inl, inr, ℕ, ◌+◌, ◌-◌, ◌<◌, ◌≤◌, max, Bool, true, false, List, [], ◌∷◌, ◌++◌, length, take, drop, map, Option, Some, None, Result, Ok, refl, sym, ap, subst, ◌∙◌, arith, append_assoc, append-nil}
 use Rattle.std.proofs.lemmas.Bool.{false≢true}
 use Rattle.std.proofs.lemmas.List.{drop-drop, take-append-le, drop-append-le, length-drop}
 use Rattle.std.proofs.Math.Seq.{take-add}
@@ -16,25 +16,33 @@ use Rattle.fluid_lane.specs.Steps.{ledger}
 use Rattle.fluid_voice.specs.declared.states.VoiceState.{VoiceState}
 use Rattle.fluid_voice.specs.declared.states.VoiceState.TheVariants.{Fresh, Reading, Writing, Used}
 use Rattle.fluid_voice.specs.States.{client_id, document_name, is_connected, next_number, with_next}
+use Rattle.fluid_codec.specs.declared.replies.Reply.{Reply}
+use Rattle.fluid_rules.specs.declared.limits.Limits.{Limits}
+use Rattle.fluid_store.specs.Held.{Held}
+use Rattle.fluid_store.specs.Storing.{Storing}
 use Rattle.fluid_voice.specs.Heard.{acts_of}
+use Rattle.fluid_voice.specs.Feed.{fed}
+use Rattle.fluid_voice.specs.Ends.{outcome}
+use Rattle.fluid_voice.specs.Ends.Outcome.{ends}
+use Rattle.fluid_ends.specs.Asking.{found_in}
 use Rattle.fluid_ends.specs.declared.fault.TalkFault.{TalkFault}
-use Rattle.fluid_talk.specs.Talking.{Knowing, Talking, IsSound, IsSamePass, Goes, order_of}
-use Rattle.fluid_talk.specs.Doing.{Did, AreFound, seen_behind, steps_in}
-use Rattle.fluid_talk.specs.Hearing.{HearsConnected, HearsApart, Reaches, ReachesBy}
+use Rattle.fluid_talk.specs.Talking.{Knowing, Talking, IsSound, IsSamePass, Goes, ledger_of, order_of}
+use Rattle.fluid_talk.specs.Doing.{Did, AreFound, AreAnswered, IsAnswered, IsTold, seen_behind, steps_in}
+use Rattle.fluid_talk.specs.Hearing.{HearsConnected, Reaches, ReachesBy}
 use Rattle.fluid_talk.specs.Collecting.{Feeds}
-use Rattle.fluid_session.specs.Events.{Event, Stand, Collection, Round, IsCollection, IsRound, AreEvents, behind}
+use Rattle.fluid_session.specs.Events.{Event, Stand, Collection, Round, IsCollection, IsRound, IsHeardApart, AreEvents, behind}
 use Rattle.fluid_session.specs.Events.Event.{brings, hears}
-use Rattle.fluid_session.specs.Lines.{steps_of_round, steps_of, collected_in, entered, entered_in, GoesOn, Stretches, Joins, Went}
+use Rattle.fluid_session.specs.Lines.{steps_of_round, steps_of, collected_in, entered, entered_in, AreReadBetween, AreRead, AreReached, GoesOn, Stretches}
 
 -- ---- passes
 
-same_refl : (p : Knowing) → IsSamePass p p
+pub same_refl : (p : Knowing) → IsSamePass p p
 same_refl p = record { name = refl; limits = refl; told = refl; number = refl }
 
-goes_refl : (p : Knowing) → Goes p p []
+pub goes_refl : (p : Knowing) → Goes p p []
 goes_refl p = record { same = same_refl p; seen = prefix_refl p.seen; mine = sym (append-nil p.mine) }
 
-goes_then : (p q r : Knowing) (a b : List Step) → Goes p q a → Goes q r b → Goes p r (a ++ b)
+pub goes_then : (p q r : Knowing) (a b : List Step) → Goes p q a → Goes q r b → Goes p r (a ++ b)
 goes_then p q r a b first second = record {
   same = record {
     name = second.same.name ∙ first.same.name;
@@ -47,7 +55,7 @@ goes_then p q r a b first second = record {
 }
 
 -- what was seen at first is a front of what is seen at last
-found_prefix : (number : ℕ) (failed : Option TalkFault) (seen now : List (Numbered Step)) (done : List Did) → AreFound number failed seen now done → IsPrefix seen now
+pub found_prefix : (number : ℕ) (failed : Option TalkFault) (seen now : List (Numbered Step)) (done : List Did) → AreFound number failed seen now done → IsPrefix seen now
 found_prefix number None seen now [] same = ([], same ∙ sym (append-nil seen))
 found_prefix number (Some fault) seen now [] front = front
 found_prefix number failed seen now (d ∷ done) (first, rest) =
@@ -130,20 +138,20 @@ goes_on (hears r ∷ es) s t joined (begins, (is, more)) =
 
 -- ---- stretches of an order
 
-ledger-more : (a b : List Step) → ledger (a ++ b) ≡ ledger a ++ ledger b
+pub ledger-more : (a b : List Step) → ledger (a ++ b) ≡ ledger a ++ ledger b
 ledger-more [] b = refl
 ledger-more (Entered raw verdict ∷ a) b = ap (λ l. (raw, verdict) ∷ l) (ledger-more a b)
 ledger-more (Aside side ∷ a) b = ledger-more a b
 
 -- the order of more steps begins with that of fewer
-order-prefix : (a b : List (Numbered Step)) → IsPrefix a b → IsPrefix (order_of a) (order_of b)
+pub order-prefix : (a b : List (Numbered Step)) → IsPrefix a b → IsPrefix (order_of a) (order_of b)
 order-prefix a b (rest, is) =
     (order_of rest, ap order_of is ∙ ap (λ l. order (ledger l)) (entries-append a rest) ∙ ap order (ledger-more (entries a) (entries rest)) ∙ order-append (ledger (entries a)) (ledger (entries rest)))
 
 slice-none : (o : List Message) (n : ℕ) → slice o n n ≡ []
 slice-none o n = let none : n - n ≡ 0 = omega arith in ap (λ k. take k (drop (n - 1) o)) none
 
-slice-grows : (o more : List Message) (from to : ℕ) → 0 < from → from ≤ to → to ≤ length o + 1 → slice (o ++ more) from to ≡ slice o from to
+pub slice-grows : (o more : List Message) (from to : ℕ) → 0 < from → from ≤ to → to ≤ length o + 1 → slice (o ++ more) from to ≡ slice o from to
 slice-grows o more from to first ordered last =
     let front : from - 1 ≤ length o = omega arith in
     let long : length (drop (from - 1) o) ≡ length o - (from - 1) = length-drop (from - 1) o in
@@ -210,93 +218,165 @@ stretches (hears r ∷ es) s t joined sound told (begins, (is, more)) =
       gapless = rest.gapless ∙ ap (λ n. slice (order_of t.talk.pass.seen) n (next_number t.talk.voice)) next_is;
     }
 
+-- ---- what replies are read from
+
+pub read_between : (number : ℕ) (failed : Option TalkFault) (first last seen now : List (Numbered Step)) (done : List Did) → IsPrefix first seen → IsPrefix now last
+    → AreFound number failed seen now done → AreReadBetween first last done
+read_between number failed first last seen now [] before behind_it found = tt
+read_between number failed first last seen now (d ∷ done) before behind_it (here, rest) =
+    let at : IsPrefix first d.found = prefix_trans first seen d.found before here in
+    let onward : IsPrefix d.found (seen_behind number d) = (map (by_seat number) d.added, refl) in
+    ((at, prefix_trans d.found now last (prefix_trans d.found (seen_behind number d) now onward (found_prefix number failed (seen_behind number d) now done rest)) behind_it),
+    read_between number failed first last (seen_behind number d) now done (prefix_trans first d.found (seen_behind number d) at onward) behind_it rest)
+
+answered_one : (p q : Knowing) (store : Storing) (d : Did) → q.told ≡ p.told → q.limits ≡ p.limits → IsAnswered p store d → IsAnswered q store d
+answered_one p q store d told limits answer = λ held is.
+    subst (λ (l : Limits). outcome (found_in l (ledger_of d.found) held) d.act ≡ ends d.end) (sym limits) (answer held (subst (λ (b : Bool). IsTold d.act b store held) told is))
+
+-- the same of another pass of the same document
+pub answered_later : (p q : Knowing) (store : Storing) (done : List Did) → q.told ≡ p.told → q.limits ≡ p.limits → AreAnswered p store done → AreAnswered q store done
+answered_later p q store [] told limits answered = tt
+answered_later p q store (d ∷ done) told limits (here, rest) = (answered_one p q store d told limits here, answered_later p q store done told limits rest)
+
+pub are_read : (es : List Event) (s t : Stand) (q : Knowing) → q.told ≡ t.talk.pass.told → q.limits ≡ t.talk.pass.limits → IsPrefix t.talk.pass.seen q.seen → is_connected s.talk.voice ≡ true → AreEvents s es t → AreRead q es
+are_read [] s t q told limits later joined same = tt
+are_read (brings c ∷ es) s t q told limits later joined (begins, (is, more)) =
+    let here : is_connected c.from.voice ≡ true = ap (λ (k : Talking). is_connected k.voice) begins ∙ joined in
+    are_read es (behind (brings c) s) t q told limits later (brings_on c here is).still more
+are_read (hears r ∷ es) s t q told limits later joined (begins, (is, more)) =
+    let here : is_connected r.from.voice ≡ true = ap (λ (k : Talking). is_connected k.voice) begins.0 ∙ joined in
+    let heard : HearsConnected r.from r.to r.before r.done r.heard.fault = is.hears_it.does.connected here in
+    let one : GoesOn r.from r.to (hears r ∷ []) = hears_on r here is in
+    let on : GoesOn r.to t.talk es = goes_on es (behind (hears r) s) t one.still more in
+    let seen : IsPrefix r.to.pass.seen q.seen = prefix_trans r.to.pass.seen t.talk.pass.seen q.seen on.goes.seen later in
+    ((read_between r.from.pass.number r.heard.fault r.from.pass.seen q.seen r.from.pass.seen r.to.pass.seen r.done (prefix_refl r.from.pass.seen) seen heard.found,
+    answered_later r.from.pass q r.before r.done (told ∙ on.goes.same.told ∙ one.goes.same.told) (limits ∙ on.goes.same.limits ∙ one.goes.same.limits) heard.answered),
+    are_read es (behind (hears r) s) t q told limits later one.still more)
+
+pub are_reached : (es : List Event) (s t : Stand) → AreEvents s es t → AreReached es
+are_reached [] s t same = tt
+are_reached (brings c ∷ es) s t (begins, (is, more)) = are_reached es (behind (brings c) s) t more
+are_reached (hears r ∷ es) s t (begins, (is, more)) = (is.reached, are_reached es (behind (hears r) s) t more)
+
+-- what holds of every connection holds behind the events
+pub sound_behind : (es : List Event) (s t : Stand) → IsSound s.talk → AreEvents s es t → IsSound t.talk
+sound_behind [] s t sound same = subst (λ (x : Stand). IsSound x.talk) (sym same) sound
+sound_behind (brings c ∷ es) s t sound (begins, (is, more)) = sound_behind es (behind (brings c) s) t is.sound more
+sound_behind (hears r ∷ es) s t sound (begins, (is, more)) = sound_behind es (behind (hears r) s) t is.sound more
+
 -- ---- from the first text on
 
-prepend_joins : (e : Event) (s m t : Talking) (es : List Event) → m.handed ≡ s.handed → Joins m t es → Joins s t (e ∷ es)
-prepend_joins e s m t es handed j = record {
-  early = e ∷ j.early;
-  connect = j.connect;
-  later = j.later;
-  are = ap (λ l. e ∷ l) j.are;
-  name = j.name;
-  reaches = j.reaches;
-  connected = j.connected;
-  goes_on = j.goes_on;
-  named = j.named;
-  mine = j.mine;
-  handed = λ is. subst (λ (k : Knowing). IsPrefix k.seen t.pass.seen) handed (j.handed (ap (λ (k : Knowing). k.name) handed ∙ is));
-  feed = j.feed;
+-- texts of one that isn't connected
+abbrev pub AllApart : List Event → Type 0
+AllApart [] = Unit {0}
+AllApart (brings c ∷ es) = AllApart es
+AllApart (hears r ∷ es) = ((is_connected r.from.voice ≡ false) × IsRound r) × AllApart es
+
+-- none of them connected it
+pub record Apart (s t : Talking) (events : List Event) : Type 0 where
+  pub apart : is_connected t.voice ≡ false
+  pub handed : t.handed ≡ s.handed
+  pub nothing : entered_in events ≡ []
+  pub unfed : collected_in events ≡ []
+  pub all : AllApart events
+
+-- one of them did, and it is still connected
+pub record Connected (s : Talking) (t : Stand) (events : List Event) : Type 0 where
+  pub early : List Event
+  pub connect : Round
+  pub later : List Event
+  pub are : events ≡ early ++ hears connect ∷ later
+  pub name : List ℕ
+  pub still : is_connected connect.from.voice ≡ false
+  pub is : IsRound connect
+  pub reached : connect.reached ≡ Some name
+  pub reaches : Reaches name connect.from connect.to connect.before (acts_of connect.from.voice connect.text connect.moment) connect.done connect.heard.fault
+  pub connected : is_connected connect.to.voice ≡ true
+  pub same : connect.from.handed ≡ s.handed
+  pub unfed : collected_in early ≡ []
+  pub all : AllApart early
+  pub more : AreEvents (record { talk = connect.to; store = connect.now }) later t
+  pub goes_on : GoesOn connect.to t.talk later
+
+prepend : (e : Event) (s m : Talking) (t : Stand) (es : List Event) → m.handed ≡ s.handed → ((early : List Event) → collected_in early ≡ [] → collected_in (e ∷ early) ≡ []) → ((early : List Event) → AllApart early → AllApart (e ∷ early))
+    → Connected m t es → Connected s t (e ∷ es)
+prepend e s m t es handed unfed all c = record {
+  early = e ∷ c.early;
+  connect = c.connect;
+  later = c.later;
+  are = ap (λ l. e ∷ l) c.are;
+  name = c.name;
+  still = c.still;
+  is = c.is;
+  reached = c.reached;
+  reaches = c.reaches;
+  connected = c.connected;
+  same = c.same ∙ handed;
+  unfed = unfed c.early c.unfed;
+  all = all c.early c.all;
+  more = c.more;
+  goes_on = c.goes_on;
 }
 
-went_brings : (c : Collection) (s t : Talking) (es : List Event) → c.to.handed ≡ s.handed → Went c.to t es → Went s t (brings c ∷ es)
-went_brings c s t es handed w = record {
-  joins = λ joined. prepend_joins (brings c) s c.to t es handed (w.joins joined);
-  apart = λ apart. let a = w.apart apart in record { apart = apart; handed = a.handed ∙ handed; nothing = a.nothing };
-}
+abbrev pub Went : Talking → Stand → List Event → Type 0
+Went s t es = Connected s t es ⊎ Apart s t.talk es
 
-went_hears : (r : Round) (s t : Talking) (es : List Event) → r.to.handed ≡ s.handed → steps_in r.done ≡ [] → Went r.to t es → Went s t (hears r ∷ es)
-went_hears r s t es handed nothing w = record {
-  joins = λ joined. prepend_joins (hears r) s r.to t es handed (w.joins joined);
-  apart = λ apart. let a = w.apart apart in record { apart = apart; handed = a.handed ∙ handed; nothing = ap (λ l. entered l ++ entered_in es) nothing ∙ a.nothing };
-}
+went_brings : (c : Collection) (s : Talking) (t : Stand) (es : List Event) → c.to.handed ≡ s.handed → c.given ≡ [] → Went c.to t es → Went s t (brings c ∷ es)
+went_brings c s t es handed none (inl j) = inl (prepend (brings c) s c.to t es handed (λ early unfed. ap (λ l. fed l ++ collected_in early) none ∙ unfed) (λ early all. all) j)
+went_brings c s t es handed none (inr a) =
+    inr (record { apart = a.apart; handed = a.handed ∙ handed; nothing = a.nothing; unfed = ap (λ l. fed l ++ collected_in es) none ∙ a.unfed; all = a.all })
 
-connects : (r : Round) (s : Talking) (t : Stand) (es : List Event) (name : List ℕ) → r.from ≡ s → IsRound r
-    → Reaches name r.from r.to r.before (acts_of r.from.voice r.text r.moment) r.done r.heard.fault → is_connected r.to.voice ≡ true
-    → AreEvents (record { talk = r.to; store = r.now }) es t → Went s t.talk (hears r ∷ es)
-connects r s t es name begins is reaches connected more =
-    let start : Stand = record { talk = r.to; store = r.now } in
-    let on : GoesOn r.to t.talk es = goes_on es start t connected more in
-    record {
-      joins = λ joined. record {
-        early = [];
-        connect = r;
-        later = es;
-        are = refl;
-        name = name;
-        reaches = reaches;
-        connected = connected;
-        goes_on = on;
-        named = on.goes.same.name ∙ reaches.named;
-        mine = on.goes.mine ∙ ap (λ l. l ++ steps_of es) reaches.mine;
-        handed = λ handed.
-            let front : IsPrefix r.from.handed.seen reaches.first = reaches.begins (ap (λ (k : Talking). k.handed.name) begins ∙ handed) in
-            subst (λ (k : Talking). IsPrefix k.handed.seen t.talk.pass.seen) begins
-            (prefix_trans r.from.handed.seen r.to.pass.seen t.talk.pass.seen
-            (prefix_trans r.from.handed.seen reaches.first r.to.pass.seen front (found_prefix r.to.pass.number r.heard.fault reaches.first r.to.pass.seen r.done reaches.found))
-            on.goes.seen);
-        feed = λ told. stretches es start t connected is.sound (sym on.goes.same.told ∙ told) more;
-      };
-      apart = λ apart. absurd (false≢true (sym apart ∙ on.still));
-    }
+went_hears : (r : Round) (s : Talking) (t : Stand) (es : List Event) → r.to.handed ≡ s.handed → steps_in r.done ≡ [] → is_connected r.from.voice ≡ false → IsRound r → Went r.to t es → Went s t (hears r ∷ es)
+went_hears r s t es handed nothing still is (inl j) = inl (prepend (hears r) s r.to t es handed (λ early unfed. unfed) (λ early all. ((still, is), all)) j)
+went_hears r s t es handed nothing still is (inr a) =
+    inr (record { apart = a.apart; handed = a.handed ∙ handed; nothing = ap (λ l. entered l ++ entered_in es) nothing ∙ a.nothing; unfed = a.unfed; all = ((still, is), a.all) })
 
 -- a text that is heard apart: it connects, or what comes behind it is heard apart too
 went_text : (r : Round) (s t : Stand) (es : List Event) → r.from ≡ s.talk → is_connected r.from.voice ≡ false → IsRound r → AreEvents (record { talk = r.to; store = r.now }) es t
-    → (is_connected r.to.voice ≡ false → Went r.to t.talk es) → Went s.talk t.talk (hears r ∷ es)
-went_text r s t es begins here is more next = by does.reached does.does
+    → (is_connected r.to.voice ≡ false → Went r.to t es) → Went s.talk t (hears r ∷ es)
+went_text r s t es begins here is more next = by r.reached refl does.does
   where
-    does : HearsApart r.from r.to r.before (acts_of r.from.voice r.text r.moment) r.done r.heard.fault
-    does = is.hears_it.does.apart here
+    does : IsHeardApart r
+    does = is.apart here
 
     handed_is : r.from.handed ≡ s.talk.handed
     handed_is = ap (λ (k : Talking). k.handed) begins
 
-    split : (name : List ℕ) → Reaches name r.from r.to r.before (acts_of r.from.voice r.text r.moment) r.done r.heard.fault → (b : Bool) → is_connected r.to.voice ≡ b
-        → Went s.talk t.talk (hears r ∷ es)
-    split name reaches true connected = connects r s.talk t es name begins is reaches connected more
-    split name reaches false still = went_hears r s.talk t.talk es (reaches.handed still ∙ handed_is) (reaches.nothing still) (next still)
+    split : (name : List ℕ) → r.reached ≡ Some name → Reaches name r.from r.to r.before (acts_of r.from.voice r.text r.moment) r.done r.heard.fault → (b : Bool) → is_connected r.to.voice ≡ b
+        → Went s.talk t (hears r ∷ es)
+    split name at reaches true connected = inl (record {
+      early = [];
+      connect = r;
+      later = es;
+      are = refl;
+      name = name;
+      still = here;
+      is = is;
+      reached = at;
+      reaches = reaches;
+      connected = connected;
+      same = handed_is;
+      unfed = refl;
+      all = tt;
+      more = more;
+      goes_on = goes_on es (record { talk = r.to; store = r.now }) t connected more;
+    })
+    split name at reaches false still = went_hears r s.talk t es (reaches.handed still ∙ handed_is) (reaches.nothing still) here is (next still)
 
-    by : (reached : Option (List ℕ)) → ReachesBy reached r.from r.to r.before (acts_of r.from.voice r.text r.moment) r.done r.heard.fault → Went s.talk t.talk (hears r ∷ es)
-    by None away = went_hears r s.talk t.talk es (away.handed ∙ handed_is) away.nothing (next away.apart)
-    by (Some name) reaches = split name reaches (is_connected r.to.voice) refl
+    by : (reached : Option (List ℕ)) → r.reached ≡ reached → ReachesBy reached r.from r.to r.before (acts_of r.from.voice r.text r.moment) r.done r.heard.fault → Went s.talk t (hears r ∷ es)
+    by None at away = went_hears r s.talk t es (away.handed ∙ handed_is) away.nothing here is (next away.apart)
+    by (Some name) at reaches = split name at reaches (is_connected r.to.voice) refl
 
-pub went : (es : List Event) (s t : Stand) → is_connected s.talk.voice ≡ false → AreEvents s es t → Went s.talk t.talk es
+ok_given : (a b : List Reply) → ◌≡◌ {A = Result (List Reply) TalkFault} (Ok a) (Ok b) → a ≡ b
+ok_given a b same = cc
+
+pub went : (es : List Event) (s t : Stand) → is_connected s.talk.voice ≡ false → AreEvents s es t → Went s.talk t es
 went [] s t apart same =
-    subst (λ (x : Stand). Went s.talk x.talk []) (sym same)
-    (record { joins = λ joined. absurd (false≢true (sym apart ∙ joined)); apart = λ a. record { apart = apart; handed = refl; nothing = refl } })
+    inr (subst (λ (x : Stand). Apart s.talk x.talk []) (sym same) (record { apart = apart; handed = refl; nothing = refl; unfed = refl; all = tt }))
 went (brings c ∷ es) s t apart (begins, (is, more)) =
     let here : is_connected c.from.voice ≡ false = ap (λ (k : Talking). is_connected k.voice) begins ∙ apart in
     let same : c.to ≡ s.talk = (is.collects.apart here).1 ∙ begins in
-    went_brings c s.talk t.talk es (ap (λ (k : Talking). k.handed) same)
+    went_brings c s.talk t es (ap (λ (k : Talking). k.handed) same) (ok_given c.given [] (is.collects.apart here).0)
     (went es (behind (brings c) s) t (ap (λ (k : Talking). is_connected k.voice) same ∙ apart) more)
 went (hears r ∷ es) s t apart (begins, (is, more)) =
     went_text r s t es begins.0 (ap (λ (k : Talking). is_connected k.voice) begins.0 ∙ apart) is more (λ still. went es (behind (hears r) s) t still more)

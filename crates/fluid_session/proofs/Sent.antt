@@ -6,11 +6,11 @@ use Rattle.fluid_io.specs.Causes.{Rose}
 use Rattle.fluid_codec.specs.declared.replies.Reply.{Reply}
 use Rattle.fluid_codec.specs.Replies.{reply_printed}
 use Rattle.fluid_lines.specs.declared.wire.WireText.{WireText}
-use Rattle.fluid_lines.specs.declared.wire.WireText.TheVariants.{Out}
+use Rattle.fluid_lines.specs.declared.wire.WireText.TheVariants.{In, Out}
 use Rattle.fluid_lines.specs.declared.wire.WireFault.{WireFault}
 use Rattle.fluid_lines.specs.declared.wire.WireFault.TheVariants.{Failed, NoMemory}
 use Rattle.fluid_lines.specs.Wires.{Wiring}
-use Rattle.fluid_session.specs.Sending.{Passes, IsWireCause, SendsOne, SendsAll, out_texts}
+use Rattle.fluid_session.specs.Sending.{Passes, IsWireCause, SendsOne, SendsAll, out_texts, ins_of, sent_one}
 
 -- ---- histories
 
@@ -23,17 +23,43 @@ more_of_more : (a b : List WireText) (h : Option (List WireText))
 more_of_more a b None = refl
 more_of_more a b (Some history) = ap Some (append_assoc history a b)
 
+-- ---- texts to come
+
+abbrev Coming : Type 0
+Coming = Option (List (List ℕ))
+
+pub none_taken : (t : Coming) → t ≡ option_map (λ more. [] ++ more) t
+none_taken None = refl
+none_taken (Some texts) = refl
+
+ins-append : (a b : List WireText) → ins_of (a ++ b) ≡ ins_of a ++ ins_of b
+ins-append [] b = refl
+ins-append (In text ∷ a) b = ap (λ l. text ∷ l) (ins-append a b)
+ins-append (Out text ∷ a) b = ins-append a b
+
+taken_both : (a b : List (List ℕ)) (t : Coming) → option_map (λ more. a ++ more) (option_map (λ more. b ++ more) t) ≡ option_map (λ more. (a ++ b) ++ more) t
+taken_both a b None = refl
+taken_both a b (Some texts) = ap Some (sym (append_assoc a b texts))
+
+taken_then : (a b : List WireText) (old mid new : Coming) → old ≡ option_map (λ more. ins_of a ++ more) mid → mid ≡ option_map (λ more. ins_of b ++ more) new
+    → old ≡ option_map (λ more. ins_of (a ++ b) ++ more) new
+taken_then a b old mid new first second =
+    first ∙ ap (option_map (λ more. ins_of a ++ more)) second ∙ taken_both (ins_of a) (ins_of b) new ∙ ap (λ l. option_map (λ more. l ++ more) new) (sym (ins-append a b))
+
+-- ---- what goes by
+
 -- nothing went by
 pub passes_nothing : (w : Wiring) → Passes [] w w
-passes_nothing w = record { adds = nothing_more w.history; faults = omega arith }
+passes_nothing w = record { adds = nothing_more w.history; taken = none_taken w.texts; faults = omega arith }
 
--- the history stays, and so more faults at most were counted
-pub passes_by : (old new : Wiring) → new.history ≡ old.history → old.faults ≤ new.faults → Passes [] old new
-passes_by old new same later = record { adds = same ∙ nothing_more old.history; faults = later }
+-- history and texts stay, and so more faults at most were counted
+pub passes_by : (old new : Wiring) → new.history ≡ old.history → new.texts ≡ old.texts → old.faults ≤ new.faults → Passes [] old new
+passes_by old new same texts later = record { adds = same ∙ nothing_more old.history; taken = sym texts ∙ none_taken new.texts; faults = later }
 
 pub passes_then : (a b : List WireText) (old mid new : Wiring) → Passes a old mid → Passes b mid new → Passes (a ++ b) old new
 passes_then a b old mid new first second = record {
   adds = second.adds ∙ ap (option_map (λ history. history ++ b)) first.adds ∙ more_of_more a b old.history;
+  taken = taken_then a b old.texts mid.texts new.texts first.taken second.taken;
   faults = let one = first.faults in let two = second.faults in omega arith;
 }
 

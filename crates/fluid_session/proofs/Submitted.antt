@@ -22,22 +22,22 @@ use Rattle.fluid_voice.specs.declared.ends.ActEnd.{ActEnd}
 use Rattle.fluid_voice.specs.declared.ends.ActEnd.TheVariants.{Said, Joined, Told, Entered as EndsEntered, FullNow, TooMany, Given}
 use Rattle.fluid_voice.specs.States.{client_id, is_connected}
 use Rattle.fluid_voice.specs.Heard.{acts_of, entries_in, entry_of, submission_acts, read_acts, event_acts, nacks}
-use Rattle.fluid_voice.specs.Laws.{entries_under}
+use Rattle.fluid_voice.specs.Laws.{entries_under, FullBehind}
 use Rattle.fluid_voice.proofs.Entering.{writers_enter}
 use Rattle.fluid_voice.specs.Suits.{Suits}
 use Rattle.fluid_ends.specs.Adding.{AddsBy}
 use Rattle.fluid_talk.specs.Talking.{Talking}
-use Rattle.fluid_talk.specs.Doing.{Did, AreDone, FullBehind, acts_in, ends_in, steps_in}
+use Rattle.fluid_talk.specs.Doing.{Did, AreDone, acts_in, ends_in, steps_in}
 use Rattle.fluid_talk.specs.Hearing.{Does}
 use Rattle.fluid_session.specs.Events.{Event, Stand, Round, IsRound, AreWhole, AreEvents, behind}
 use Rattle.fluid_session.specs.Events.Event.{brings, hears}
-use Rattle.fluid_session.specs.Lines.{entered, entered_in, tried_in, subs_in, HasNoFull, NeverFull, AreFronts, Submits, MayBreakLast}
+use Rattle.fluid_session.specs.Lines.{entered, entered_in, tried_in, subs_in, AreFronts, MayBreakLast}
 use Rattle.fluid_session.proofs.Passes.{goes_on}
 use Rattle.fluid_session.proofs.Fronts.{front_behind, front_last}
 
 -- ---- acts of one that is connected
 
-abbrev IsNoConnect : Act → Type 0
+abbrev pub IsNoConnect : Act → Type 0
 IsNoConnect (act.Connect name write scopes detail moment) = ⊥
 IsNoConnect (act.Say reply) = Unit {0}
 IsNoConnect (act.Enter raw) = Unit {0}
@@ -46,7 +46,7 @@ IsNoConnect (act.Summary asked) = Unit {0}
 IsNoConnect (act.GetObject id) = Unit {0}
 IsNoConnect (act.PutObject bytes) = Unit {0}
 
-abbrev NoConnects : List Act → Type 0
+abbrev pub NoConnects : List Act → Type 0
 NoConnects [] = Unit {0}
 NoConnects (a ∷ acts) = IsNoConnect a × NoConnects acts
 
@@ -82,7 +82,7 @@ of_read_writing : (name own : List ℕ) (next moment : ℕ) (read : Read Spelled
 of_read_writing name own next moment (Ok e) = of_writing name own next moment e
 of_read_writing name own next moment (Err fault) = (tt, tt)
 
-no_connects : (s : VoiceState) (text : List ℕ) (moment : ℕ) → is_connected s ≡ true → NoConnects (acts_of s text moment)
+pub no_connects : (s : VoiceState) (text : List ℕ) (moment : ℕ) → is_connected s ≡ true → NoConnects (acts_of s text moment)
 unfolding acts_of
 no_connects Fresh text moment joined = absurd (false≢true joined)
 no_connects (Reading name next) text moment joined = of_read_reading name next moment (event_spelled text)
@@ -94,6 +94,12 @@ front_connects [] b none = tt
 front_connects (x ∷ a) b (here, rest) = (here, front_connects a b rest)
 
 -- ---- what one text enters
+
+-- none of them found the document full
+abbrev pub HasNoFull : List ActEnd → Type 0
+HasNoFull [] = Unit {0}
+HasNoFull (FullNow ∷ ends) = ⊥
+HasNoFull (end ∷ ends) = HasNoFull ends
 
 all_full : (done : List Did) → AreDone done → NoConnects (acts_in done) → All (λ end. end ≡ FullNow) (ends_in done) → entered (steps_in done) ≡ []
 all_full [] are none full = refl
@@ -167,7 +173,7 @@ fronts (d ∷ done) (is, are) (here, none) full = by d.act d.end here is.suits i
     by (act.Enter raw) TooMany h suits adds rest full_here = absurd suits
     by (act.Enter raw) (Given reply) h suits adds rest full_here = absurd suits
 
-all_in : (done : List Did) → AreDone done → NoConnects (acts_in done) → HasNoFull (ends_in done) → entered (steps_in done) ≡ entries_in (acts_in done)
+pub all_in : (done : List Did) → AreDone done → NoConnects (acts_in done) → HasNoFull (ends_in done) → entered (steps_in done) ≡ entries_in (acts_in done)
 all_in [] are none never = refl
 all_in (d ∷ done) (is, are) (here, none) never = by d.act d.end here is.suits is.adds (all_in done are none (none_tail d.end (ends_in done) never)) never
   where
@@ -194,31 +200,31 @@ entries-append : (a b : List Act) → entries_in (a ++ b) ≡ entries_in a ++ en
 entries-append [] b = refl
 entries-append (x ∷ a) b = ap (λ l. entry_of x ++ l) (entries-append a b) ∙ sym (append_assoc (entry_of x) (entries_in a) (entries_in b))
 
-round_none : (r : Round) → is_connected r.from.voice ≡ true → IsRound r → NoConnects (acts_in r.done)
+pub round_none : (r : Round) → is_connected r.from.voice ≡ true → IsRound r → NoConnects (acts_in r.done)
 round_none r joined is =
     front_connects (acts_in r.done) is.hears_it.does.rest (subst NoConnects is.hears_it.does.asked (no_connects r.from.voice r.text r.moment joined))
 
 -- what was tried of a text is a front of what it spells
-round_tried : (r : Round) → IsRound r → IsPrefix (entries_in (acts_in r.done)) (entries_under (client_id r.from.voice) r.text r.moment)
+pub round_tried : (r : Round) → IsRound r → IsPrefix (entries_in (acts_in r.done)) (entries_under (client_id r.from.voice) r.text r.moment)
 round_tried r is =
     let does : Does r.from r.to r.before r.now r.text r.moment r.done r.heard.fault = is.hears_it.does in
     (entries_in does.rest, sym (writers_enter r.from.voice r.text r.moment) ∙ ap entries_in does.asked ∙ entries-append (acts_in r.done) does.rest)
 
 -- and all of it where nothing failed
-round_whole : (r : Round) → IsRound r → r.heard.fault ≡ None → entries_in (acts_in r.done) ≡ entries_under (client_id r.from.voice) r.text r.moment
+pub round_whole : (r : Round) → IsRound r → r.heard.fault ≡ None → entries_in (acts_in r.done) ≡ entries_under (client_id r.from.voice) r.text r.moment
 round_whole r is well =
     let does : Does r.from r.to r.before r.now r.text r.moment r.done r.heard.fault = is.hears_it.does in
     ap entries_in (sym (append-nil (acts_in r.done)) ∙ ap (λ l. acts_in r.done ++ l) (sym (does.whole well)) ∙ sym does.asked) ∙ writers_enter r.from.voice r.text r.moment
 
 -- ---- what all of them enter
 
-all_tried : (es : List Event) (s t : Stand) → AreEvents s es t → AreWhole es → tried_in es ≡ subs_in es
+pub all_tried : (es : List Event) (s t : Stand) → AreEvents s es t → AreWhole es → tried_in es ≡ subs_in es
 all_tried [] s t same whole = refl
 all_tried (brings c ∷ es) s t (begins, (is, more)) (well, rest) = all_tried es (behind (brings c) s) t more rest
 all_tried (hears r ∷ es) s t (begins, (is, more)) (well, rest) =
     ap (λ l. l ++ tried_in es) (round_whole r is well.1) ∙ ap (λ l. entries_under (client_id r.from.voice) r.text r.moment ++ l) (all_tried es (behind (hears r) s) t more rest)
 
-tried_front : (es : List Event) (s t : Stand) → AreEvents s es t → MayBreakLast es → IsPrefix (tried_in es) (subs_in es)
+pub tried_front : (es : List Event) (s t : Stand) → AreEvents s es t → MayBreakLast es → IsPrefix (tried_in es) (subs_in es)
 tried_front [] s t same may = prefix_refl []
 tried_front (brings c ∷ []) s t (begins, (is, more)) may = prefix_refl []
 tried_front (hears r ∷ []) s t (begins, (is, more)) may = front_last (entries_in (acts_in r.done)) _ (round_tried r is)
@@ -227,7 +233,7 @@ tried_front (hears r ∷ e ∷ es) s t (begins, (is, more)) (well, rest) =
     subst (λ l. IsPrefix (l ++ tried_in (e ∷ es)) (subs_in (hears r ∷ e ∷ es))) (sym (round_whole r is well.1))
     (front_behind (entries_under (client_id r.from.voice) r.text r.moment) (tried_in (e ∷ es)) (subs_in (e ∷ es)) (tried_front (e ∷ es) (behind (hears r) s) t more rest))
 
-each_front : (es : List Event) (s t : Stand) → is_connected s.talk.voice ≡ true → AreEvents s es t → AreFronts es
+pub each_front : (es : List Event) (s t : Stand) → is_connected s.talk.voice ≡ true → AreEvents s es t → AreFronts es
 each_front [] s t joined same = tt
 each_front (brings c ∷ es) s t joined (begins, (is, more)) =
     each_front es (behind (brings c) s) t (goes_on (brings c ∷ []) s (behind (brings c) s) joined (begins, (is, refl))).still more
@@ -236,20 +242,3 @@ each_front (hears r ∷ es) s t joined (begins, (is, more)) =
       fronts r.done is.hears_it.does.are_done (round_none r here is) is.hears_it.does.full,
       each_front es (behind (hears r) s) t (goes_on (hears r ∷ []) s (behind (hears r) s) joined (begins, (is, refl))).still more,
     )
-
-all_entered : (es : List Event) (s t : Stand) → is_connected s.talk.voice ≡ true → AreEvents s es t → NeverFull es → entered_in es ≡ tried_in es
-all_entered [] s t joined same never = refl
-all_entered (brings c ∷ es) s t joined (begins, (is, more)) never =
-    all_entered es (behind (brings c) s) t (goes_on (brings c ∷ []) s (behind (brings c) s) joined (begins, (is, refl))).still more never
-all_entered (hears r ∷ es) s t joined (begins, (is, more)) (never, rest) =
-    let here : is_connected r.from.voice ≡ true = ap (λ (k : Talking). is_connected k.voice) begins.0 ∙ joined in
-    ap (λ l. l ++ entered_in es) (all_in r.done is.hears_it.does.are_done (round_none r here is) never)
-    ∙ ap (λ l. entries_in (acts_in r.done) ++ l) (all_entered es (behind (hears r) s) t (goes_on (hears r ∷ []) s (behind (hears r) s) joined (begins, (is, refl))).still more rest)
-
-pub submits : (es : List Event) (s t : Stand) → is_connected s.talk.voice ≡ true → MayBreakLast es → AreEvents s es t → Submits es
-submits es s t joined may are = record {
-  tried = tried_front es s t are may;
-  all_tried = all_tried es s t are;
-  fronts = each_front es s t joined are;
-  all_entered = all_entered es s t joined are;
-}

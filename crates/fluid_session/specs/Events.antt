@@ -1,15 +1,17 @@
 -- What happens in a session: messages are collected and sent, and texts are heard and answered.
-use Rattle.std.specs.Prelude.{◌≡◌, ⊤, ℕ, true, false, List, [], ◌∷◌, ◌++◌, None, Result, Ok}
+use Rattle.std.specs.Prelude.{◌≡◌, ⊤, ℕ, ◌≤◌, true, false, List, [], ◌∷◌, ◌++◌, Option, None, Result, Ok}
+use Rattle.fluid_types.specs.Forms.{largest}
 use Rattle.fluid_store.specs.Storing.{Storing}
 use Rattle.fluid_codec.specs.declared.replies.Reply.{Reply}
 use Rattle.fluid_lines.specs.declared.wire.WireText.{WireText}
 use Rattle.fluid_lines.specs.declared.wire.WireText.TheVariants.{In}
 use Rattle.fluid_lines.specs.declared.wire.WireFault.{WireFault}
 use Rattle.fluid_voice.specs.States.{is_connected, is_used, next_number}
+use Rattle.fluid_voice.specs.Heard.{acts_of}
 use Rattle.fluid_talk.specs.declared.heard.Heard.{Heard}
 use Rattle.fluid_talk.specs.Talking.{Talking, IsSound, number_behind_last}
 use Rattle.fluid_talk.specs.Doing.{Did}
-use Rattle.fluid_talk.specs.Hearing.{HearsAs}
+use Rattle.fluid_talk.specs.Hearing.{HearsAs, ReachesBy, AreConnectEnds, IsFaultOf}
 use Rattle.fluid_talk.specs.Collecting.{Collects}
 use Rattle.fluid_session.specs.declared.tally.Tally.{Tally}
 use Rattle.fluid_session.specs.Counted.{plus, counts_of}
@@ -23,7 +25,8 @@ pub record Collection : Type 0 where
   pub sent : List Reply
   pub sending : Result (Unit {0}) WireFault
 
--- a text that was heard: the connection and the store before and behind it, what was done, what came of it, and what was sent
+-- a text that was heard: the connection and the store before and behind it, the document whose door it reached, if it did, what was
+-- done, what came of it, and what was sent
 pub record Round : Type 0 where
   pub from : Talking
   pub to : Talking
@@ -31,6 +34,7 @@ pub record Round : Type 0 where
   pub now : Storing
   pub text : List ℕ
   pub moment : ℕ
+  pub reached : Option (List ℕ)
   pub done : List Did
   pub heard : Heard
   pub sent : List Reply
@@ -51,10 +55,19 @@ pub record IsCollection (c : Collection) : Type 0 where
   pub sound : IsSound c.to
   pub is_sent : IsSent c.sending c.sent c.given
 
+-- one that is heard by a connection that isn't connected
+pub record IsHeardApart (r : Round) : Type 0 where
+  pub does : ReachesBy r.reached r.from r.to r.before (acts_of r.from.voice r.text r.moment) r.done r.heard.fault
+  pub ends : AreConnectEnds r.reached r.done
+  pub cause : IsFaultOf r.reached r.heard.fault
+
 pub record IsRound (r : Round) : Type 0 where
   pub reached : IsReached r.from
+  pub timely : r.moment ≤ largest
   pub unused : is_used r.from.voice ≡ false
   pub hears_it : HearsAs r.from r.to r.before r.now r.text r.moment r.done r.heard
+  pub apart : is_connected r.from.voice ≡ false → IsHeardApart r
+  pub joined : is_connected r.from.voice ≡ true → r.reached ≡ None
   pub sound : IsSound r.to
   pub is_sent : IsSent r.sending r.sent r.heard.replies
 

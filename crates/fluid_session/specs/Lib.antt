@@ -5,3 +5,4 @@ pub mod Events
 pub mod Running
 pub mod Whole
 pub mod Lines
+pub mod Complete

@@ -3,7 +3,7 @@ use Rattle.std.specs.Prelude.{◌≡◌, ℕ, ◌<◌, ◌≤◌, true, List, []
 use Rattle.fluid_io.specs.Causes.{Tells}
 use Rattle.fluid_io.specs.declared.lines.TheConstants.{LONGEST_TEXT}
 use Rattle.fluid_lines.specs.declared.wire.WireFault.{WireFault}
-use Rattle.fluid_lines.specs.Wires.{Wiring}
+use Rattle.fluid_lines.specs.Wires.{Wiring, IsLongNext}
 use Rattle.fluid_voice.specs.States.{is_connected}
 use Rattle.fluid_ends.specs.declared.fault.TalkFault.{TalkFault}
 use Rattle.fluid_talk.specs.Talking.{Talking}
@@ -22,28 +22,38 @@ pub record EndsIn (e : Event) (events : List Event) : Type 0 where
   pub are : events ≡ front ++ e ∷ []
   pub whole : AreWhole front
 
--- what ends a session, behind these events. The wire: its texts are at their end, while all that was seen is delivered, the next one is too long, or it failed while a text
--- was received or one was sent. The connection: it failed at a text, or while it collected. Or too many texts were unread
-pub data Stops (events : List Event) (m t : Talking) (old new : Wiring) (tally : Tally) (end : SessionEnd) : Type 0 where
-  at_end : end ≡ Closed → AreWhole events → t ≡ m → IsReached m → Tells new.texts (λ texts. texts ≡ []) → Stops events m t old new tally end
-  at_long : (size : ℕ) → end ≡ TooLong size → AreWhole events → t ≡ m → LONGEST_TEXT < size → Stops events m t old new tally end
-  at_receive : (fault : WireFault) → end ≡ wire_end fault → AreWhole events → t ≡ m → IsWireCause old new fault → Stops events m t old new tally end
-  at_feed : (c : Collection) (fault : WireFault) → end ≡ wire_end fault → EndsIn (brings c) events → c.sending ≡ Err fault → t ≡ m → IsWireCause old new fault → Stops events m t old new tally end
-  at_reply : (r : Round) (fault : WireFault) → end ≡ wire_end fault → EndsIn (hears r) events → r.sending ≡ Err fault → r.heard.fault ≡ None → t ≡ m → IsWireCause old new fault → Stops events m t old new tally end
-  at_text : (r : Round) (fault : TalkFault) → end ≡ end_of fault → EndsIn (hears r) events → r.heard.fault ≡ Some fault → t ≡ m → Stops events m t old new tally end
-  at_collection : (fault : TalkFault) → end ≡ end_of fault → AreWhole events → is_connected m.voice ≡ true → FailsAs m t IsCollectCause fault → Stops events m t old new tally end
-  at_count : end ≡ Abused tally.unread → AreWhole events → t ≡ m → most_unread ≤ tally.unread → Stops events m t old new tally end
+-- What ends a session, behind these events, the last of which left the wire as `mid`. The wire: its texts are at their end, while all
+-- that was seen is delivered; the next one is too long; or it failed while a text was received or one was sent. The connection: it
+-- failed at a text, or while it collected. Or as many texts are unread as may be, and never more
+pub data Stops (events : List Event) (m t : Talking) (old mid new : Wiring) (tally : Tally) (end : SessionEnd) : Type 0 where
+  at_end : end ≡ Closed → AreWhole events → tally.unread < most_unread → t ≡ m → IsReached m → Tells mid.texts (λ texts. texts ≡ []) → Stops events m t old mid new tally end
+  at_long : (size : ℕ) → end ≡ TooLong size → AreWhole events → tally.unread < most_unread → t ≡ m → LONGEST_TEXT < size → Tells mid.texts (IsLongNext size) → Stops events m t old mid new tally end
+  at_receive : (fault : WireFault) → end ≡ wire_end fault → AreWhole events → tally.unread < most_unread → t ≡ m → IsWireCause old new fault → Stops events m t old mid new tally end
+  at_feed : (c : Collection) (fault : WireFault) → end ≡ wire_end fault → EndsIn (brings c) events → tally.unread < most_unread → c.sending ≡ Err fault → t ≡ m → IsWireCause old new fault
+      → Stops events m t old mid new tally end
+  at_reply : (r : Round) (fault : WireFault) → end ≡ wire_end fault → EndsIn (hears r) events → tally.unread ≤ most_unread → r.sending ≡ Err fault → r.heard.fault ≡ None → t ≡ m → IsWireCause old new fault
+      → Stops events m t old mid new tally end
+  at_text : (r : Round) (fault : TalkFault) → end ≡ end_of fault → EndsIn (hears r) events → tally.unread ≤ most_unread → r.heard.fault ≡ Some fault → t ≡ m → Stops events m t old mid new tally end
+  at_collection : (fault : TalkFault) → end ≡ end_of fault → AreWhole events → tally.unread < most_unread → is_connected m.voice ≡ true → FailsAs m t IsCollectCause fault → Stops events m t old mid new tally end
+  at_count : end ≡ Abused most_unread → AreWhole events → tally.unread ≡ most_unread → t ≡ m → Stops events m t old mid new tally end
 
--- it goes on, or stops
-abbrev pub GoesOrStops : List Event → Talking → Talking → Wiring → Wiring → Tally → Result (Unit {0}) SessionEnd → Type 0
-GoesOrStops events m t old new tally (Ok done) = AreWhole events × (t ≡ m)
-GoesOrStops events m t old new tally (Err end) = Stops events m t old new tally end
+-- it goes on with fewer texts unread than may be, or stops
+abbrev pub GoesOrStops : List Event → Talking → Talking → (old mid new : Wiring) → Tally → Result (Unit {0}) SessionEnd → Type 0
+GoesOrStops events m t old mid new tally (Ok done) = AreWhole events × ((t ≡ m) × ((tally.unread < most_unread) × (new ≡ mid)))
+GoesOrStops events m t old mid new tally (Err end) = Stops events m t old mid new tally end
+
+-- the history stays; no count falls
+pub record StaysBehind (mid new : Wiring) : Type 0 where
+  pub history : new.history ≡ mid.history
+  pub faults : mid.faults ≤ new.faults
 
 -- what happened between two moments of a session: these events, and what stopped it behind them, if anything did
 pub record Runs (s t : Stand) (old new : Wiring) (had has : Tally) (result : Result (Unit {0}) SessionEnd) : Type 0 where
   pub events : List Event
   pub behind_them : Talking
   pub are : AreEvents s events (record { talk = behind_them; store = t.store })
-  pub passes : Passes (history_of events) old new
+  pub mid : Wiring
+  pub passes : Passes (history_of events) old mid
+  pub stays : StaysBehind mid new
   pub counted : has ≡ counted_behind had events
-  pub by : GoesOrStops events behind_them t.talk old new has result
+  pub by : GoesOrStops events behind_them t.talk old mid new has result

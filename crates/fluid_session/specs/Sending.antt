@@ -1,12 +1,12 @@
 -- Replies that are sent.
-use Rattle.std.specs.Prelude.{◌≡◌, ⊤, ◌≤◌, List, [], ◌∷◌, ◌++◌, map, Result, Ok, Err}
+use Rattle.std.specs.Prelude.{◌≡◌, ⊤, ℕ, ◌≤◌, List, [], ◌∷◌, ◌++◌, map, Result, Ok, Err}
 use Rattle.std.specs.Option.{option_map}
 use Rattle.fluid_io.specs.Causes.{Rose}
 use Rattle.fluid_turn.specs.Entries.{IsPrefix}
 use Rattle.fluid_codec.specs.declared.replies.Reply.{Reply}
 use Rattle.fluid_codec.specs.Replies.{reply_printed}
 use Rattle.fluid_lines.specs.declared.wire.WireText.{WireText}
-use Rattle.fluid_lines.specs.declared.wire.WireText.TheVariants.{Out}
+use Rattle.fluid_lines.specs.declared.wire.WireText.TheVariants.{In, Out}
 use Rattle.fluid_lines.specs.declared.wire.WireFault.{WireFault}
 use Rattle.fluid_lines.specs.declared.wire.WireFault.TheVariants.{Failed, NoMemory}
 use Rattle.fluid_lines.specs.Wires.{Wiring}
@@ -19,9 +19,16 @@ out_texts replies = map (λ r. Out (reply_printed r)) replies
 abbrev pub AddsAll : List WireText → Wiring → Wiring → Type 0
 AddsAll texts old new = new.history ≡ option_map (λ history. history ++ texts) old.history
 
--- the texts went out or came in, and nothing was taken of those to come; no count fell
+-- those of the texts that came in
+abbrev pub ins_of : List WireText → List (List ℕ)
+ins_of [] = []
+ins_of (In text ∷ texts) = text ∷ ins_of texts
+ins_of (Out text ∷ texts) = ins_of texts
+
+-- the texts went out or came in, and nothing else was taken of those to come; no count fell
 pub record Passes (texts : List WireText) (old new : Wiring) : Type 0 where
   pub adds : AddsAll texts old new
+  pub taken : old.texts ≡ option_map (λ more. ins_of texts ++ more) new.texts
   pub faults : old.faults ≤ new.faults
 
 -- a fault of a wire comes only where its count rose; want of memory is free

@@ -1,11 +1,11 @@
 -- A whole session: its run, and the leave behind it.
-use Rattle.std.specs.Prelude.{◌≡◌, ℕ, false, Result, Err}
-use Rattle.fluid_turn.specs.Entries.{IsPrefix}
+use Rattle.std.specs.Prelude.{◌≡◌, ◌≤◌, ℕ, false, Result, Err}
+use Rattle.fluid_types.specs.Forms.{largest}
 use Rattle.fluid_store.specs.Storing.{Storing}
 use Rattle.fluid_lines.specs.Wires.{Wiring}
 use Rattle.fluid_voice.specs.States.{is_connected}
 use Rattle.fluid_ends.specs.declared.fault.TalkFault.{TalkFault}
-use Rattle.fluid_talk.specs.Talking.{Talking}
+use Rattle.fluid_talk.specs.Talking.{Talking, IsSound}
 use Rattle.fluid_talk.specs.Leaving.{Leaves}
 use Rattle.fluid_session.specs.declared.report.SessionEnd.{SessionEnd}
 use Rattle.fluid_session.specs.declared.report.Report.{Report}
@@ -13,12 +13,13 @@ use Rattle.fluid_session.specs.declared.tally.Tally.{Tally}
 use Rattle.fluid_session.specs.Counted.{nothing}
 use Rattle.fluid_session.specs.Ends.{behind_leave}
 use Rattle.fluid_session.specs.Running.{Runs}
-use Rattle.fluid_session.specs.Lines.{SendsInOrder, Went, Joins, Submits}
+use Rattle.fluid_session.specs.Lines.{Lines}
 
 -- one leave was tried, and its fault may be the end
 pub record Ends (t u : Talking) (moment : ℕ) (end last : SessionEnd) : Type 0 where
   pub result : Result (Unit {0}) TalkFault
   pub leaves : Leaves t u moment result
+  pub sound : IsSound u
   pub last_is : last ≡ behind_leave end result
 
 -- the report has the numbers that were counted
@@ -36,18 +37,15 @@ pub record Account (s u : Talking) (before now : Storing) (old new : Wiring) (re
   pub tally : Tally
   pub runs : Runs (record { talk = s; store = before }) (record { talk = last; store = now }) old new nothing tally (Err end)
   pub moment : ℕ
+  pub timely : moment ≤ largest
   pub ends : Ends last u moment end report.end
   pub numbers : HasNumbers report tally
 
--- A whole session, of a connection that is connected to no document yet.
+-- A whole session.
 pub record Serves (s u : Talking) (before now : Storing) (old new : Wiring) (report : Report) : Type 0 where
-  -- what happened, event by event, what stopped it, the leave, and the report's numbers
+  -- what happened, event by event, what stopped it, and the leave
   pub account : Account s u before now old new report
-  -- what went out is what was collected and the replies, in order
-  pub sends : SendsInOrder account.runs.events
-  -- which text connected it, if any did: what stands in its pass then, and its feed
-  pub went : is_connected s.voice ≡ false → Went s account.runs.behind_them account.runs.events
-  -- what the texts behind that entered
-  pub texts : (j : Joins s account.runs.behind_them account.runs.events) → Submits j.later
-  -- its key knows what it knew
-  pub key : IsPrefix s.key.seen u.key.seen
+  -- what it amounts to, of a connection that isn't connected yet
+  pub lines : is_connected s.voice ≡ false → Lines s account.runs.behind_them u account.moment report account.runs.events
+  -- what holds of every connection holds of this one, the legality of all that it has seen among it
+  pub sound : IsSound u

@@ -1,5 +1,6 @@
 //! What holds of every session, said by functions that do nothing.
 ghost use Rattle.fluid_session.specs.Lines.{FeedsHaveNoGap, TextsEnterInOrder};
+ghost use Rattle.fluid_session.specs.Complete.{EndsWithItsWire};
 
 /// What a connected one collects is one stretch of its document's order, without a gap.
 pub fn feeds_have_no_gap()
@@ -9,4 +10,10 @@ pub fn feeds_have_no_gap()
 /// What a connected one enters is what its texts spell under its own id, in their order.
 pub fn texts_enter_in_order()
     ensures { TextsEnterInOrder }
+{}
+
+/// A session over a wire whose texts end, none too long and not too many unread, ends as its wire does where nothing outside failed, or
+/// memory was wanting.
+pub fn sessions_end_with_their_wires()
+    ensures { EndsWithItsWire }
 {}

@@ -1,9 +1,9 @@
 // A session over any connection and any wire.
-ghost use Rattle.std.specs.Prelude.{◌≡◌, ◌≤◌, false, Err};
+ghost use Rattle.std.specs.Prelude.{◌≡◌, ◌<◌, ◌≤◌, false, Err};
 ghost use Rattle.fluid_types.specs.Forms.{largest};
 ghost use Rattle.fluid_voice.specs.States.{is_used};
 ghost use Rattle.fluid_session.specs.Counted.{nothing};
-ghost use Rattle.fluid_session.specs.Ends.{with_fault, unless_refused};
+ghost use Rattle.fluid_session.specs.Ends.{with_fault, unless_refused, most_unread};
 ghost use Rattle.fluid_session.specs.Running.{Runs};
 ghost use Rattle.fluid_session.specs.Whole.{Serves, Ends};
 
@@ -66,6 +66,7 @@ fn run<R: Wait, T: Conversation, O: Objects, W: Wire, C: Clock>(
 ) -> SessionEnd
     requires service { T.belongs talk.old service.now }
     requires unused { is_used (T.seen talk.old).voice ≡ false }
+    requires few { tally.old.unread < most_unread }
     ensures does { Runs (record { talk = T.seen talk.old; store = O.seen objects.old }) (record { talk = T.seen talk.new; store = O.seen objects.new }) (W.seen wire.old) (W.seen wire.new) tally.old tally.new (Err result) }
 {
     'turns: for _ in rt.forever() {
@@ -88,7 +89,9 @@ fn leave<R: Wait, T: Conversation>(
     requires { moment ≤ largest }
     ensures { Ends (T.seen talk.old) (T.seen talk.new) moment end result }
 {
-    match talk.leave(rt, alloc, moment) {
+    let left = talk.leave(rt, alloc, moment);
+    talk.know();
+    match left {
         Ok(()) => end,
         Err(fault) => with_fault(end, fault),
     }

@@ -1,5 +1,5 @@
 // One turn of a session.
-ghost use Rattle.std.specs.Prelude.{◌≡◌, ◌≤◌, false, length, OnOk, if◌then◌else◌};
+ghost use Rattle.std.specs.Prelude.{◌≡◌, ◌<◌, ◌≤◌, false, length, OnOk, if◌then◌else◌};
 ghost use Rattle.fluid_types.specs.Forms.{largest};
 ghost use Rattle.fluid_readback.specs.Laws.{longest_text};
 ghost use Rattle.fluid_store.specs.Storing.{Storing};
@@ -7,7 +7,7 @@ ghost use Rattle.fluid_lines.specs.Wires.{Wiring, ReceivesText};
 ghost use Rattle.fluid_voice.specs.States.{is_connected, is_used};
 ghost use Rattle.fluid_voice.specs.Replies.{has_front_nack};
 ghost use Rattle.fluid_session.specs.declared.tally.Tally.{Tally as Counts};
-ghost use Rattle.fluid_session.specs.Ends.{end_of, wire_end, behind_text};
+ghost use Rattle.fluid_session.specs.Ends.{end_of, wire_end, behind_text, most_unread};
 ghost use Rattle.fluid_session.specs.Events.{IsReached};
 ghost use Rattle.fluid_session.specs.Running.{Runs};
 
@@ -39,6 +39,7 @@ pub(crate) fn turn<R: Wait, T: Conversation, O: Objects, W: Wire, C: Clock>(
 ) -> Result<(), SessionEnd>
     requires service { T.belongs talk.old service.now }
     requires unused { is_used (T.seen talk.old).voice ≡ false }
+    requires few { tally.old.unread < most_unread }
     ensures service { T.belongs talk.new service.now }
     ensures unused { is_used (T.seen talk.new).voice ≡ false }
     ensures does { Runs (record { talk = T.seen talk.old; store = O.seen objects.old }) (record { talk = T.seen talk.new; store = O.seen objects.new }) (W.seen wire.old) (W.seen wire.new) tally.old tally.new result }
@@ -81,7 +82,7 @@ fn feed<R: Wait, T: Conversation, W: Wire>(
     ensures service { (x : T.Service) → T.belongs talk.old x → T.belongs talk.new x }
     ensures unused { is_used (T.seen talk.new).voice ≡ false }
     ensures reached { OnOk result (IsReached (T.seen talk.new)) }
-    ensures does { (store : Storing) (tally : Counts) → Runs (record { talk = T.seen talk.old; store = store }) (record { talk = T.seen talk.new; store = store }) (W.seen wire.old) (W.seen wire.new) tally tally result }
+    ensures does { (store : Storing) (tally : Counts) → tally.unread < most_unread → Runs (record { talk = T.seen talk.old; store = store }) (record { talk = T.seen talk.new; store = store }) (W.seen wire.old) (W.seen wire.new) tally tally result }
 {
     let replies = match talk.collect(rt, alloc) {
         Ok(replies) => replies,
@@ -111,6 +112,7 @@ fn answer<R: Wait, T: Conversation, O: Objects, W: Wire>(
     requires reached { IsReached (T.seen talk.old) }
     requires short { length text.now ≤ longest_text }
     requires moment { moment ≤ largest }
+    requires few { tally.old.unread < most_unread }
     ensures service { T.belongs talk.new service.now }
     ensures unused { is_used (T.seen talk.new).voice ≡ false }
     ensures does { (w : Wiring) → ReceivesText w (W.seen wire.old) text.now → w.faults ≤ (W.seen wire.old).faults → Runs (record { talk = T.seen talk.old; store = O.seen objects.old }) (record { talk = T.seen talk.new; store = O.seen objects.new }) w (W.seen wire.new) tally.old tally.new result }

@@ -1,5 +1,6 @@
 -- Why a call of a connection fails.
 use Rattle.std.specs.Prelude.{◌≡◌, ⊤, true, false, List, [], ◌∷◌, length}
+use Rattle.fluid_io.specs.Causes.{Rose}
 use Rattle.fluid_document.specs.Entries.{most}
 use Rattle.fluid_deltas.specs.declared.fault.DeltaFault.{DeltaFault}
 use Rattle.fluid_deltas.specs.declared.fault.DeltaFault.TheVariants as delta
@@ -15,21 +16,21 @@ use Rattle.fluid_ends.specs.declared.fault.TalkFault.TheVariants.{Door, Lane, De
 use Rattle.fluid_ends.specs.Asking.{is_entering, is_range, is_asked_of_store, IsStoreCause}
 use Rattle.fluid_talk.specs.Talking.{Knowing}
 
--- the keeper failed, which is noted behind the pass's own steps; or the document has as many steps as it may have
+-- the keeper failed, whose count rose, which is noted behind the pass's own steps; or the document has as many steps as it may have
 abbrev pub IsLaneCause : Knowing → LaneFault → Type 0
-IsLaneCause q (lane.LogFailed note) = ⊤
-IsLaneCause q (lane.DeltaFailed note) = ⊤
+IsLaneCause q (lane.LogFailed note) = Rose note.before note.after
+IsLaneCause q (lane.DeltaFailed note) = Rose note.before note.after
 IsLaneCause q lane.Worn = length q.seen ≡ most
 IsLaneCause q fault = ⊥
 
 -- the same of messages that are read; what a keeper that tells its content kept is never bad
 abbrev pub IsDeltaCause : Knowing → DeltaFault → Type 0
-IsDeltaCause q (delta.DeltaFailed note) = ⊤
+IsDeltaCause q (delta.DeltaFailed note) = Rose note.before note.after
 IsDeltaCause q (delta.BadDelta number) = q.told ≡ false
 IsDeltaCause q delta.Worn = length q.seen ≡ most
 IsDeltaCause q delta.NoMemory = ⊥
 
--- that too many documents are open is a reply, and no fault
+-- that too many documents are open is a reply, and no fault; which others there are the key tells
 abbrev pub IsDoorFault : DoorFault → Type 0
 IsDoorFault (door.ShelfFailed note) = ⊤
 IsDoorFault (door.Lane fault) = ⊤

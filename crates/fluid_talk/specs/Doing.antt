@@ -1,5 +1,5 @@
 -- The acts of a text, each with its end.
-use Rattle.std.specs.Prelude.{◌≡◌, ⊤, ℕ, Bool, true, List, [], ◌∷◌, ◌++◌, map, All, Option, Some, None}
+use Rattle.std.specs.Prelude.{◌≡◌, ⊤, ℕ, Bool, true, List, [], ◌∷◌, ◌++◌, map, Option, Some, None}
 use Rattle.fluid_turn.specs.declared.view.Numbered.{Numbered}
 use Rattle.fluid_turn.specs.Entries.{IsPrefix, by_seat}
 use Rattle.fluid_store.specs.Held.{Held}
@@ -8,7 +8,6 @@ use Rattle.fluid_lane.specs.declared.steps.Step.{Step}
 use Rattle.fluid_voice.specs.declared.actions.Act.{Act}
 use Rattle.fluid_voice.specs.declared.actions.Act.TheVariants as act
 use Rattle.fluid_voice.specs.declared.ends.ActEnd.{ActEnd}
-use Rattle.fluid_voice.specs.declared.ends.ActEnd.TheVariants.{FullNow}
 use Rattle.fluid_voice.specs.Ends.{outcome, held_behind}
 use Rattle.fluid_voice.specs.Ends.Outcome.{ends}
 use Rattle.fluid_voice.specs.Suits.{Suits}
@@ -46,9 +45,9 @@ may_steps None = []
 may_steps (Some fault) = talk_steps fault
 
 -- what a store holds behind them
-abbrev pub held_after : Held → List Did → Held
+abbrev pub held_after : Held → List Act → Held
 held_after held [] = held
-held_after held (d ∷ done) = held_after (held_behind held d.act) done
+held_after held (a ∷ acts) = held_after (held_behind held a) acts
 
 -- ---- what each of them is
 
@@ -60,12 +59,6 @@ pub record IsDone (d : Did) : Type 0 where
 abbrev pub AreDone : List Did → Type 0
 AreDone [] = ⊤
 AreDone (d ∷ done) = IsDone d × AreDone done
-
--- behind the first end that says that the document is full, all say it
-abbrev pub FullBehind : List ActEnd → Type 0
-FullBehind [] = ⊤
-FullBehind (FullNow ∷ rest) = All (λ end. end ≡ FullNow) rest
-FullBehind (end ∷ rest) = FullBehind rest
 
 -- the steps that the document has behind it, as the pass of this number sees them
 abbrev pub seen_behind : ℕ → Did → List (Numbered Step)

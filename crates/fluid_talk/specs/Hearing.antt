@@ -6,6 +6,8 @@ use Rattle.fluid_turn.specs.Entries.{IsPrefix}
 use Rattle.fluid_store.specs.Storing.{Storing}
 use Rattle.fluid_store.specs.declared.fault.StoreFault.TheVariants as store
 use Rattle.fluid_lane.specs.declared.steps.Step.{Step}
+use Rattle.fluid_opening.specs.declared.opening.TheConstants.{MOST_DOCUMENTS}
+use Rattle.fluid_opening.specs.declared.fault.DoorFault.TheVariants.{TooManyDocuments}
 use Rattle.fluid_codec.specs.declared.replies.Reply.{Reply}
 use Rattle.fluid_voice.specs.declared.actions.Act.{Act}
 use Rattle.fluid_voice.specs.declared.actions.Act.TheVariants as act
@@ -13,17 +15,17 @@ use Rattle.fluid_voice.specs.declared.ends.ActEnd.{ActEnd}
 use Rattle.fluid_voice.specs.declared.ends.ActEnd.TheVariants.{Given}
 use Rattle.fluid_voice.specs.States.{is_connected, is_used}
 use Rattle.fluid_voice.specs.Heard.{acts_of}
-use Rattle.fluid_voice.specs.Replies.{state_behind, replies_behind}
+use Rattle.fluid_voice.specs.Replies.{state_behind, replies_behind, is_sequenced, is_dropped, is_nacked, count_of}
+use Rattle.fluid_voice.specs.Laws.{FullBehind}
 use Rattle.fluid_voice.specs.Feed.{is_event}
-use Rattle.fluid_voice.specs.Ends.{is_beyond}
 use Rattle.fluid_ends.specs.declared.fault.TalkFault.{TalkFault}
 use Rattle.fluid_ends.specs.declared.fault.TalkFault.TheVariants.{Door, Store, NoMemory}
 use Rattle.fluid_ends.specs.Asking.{is_asked_of_store}
 use Rattle.fluid_talk.specs.declared.heard.Heard.{Heard}
 use Rattle.fluid_talk.specs.Talking.{Keyed, Talking, Goes}
-use Rattle.fluid_talk.specs.Shelves.{opened, KeepsKey, OpensFor, IsRefusedDoor}
-use Rattle.fluid_talk.specs.Counting.{is_sequenced, is_dropped, is_nacked, is_absorbed, count_of}
-use Rattle.fluid_talk.specs.Doing.{FullBehind, Did, acts_in, ends_in, ended, steps_in, may_steps, held_after, AreDone, AreFound, AreAnswered}
+use Rattle.fluid_talk.specs.Shelves.{KeepsKey, OpensFor, IsRefusedDoor}
+use Rattle.fluid_talk.specs.Counting.{is_absorbed}
+use Rattle.fluid_talk.specs.Doing.{Did, acts_in, ends_in, ended, steps_in, may_steps, held_after, AreDone, AreFound, AreAnswered}
 use Rattle.fluid_talk.specs.Causes.{IsCauseAt}
 
 -- ---- by one that is connected
@@ -58,19 +60,12 @@ pub record Reaches (name : List ℕ) (s t : Talking) (store : Storing) (acts : L
   pub handed : is_connected t.voice ≡ false → t.handed ≡ s.handed
   pub key : ((s.handed.name ≡ Some name) × (t.key ≡ s.key)) ⊎ OpensFor name s.key t.key
 
--- who is told that too many documents are open asked for one that isn't, while as many are open as may be
-abbrev pub IsBeyond : Keyed → Act → ActEnd → Type 0
-IsBeyond m (act.Connect name write scopes detail moment) (Given reply) = is_beyond (opened m) name ≡ true
-IsBeyond m a end = ⊤
-
-abbrev pub AreBeyond : Keyed → List Did → Type 0
-AreBeyond m [] = ⊤
-AreBeyond m (d ∷ done) = IsBeyond m d.act d.end × AreBeyond m done
-
--- the key behind a text that reached no door: a door that was refused is noted
-abbrev pub KeyBehind : List Act → Option TalkFault → Keyed → Keyed → Type 0
-KeyBehind (act.Connect name write scopes detail moment ∷ rest) (Some (Door fault)) k m = IsRefusedDoor name fault k m
-KeyBehind acts failed k m = KeepsKey k m
+-- the key behind a text that reached no door. A connect that was done was refused, since as many documents are open as may be; one that
+-- failed at the service was refused by this fault. Where memory was wanting it has no step more, and so where nothing is connected to
+abbrev pub KeyBehind : List Act → List Did → Option TalkFault → Keyed → Keyed → Type 0
+KeyBehind (act.Connect name write scopes detail moment ∷ rest) (d ∷ done) failed k m = IsRefusedDoor name (TooManyDocuments MOST_DOCUMENTS) k m
+KeyBehind (act.Connect name write scopes detail moment ∷ rest) [] (Some (Door fault)) k m = IsRefusedDoor name fault k m
+KeyBehind acts done failed k m = KeepsKey k m
 
 -- it reached no door, and stays as it was
 pub record StaysAway (s t : Talking) (acts : List Act) (done : List Did) (failed : Option TalkFault) : Type 0 where
@@ -78,29 +73,54 @@ pub record StaysAway (s t : Talking) (acts : List Act) (done : List Did) (failed
   pub pass : t.pass ≡ s.pass
   pub handed : t.handed ≡ s.handed
   pub nothing : steps_in done ≡ []
-  pub key : KeyBehind acts failed s.key t.key
-  pub beyond : AreBeyond t.key done
+  pub key : KeyBehind acts done failed s.key t.key
 
 abbrev pub ReachesBy : Option (List ℕ) → (s t : Talking) → Storing → List Act → List Did → Option TalkFault → Type 0
 ReachesBy None s t store acts done failed = StaysAway s t acts done failed
 ReachesBy (Some name) s t store acts done failed = Reaches name s t store acts done failed
 
+-- a connect is told that too many documents are open where no door was reached, and where one was it isn't told so
+abbrev pub IsConnectEnd : Option (List ℕ) → Act → ActEnd → Type 0
+IsConnectEnd None (act.Connect name write scopes detail moment) (Given reply) = ⊤
+IsConnectEnd None (act.Connect name write scopes detail moment) end = ⊥
+IsConnectEnd (Some reached) (act.Connect name write scopes detail moment) (Given reply) = ⊥
+IsConnectEnd reached a end = ⊤
+
+abbrev pub AreConnectEnds : Option (List ℕ) → List Did → Type 0
+AreConnectEnds reached [] = ⊤
+AreConnectEnds reached (d ∷ done) = IsConnectEnd reached d.act d.end × AreConnectEnds reached done
+
+-- a document fails at a text only where its door was reached, and a service where none was
+abbrev pub IsFaultOf : Option (List ℕ) → Option TalkFault → Type 0
+IsFaultOf reached None = ⊤
+IsFaultOf reached (Some NoMemory) = ⊤
+IsFaultOf None (Some (Door fault)) = ⊤
+IsFaultOf None (Some fault) = ⊥
+IsFaultOf (Some name) (Some (Door fault)) = ⊥
+IsFaultOf (Some name) (Some fault) = ⊤
+
 -- by the document whose door it reached
 pub record HearsApart (s t : Talking) (store : Storing) (acts : List Act) (done : List Did) (failed : Option TalkFault) : Type 0 where
   pub reached : Option (List ℕ)
   pub does : ReachesBy reached s t store acts done failed
+  pub ends : AreConnectEnds reached done
+  pub cause : IsFaultOf reached failed
 
 -- ---- the store
 
--- a store that failed may have put what it was asked to put
-abbrev pub HoldsBehind : Option TalkFault → (before now : Storing) → List Did → Type 0
-HoldsBehind (Some (Store (store.StoreFailed note))) before now done = ⊤
-HoldsBehind failed before now done = now.content ≡ option_map (λ held. held_after held done) before.content
+-- what it holds is what it held, with what these acts put
+abbrev pub HoldsWith : List Act → (before now : Storing) → Type 0
+HoldsWith acts before now = now.content ≡ option_map (λ held. held_after held acts) before.content
 
-pub record LeavesStore (before now : Storing) (acts : List Act) (done : List Did) (failed : Option TalkFault) : Type 0 where
+-- behind the acts that were done. A store that failed at the next one may have done that all the same
+abbrev pub HoldsBehind : Option TalkFault → (before now : Storing) → (done rest : List Act) → Type 0
+HoldsBehind (Some (Store (store.StoreFailed note))) before now done (a ∷ rest) = HoldsWith done before now ⊎ HoldsWith (done ++ a ∷ []) before now
+HoldsBehind failed before now done rest = HoldsWith done before now
+
+pub record LeavesStore (before now : Storing) (acts done rest : List Act) (failed : Option TalkFault) : Type 0 where
   pub later : before.faults ≤ now.faults
   pub told : is_some now.content ≡ is_some before.content
-  pub holds : HoldsBehind failed before now done
+  pub holds : HoldsBehind failed before now done rest
   pub untouched : list_any is_asked_of_store acts ≡ false → now ≡ before
 
 -- ---- all of it
@@ -119,7 +139,7 @@ pub record Does (s t : Talking) (before now : Storing) (text : List ℕ) (moment
   pub no_events : All (λ reply. is_event reply ≡ false) (replies_behind s.voice (ended done))
   pub connected : is_connected s.voice ≡ true → HearsConnected s t before done failed
   pub apart : is_connected s.voice ≡ false → HearsApart s t before (acts_of s.voice text moment) done failed
-  pub store : LeavesStore before now (acts_of s.voice text moment) done failed
+  pub store : LeavesStore before now (acts_of s.voice text moment) (acts_in done) rest failed
 
 -- the replies are those to what was done, and for want of memory a front of these
 abbrev pub AreReplies : Option TalkFault → (all replies : List Reply) → Type 0

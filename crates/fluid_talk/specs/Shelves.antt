@@ -1,50 +1,34 @@
--- What a key tells of the documents that are open, and how it comes back from asking for a document.
-use Rattle.std.specs.Prelude.{◌≡◌, ◌⊎◌, ℕ, true, List, [], ◌∷◌, ◌++◌, length, bytes_eq}
-use Rattle.std.specs.List.{list_any}
-use Rattle.fluid_turn.specs.Entries.{IsPrefix, entries}
+-- How a key comes back from a text.
+use Rattle.std.specs.Prelude.{◌≡◌, ◌≤◌, ℕ, List, ◌++◌, length, map, Result, Ok, Err}
+use Rattle.fluid_turn.specs.declared.view.Numbered.{Numbered}
+use Rattle.fluid_turn.specs.Entries.{IsPrefix, by_seat, entries}
 use Rattle.fluid_document.specs.Entries.{most}
-use Rattle.fluid_lane.specs.declared.fault.LaneFault.TheVariants as lane
 use Rattle.fluid_opening.specs.declared.fault.DoorFault.{DoorFault}
-use Rattle.fluid_opening.specs.declared.fault.DoorFault.TheVariants.{ShelfFailed, Lane, TooManyDocuments, NoMemory}
-use Rattle.fluid_voice.specs.Ends.{is_beyond}
-use Rattle.fluid_talk.specs.declared.shelf.ShelfStep.{ShelfStep}
-use Rattle.fluid_talk.specs.declared.shelf.ShelfStep.TheVariants.{Opened, Failed}
-use Rattle.fluid_talk.specs.Talking.{Keyed}
+use Rattle.fluid_opening.specs.declared.shelf.ShelfStep.{ShelfStep}
+use Rattle.fluid_opening.specs.Steps.{visit_steps, IsAnswer}
+use Rattle.fluid_talk.specs.Talking.{Keyed, IsSameKey}
 
--- the names of the documents that were opened, in order
-abbrev pub opened_by : List ShelfStep → List (List ℕ)
-opened_by [] = []
-opened_by (Opened name ∷ steps) = name ∷ opened_by steps
-opened_by (Failed name fault ∷ steps) = opened_by steps
-
-abbrev pub opened : Keyed → List (List ℕ)
-opened k = opened_by (entries k.seen)
-
--- the key has no step of its own more
+-- it has no step of its own more
 pub record KeepsKey (k m : Keyed) : Type 0 where
+  pub same : IsSameKey k m
   pub seen : IsPrefix k.seen m.seen
   pub mine : m.mine ≡ k.mine
 
--- the document is open, and perhaps this key opened it
-pub record OpensFor (name : List ℕ) (k m : Keyed) : Type 0 where
-  pub seen : IsPrefix k.seen m.seen
-  pub open_now : list_any (bytes_eq name) (opened m) ≡ true
-  pub mine : (m.mine ≡ k.mine) ⊎ (m.mine ≡ k.mine ++ Opened name ∷ [])
+-- The service was asked for the document of this name, and this was the answer. It found the shelf's whole list, which begins with all
+-- that the key had seen, and added to it what such an answer adds; these steps are the key's own, and the last that it has seen. The
+-- answer is the one by the list
+pub record AsksFor (name : List ℕ) (answer : Result (Unit {0}) DoorFault) (k m : Keyed) : Type 0 where
+  pub same : IsSameKey k m
+  pub before : List (Numbered ShelfStep)
+  pub begins : IsPrefix k.seen before
+  pub seen : m.seen ≡ before ++ map (by_seat k.number) (visit_steps name answer (entries before))
+  pub mine : m.mine ≡ k.mine ++ visit_steps name answer (entries before)
+  pub few : length m.seen ≤ most
+  pub is : IsAnswer k.told name answer (entries before)
 
--- the shelf has as many steps as it may have
-pub record IsWornShelf (fault : DoorFault) (k m : Keyed) : Type 0 where
-  pub fault_is : fault ≡ Lane lane.Worn
-  pub many : length m.seen ≡ most
-  pub mine : m.mine ≡ k.mine
+-- a door of the document was given, or none
+abbrev pub OpensFor : List ℕ → Keyed → Keyed → Type 0
+OpensFor name k m = AsksFor name (Ok tt) k m
 
--- by the fault: it is noted, or the shelf is worn; as many documents are open as may be, and this one isn't; memory was wanting
-abbrev pub IsNotedFor : List ℕ → DoorFault → Keyed → Keyed → Type 0
-IsNotedFor name (ShelfFailed note) k m = m.mine ≡ k.mine ++ Failed name (ShelfFailed note) ∷ []
-IsNotedFor name (Lane fault) k m = (m.mine ≡ k.mine ++ Failed name (Lane fault) ∷ []) ⊎ IsWornShelf (Lane fault) k m
-IsNotedFor name (TooManyDocuments count) k m = (m.mine ≡ k.mine) × (is_beyond (opened m) name ≡ true)
-IsNotedFor name NoMemory k m = m.mine ≡ k.mine
-
--- no door was given
-pub record IsRefusedDoor (name : List ℕ) (fault : DoorFault) (k m : Keyed) : Type 0 where
-  pub seen : IsPrefix k.seen m.seen
-  pub noted : IsNotedFor name fault k m
+abbrev pub IsRefusedDoor : List ℕ → DoorFault → Keyed → Keyed → Type 0
+IsRefusedDoor name fault k m = AsksFor name (Err fault) k m

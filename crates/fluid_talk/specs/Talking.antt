@@ -5,12 +5,15 @@ use Rattle.fluid_turn.specs.Entries.{IsPrefix, entries, made_by}
 use Rattle.fluid_types.specs.Ledger.{Ledger, order}
 use Rattle.fluid_types.specs.declared.messages.Message.{Message}
 use Rattle.fluid_rules.specs.declared.limits.Limits.{Limits}
+use Rattle.fluid_rules.specs.Rules.{IsLegal}
 use Rattle.fluid_document.specs.Entries.{most}
 use Rattle.fluid_lane.specs.declared.steps.Step.{Step}
 use Rattle.fluid_lane.specs.Steps.{ledger}
 use Rattle.fluid_voice.specs.declared.states.VoiceState.{VoiceState}
 use Rattle.fluid_voice.specs.States.{document_name, is_connected, next_number}
-use Rattle.fluid_talk.specs.declared.shelf.ShelfStep.{ShelfStep}
+use Rattle.fluid_opening.specs.declared.shelf.ShelfStep.{ShelfStep}
+use Rattle.fluid_opening.specs.declared.opening.TheConstants.{MOST_DOCUMENTS}
+use Rattle.fluid_opening.specs.Steps.{opened}
 
 -- ---- what is known
 
@@ -25,8 +28,11 @@ pub record Knowing : Type 0 where
   pub seen : List (Numbered Step)
   pub mine : List Step
 
--- a key of a service: the steps of its shelf that it has seen, and those of them that it made
+-- a key of a service: whether its shelves tell their keepers, and the number of the key, which never change; the steps of the shelf
+-- that it has seen, and those of them that it made
 pub record Keyed : Type 0 where
+  pub told : Bool
+  pub number : ℕ
   pub seen : List (Numbered ShelfStep)
   pub mine : List ShelfStep
 
@@ -51,17 +57,26 @@ order_of seen = order (ledger_of seen)
 abbrev pub number_behind_last : List (Numbered Step) → ℕ
 number_behind_last seen = length (order_of seen) + 1
 
+-- ---- what a key says of its service
+
+-- the names of the documents that were opened, in order
+abbrev pub opened_by : Keyed → List (List ℕ)
+opened_by k = opened (entries k.seen)
+
 -- ---- what holds of every connection
 
--- one that is connected has a pass of its document. The number of the message that is delivered next isn't 0 then, and not above the
--- one behind the last message
+-- One that is connected has a pass of its document. The number of the message that is delivered next isn't 0 then, and not above the
+-- one behind the last message. Pass and key have as their own those of the seen steps that bear their numbers, in order. The entered
+-- steps of a document whose keeper tells its content are a legal ledger, and not more documents were opened than may be open
 pub record IsSound (t : Talking) : Type 0 where
   pub named : is_connected t.voice ≡ true → t.pass.name ≡ document_name t.voice
   pub first : is_connected t.voice ≡ true → 0 < next_number t.voice
   pub next : is_connected t.voice ≡ true → t.pass.told ≡ true → next_number t.voice ≤ number_behind_last t.pass.seen
-  -- its own steps are the seen ones that bear its number, in order
+  pub few : is_connected t.voice ≡ true → length t.pass.seen ≤ most
   pub own : t.pass.mine ≡ made_by t.pass.number t.pass.seen
-  pub few : length t.pass.seen ≤ most
+  pub legal : t.pass.told ≡ true → IsLegal (ledger_of t.pass.seen)
+  pub key_own : t.key.mine ≡ made_by t.key.number t.key.seen
+  pub key_few : length (opened_by t.key) ≤ MOST_DOCUMENTS
 
 -- ---- what never changes, and how a pass goes on
 
@@ -77,3 +92,8 @@ pub record Goes (p q : Knowing) (added : List Step) : Type 0 where
   pub same : IsSamePass p q
   pub seen : IsPrefix p.seen q.seen
   pub mine : q.mine ≡ p.mine ++ added
+
+-- it is a key of the same service with the same number
+pub record IsSameKey (k m : Keyed) : Type 0 where
+  pub told : m.told ≡ k.told
+  pub number : m.number ≡ k.number

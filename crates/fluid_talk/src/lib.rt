@@ -4,13 +4,11 @@
 //! to what is known of it (`Talking`): where it stands, what it knows of its document, and what its key knows of the documents that
 //! are open. A session is written against this trait alone.
 //!
-//! - `conversation`: the trait. `heard`: what comes of a text. `shelf`: the steps by which documents are opened.
+//! - `conversation`: the trait. `heard`: what comes of a text.
 #![tactic(auto)]
 
 mod conversation;
 mod heard;
-mod shelf;
 
 pub use conversation::Conversation;
 pub use heard::Heard;
-pub use shelf::ShelfStep;

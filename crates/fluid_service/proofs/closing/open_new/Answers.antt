@@ -1,6 +1,6 @@
 use Rattle.std.proofs.Common.{sym, ◌∙◌}
 use Rattle.fluid_turn.specs.Entries.{entries}
-use Rattle.fluid_service.specs.Steps.{refusal}
+use Rattle.fluid_opening.specs.Steps.{refusal}
 use Rattle.fluid_service.specs.Shelved.{terms_of}
 use Rattle.fluid_service.proofs.Standings.{has_room}
 use Rattle.fluid_service.proofs.Passages.{refused_steps, refused_new, no_memory_steps}

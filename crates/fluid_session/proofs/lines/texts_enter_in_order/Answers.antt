@@ -1,4 +1,4 @@
-use Rattle.fluid_session.proofs.Submitted.{submits}
+use Rattle.fluid_session.proofs.Filling.{submits}
 use Rattle.fluid_session.proofs.lines.texts_enter_in_order.Goals as goal
 
 pub returns : goal.returns

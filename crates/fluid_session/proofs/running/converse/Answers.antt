@@ -10,6 +10,7 @@ returns g c = record {
     tally = c.run-end.new.tally;
     runs = rw c.new-tally.ensures at c.run-end.ensures.does;
     moment = c.now-moment.result;
+    timely = c.now-moment.ensures.bound;
     ends = c.leave-end.ensures;
     numbers = record { sequenced = refl; dropped = refl; nacked = refl; absorbed = refl; unread = refl };
   });

@@ -4,17 +4,17 @@ use Rattle.fluid_session.proofs.Onward.{fails_collecting, fed_well, fed_badly, r
 use Rattle.fluid_session.proofs.turning.feed.Goals as goal
 
 pub returns-in-Err-clause-does : goal.returns-in-Err-clause-does
-returns-in-Err-clause-does g c = λ store tally. rw c.end_of.ensures (fails_collecting _ _ store tally _ c.in-Err.fault c.in-Err.ensures.does)
+returns-in-Err-clause-does g c = λ store tally few. rw c.end_of.ensures (fails_collecting _ _ store tally _ c.in-Err.fault few c.in-Err.ensures.does)
 
 pub returns-in-Ok-send_all-clause-does : goal.returns-in-Ok-send_all-clause-does
-returns-in-Ok-send_all-clause-does g c = λ store tally.
-    fed_well _ _ store tally _ _ c.in-Ok.replies c.in-Ok.ensures.does c.know.ensures
+returns-in-Ok-send_all-clause-does g c = λ store tally few.
+    fed_well _ _ store tally _ _ c.in-Ok.replies few c.in-Ok.ensures.does c.know.ensures
     (subst (λ l. SendsAll (g.W.Wire.seen c.args.wire.now) (g.W.Wire.seen c.send_all.new.wire) l (Ok tt)) c.as_slice.ensures c.in-Ok-send_all.ensures)
 
 pub returns-clause-does : goal.returns-clause-does
-returns-clause-does g c = λ store tally.
+returns-clause-does g c = λ store tally few.
     rw c.wire_end.ensures
-    (fed_badly _ _ store tally _ _ c.in-Ok.replies c.in-Err-send_all.fault c.in-Ok.ensures.does c.know.ensures
+    (fed_badly _ _ store tally _ _ c.in-Ok.replies c.in-Err-send_all.fault few c.in-Ok.ensures.does c.know.ensures
     (subst (λ l. SendsAll (g.W.Wire.seen c.args.wire.now) (g.W.Wire.seen c.send_all.new.wire) l (Err c.in-Err-send_all.fault)) c.as_slice.ensures c.in-Err-send_all.ensures))
 
 pub returns-in-Ok-send_all-clause-reached : goal.returns-in-Ok-send_all-clause-reached

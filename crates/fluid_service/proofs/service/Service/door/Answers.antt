@@ -3,7 +3,7 @@ use Rattle.std.specs.Prelude.{IfSome}
 use Rattle.fluid_turn.specs.Entries.{entries}
 use Rattle.fluid_opening.specs.declared.fault.DoorFault.TheVariants.{NoMemory}
 use Rattle.fluid_service.specs.Visiting.{Visiting, IsFound}
-use Rattle.fluid_service.specs.Steps.{is_opened, visit_steps}
+use Rattle.fluid_opening.specs.Steps.{is_opened, visit_steps}
 use Rattle.fluid_service.specs.Shelved.{terms_of, is_open}
 use Rattle.fluid_service.specs.Keys.{Serving, Passes, IsVisitOf, Reaches}
 use Rattle.fluid_service.proofs.Standings.{open_is}

@@ -1,7 +1,7 @@
 use Rattle.std.proofs.Common.{◌≡◌, [], ◌∙◌}
 use Rattle.std.specs.Prelude.{IfOk}
 use Rattle.fluid_turn.specs.Entries.{entries}
-use Rattle.fluid_service.specs.Steps.{opened}
+use Rattle.fluid_opening.specs.Steps.{opened}
 use Rattle.fluid_service.proofs.Passages.{passes_by, adding_none}
 use Rattle.fluid_service.proofs.service.Service.names.Goals as goal
 

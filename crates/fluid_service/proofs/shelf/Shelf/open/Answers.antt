@@ -29,7 +29,7 @@ returns-in_ok-keep-in-Err-Lane-clause-goes g c =
     fails_continues c.args.name.now c.args.moment (Lane c.in-Err-Lane.fault) c.args.self.now c.start.new.self c.keep-in-Err-Lane.new.self c.start.ensures.goes fails c.in_ok-keep-in-Err-Lane.ensures.kept
 
 pub returns-in-Ok-clause-goes : goal.returns-in-Ok-clause-goes
-returns-in-Ok-clause-goes g c = opens_continues c.args.name.now c.args.moment c.args.self.now c.start.new.self c.in-Ok.visit c.in-Ok.ensures.goes c.in-Ok.ensures.starts
+returns-in-Ok-clause-goes g c = opens_continues c.args.name.now c.args.moment c.args.self.now c.start.new.self c.in-Ok.visit c.requires.room c.in-Ok.ensures.goes c.in-Ok.ensures.starts
 
 pub returns-in-Ok-clause-does : goal.returns-in-Ok-clause-does
 returns-in-Ok-clause-does g c = opens_visit c.args.name.now c.args.moment c.args.self.now c.start.new.self c.in-Ok.visit c.in-Ok.ensures.starts

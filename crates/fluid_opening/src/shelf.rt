@@ -1,5 +1,5 @@
-// How documents are opened.
-use fluid_opening::DoorFault;
+//! The steps by which documents are opened.
+use crate::DoorFault;
 use fluid_types::DocName;
 
 /// A step of the shelf on which a service keeps its documents.

@@ -1,6 +1,8 @@
 -- The steps of a shelf, oldest first: the documents that were opened, and the openings that failed.
-use Rattle.std.specs.Prelude.{◌≡◌, ⊤, ℕ, ◌+◌, nat_le, Bool, true, false, List, [], ◌∷◌, length, Option, Some, None, Result, Ok, Err, IfErr}
+use Rattle.std.specs.Prelude.{◌≡◌, ⊤, ℕ, ◌+◌, nat_le, Bool, true, false, List, [], ◌∷◌, length, Option, Some, None, Result, Ok, Err, IfErr, bytes_eq}
+use Rattle.std.specs.List.{list_any}
 use Rattle.std.specs.Option.{option_or}
+use Rattle.fluid_io.specs.Causes.{Rose}
 use Rattle.fluid_json.specs.Unless.{IsUnless}
 use Rattle.fluid_document.specs.Entries.{most}
 use Rattle.fluid_lane.specs.declared.fault.LaneFault.{LaneFault}
@@ -8,9 +10,8 @@ use Rattle.fluid_lane.specs.declared.fault.LaneFault.TheVariants as lane
 use Rattle.fluid_opening.specs.declared.opening.TheConstants.{MOST_DOCUMENTS}
 use Rattle.fluid_opening.specs.declared.fault.DoorFault.{DoorFault}
 use Rattle.fluid_opening.specs.declared.fault.DoorFault.TheVariants.{ShelfFailed, Lane, TooManyDocuments, NoMemory}
-use Rattle.fluid_service.specs.declared.steps.ShelfStep.{ShelfStep}
-use Rattle.fluid_service.specs.declared.steps.ShelfStep.TheVariants.{Opened, Failed}
-use Rattle.fluid_service.specs.Visiting.{is_among}
+use Rattle.fluid_opening.specs.declared.shelf.ShelfStep.{ShelfStep}
+use Rattle.fluid_opening.specs.declared.shelf.ShelfStep.TheVariants.{Opened, Failed}
 
 -- ---- what a list of steps says
 
@@ -19,6 +20,10 @@ abbrev pub opened : List ShelfStep → List (List ℕ)
 opened [] = []
 opened (Opened name ∷ steps) = name ∷ opened steps
 opened (Failed name fault ∷ steps) = opened steps
+
+-- the name is one of these
+abbrev pub is_among : List ℕ → List (List ℕ) → Bool
+is_among name names = list_any (bytes_eq name) names
 
 abbrev pub is_opened : List ℕ → List ShelfStep → Bool
 is_opened name l = is_among name (opened l)
@@ -83,17 +88,17 @@ abbrev pub IsNoMemory : DoorFault → Type 0
 IsNoMemory NoMemory = ⊤
 IsNoMemory other = ⊥
 
--- why a lane isn't started: over a keeper that is kept only since the keeper failed, or since the document is worn
+-- why a lane isn't started: over a keeper that is kept only since the keeper failed, whose count rose then, or since the document is worn
 abbrev pub IsStartFault : Bool → LaneFault → Type 0
-IsStartFault told (lane.LogFailed note) = ⊤
-IsStartFault told (lane.DeltaFailed note) = ⊤
+IsStartFault told (lane.LogFailed note) = Rose note.before note.after
+IsStartFault told (lane.DeltaFailed note) = Rose note.before note.after
 IsStartFault told lane.Worn = ⊤
 IsStartFault told lane.NoMemory = ⊥
 IsStartFault told other = told ≡ false
 
 -- why an opening fails
 abbrev pub IsOpeningFault : Bool → DoorFault → Type 0
-IsOpeningFault told (ShelfFailed note) = ⊤
+IsOpeningFault told (ShelfFailed note) = Rose note.before note.after
 IsOpeningFault told (Lane fault) = IsStartFault told fault
 IsOpeningFault told (TooManyDocuments count) = ⊥
 IsOpeningFault told NoMemory = ⊤

@@ -1,0 +1,10 @@
+mod Passes
+mod Submitting
+mod Joining
+mod Lookings
+mod Running
+mod Texts
+mod Choosing
+mod Questions
+mod Hears
+mod Reached
