@@ -1,7 +1,7 @@
 -- What a text of one that is connected asks for.
-use Rattle.std.proofs.Common.{◌≡◌, ◌⊎◌, inl, inr, ℕ, Bool, true, false, List, [], ◌∷◌, map, All, Ok, Err, is_ok, bytes_eq, if◌then◌else◌, refl, sym, subst}
+use Rattle.std.proofs.Common.{◌≡◌, ◌≤◌, ◌⊎◌, inl, inr, ℕ, Bool, not, true, false, List, [], ◌∷◌, map, All, Ok, Err, is_ok, bytes_eq, if◌then◌else◌, refl, sym, ◌∙◌, subst}
 use Rattle.std.proofs.lemmas.List.Elements.{All-head, All-tail}
-use Rattle.fluid_types.specs.Forms.{Read}
+use Rattle.fluid_types.specs.Forms.{Read, largest}
 use Rattle.fluid_types.specs.declared.entries.Submission.{Submission}
 use Rattle.fluid_types.specs.declared.entries.Raw.{Raw}
 use Rattle.fluid_types.specs.declared.entries.Raw.TheVariants.{Join, Leave, Submit, Report}
@@ -17,7 +17,7 @@ use Rattle.fluid_voice.specs.States.{is_connected}
 use Rattle.fluid_voice.specs.Fitting.{IsFitting}
 use Rattle.fluid_voice.specs.Heard.{submission_acts, nacks, read_acts, acts_of}
 use Rattle.fluid_connection.specs.Running.{AreSubmissions}
-use Rattle.fluid_connection.specs.Hearing.{IsQuestion, IsSubmitAct, AreSubmitActs, AreAskedAtOnce, ConnectedAsk, begin_with_entry}
+use Rattle.fluid_connection.specs.Hearing.{IsQuestion, IsSubmitAct, AreSubmitActs, AreAskedAtOnce, ConnectedAsk, AreSole, AreAskedApart, OthersAsk, begin_with_entry}
 
 -- ---- the law
 
@@ -69,6 +69,63 @@ connected_ask Used text moment is = absurd (never is)
 connected_ask (Reading name next) text moment is = event_asked (Reading name next) moment refl (event_spelled text)
 connected_ask (Writing name id next) text moment is = event_asked (Writing name id next) moment refl (event_spelled text)
 
+-- ---- one that isn't connected
+
+one_of : (b : Bool) (moment : ℕ) (a other : Act) → AreAskedApart (a ∷ []) → AreAskedApart (other ∷ []) → AreAskedApart (if b then a ∷ [] else other ∷ [])
+one_of true moment a other first second = first
+one_of false moment a other first second = second
+
+event_apart : (s : VoiceState) (moment : ℕ) → is_connected s ≡ false → moment ≤ largest → (r : Read Event) → AreAskedApart (read_acts s moment r)
+event_apart (Reading name next) moment off early r = absurd (never off)
+  where
+    never : true ≡ false → ⊥
+    never same = cc
+event_apart (Writing name id next) moment off early r = absurd (never off)
+  where
+    never : true ≡ false → ⊥
+    never same = cc
+event_apart Fresh moment off early (Err fault) = tt
+event_apart Used moment off early (Err fault) = tt
+event_apart Fresh moment off early (Ok (event.Connect to write scopes client)) = one_of (not scopes.read) moment _ _ tt early
+event_apart Used moment off early (Ok (event.Connect to write scopes client)) = one_of (not scopes.read) moment _ _ tt early
+event_apart Fresh moment off early (Ok (event.SubmitOp own l)) = tt
+event_apart Used moment off early (Ok (event.SubmitOp own l)) = tt
+event_apart Fresh moment off early (Ok (event.GetDeltas from to)) = tt
+event_apart Used moment off early (Ok (event.GetDeltas from to)) = tt
+event_apart Fresh moment off early (Ok (event.GetSummary asked)) = tt
+event_apart Used moment off early (Ok (event.GetSummary asked)) = tt
+event_apart Fresh moment off early (Ok (event.GetObject id)) = tt
+event_apart Used moment off early (Ok (event.GetObject id)) = tt
+event_apart Fresh moment off early (Ok (event.PutObject bytes)) = tt
+event_apart Used moment off early (Ok (event.PutObject bytes)) = tt
+
+pub others_ask : OthersAsk
+unfolding acts_of
+others_ask Fresh text moment off early = event_apart Fresh moment refl early (event_spelled text)
+others_ask (Reading name next) text moment off early = absurd (never off)
+  where
+    never : true ≡ false → ⊥
+    never same = cc
+others_ask (Writing name id next) text moment off early = absurd (never off)
+  where
+    never : true ≡ false → ⊥
+    never same = cc
+others_ask Used text moment off early = tt
+
+pub not_two : (a b : Act) (acts : List Act) → AreAskedApart (a ∷ b ∷ acts) → ⊥
+not_two (act.Say reply) b acts is = is
+not_two (act.Connect name write scopes detail moment) b acts is = is
+not_two (act.Enter raw) b acts is = is
+not_two (act.Deltas from to) b acts is = is
+not_two (act.Summary asked) b acts is = is
+not_two (act.GetObject id) b acts is = is
+not_two (act.PutObject bytes) b acts is = is
+
+pub apart_sole : (acts : List Act) → AreAskedApart acts → AreSole acts
+apart_sole [] is = tt
+apart_sole (a ∷ []) is = tt
+apart_sole (a ∷ b ∷ acts) is = absurd (not_two a b acts is)
+
 -- ---- the choice
 
 fitting : (acts : List Act) → AreSubmitActs acts → All IsFitting acts → AreSubmissions acts
@@ -111,3 +168,24 @@ entry_first (act.PutObject bytes ∷ acts) subs begins = subs.0
 pub question_chosen : (acts : List Act) → begin_with_entry acts ≡ false → AreAskedAtOnce acts → (a : Act) × ((acts ≡ a ∷ []) × IsQuestion a)
 question_chosen acts begins (inl subs) = absurd (entry_first acts subs begins)
 question_chosen acts begins (inr asks) = asks
+
+pub question_sole : (acts : List Act) → begin_with_entry acts ≡ false → AreAskedAtOnce acts → AreSole acts
+question_sole acts begins asked =
+    let q = question_chosen acts begins asked in
+    subst AreSole (sym q.1.0) tt
+
+pub question_some : (acts : List Act) (a : Act) → begin_with_entry acts ≡ false → AreAskedAtOnce acts → acts ≡ a ∷ [] → IsQuestion a
+question_some acts a begins asked same =
+    let q = question_chosen acts begins asked in
+    subst IsQuestion (head_same q.0 a (sym q.1.0 ∙ same)) q.1.1
+  where
+    head_same : (x y : Act) → x ∷ [] ≡ y ∷ [] → x ≡ y
+    head_same x y same = cc
+
+pub question_none : (acts : List Act) → begin_with_entry acts ≡ false → AreAskedAtOnce acts → acts ≡ [] → ⊥
+question_none acts begins asked same =
+    let q = question_chosen acts begins asked in
+    none_one q.0 (sym same ∙ q.1.0)
+  where
+    none_one : (x : Act) → [] ≡ x ∷ [] → ⊥
+    none_one x same = cc

@@ -25,6 +25,7 @@ use Rattle.fluid_doors.specs.Answers.{is_worn_behind, IsRuled}
 use Rattle.fluid_doors.specs.Entering.{is_full_at, has_too_many_at, IsJoinFault, Joins, joined_as}
 use Rattle.fluid_voice.specs.declared.actions.Act.{Act}
 use Rattle.fluid_voice.specs.declared.actions.Act.TheVariants as act
+use Rattle.fluid_voice.specs.declared.ends.ActEnd.{ActEnd}
 use Rattle.fluid_voice.specs.declared.ends.ActEnd.TheVariants.{Joined, FullNow, TooMany}
 use Rattle.fluid_voice.specs.Ends.{join_of, joined_by, outcome}
 use Rattle.fluid_voice.specs.Ends.Outcome.{ends}
@@ -38,7 +39,7 @@ module _ (t : Terms) (name : List ℕ) (scopes : Scopes) (detail : Tree) (moment
   abbrev connect : Act
   connect = act.Connect name true scopes detail moment
 
-  abbrev join_end_by : Bool → Bool → _
+  abbrev join_end_by : Bool → Bool → ActEnd
   join_end_by a b = if a then FullNow else if b then TooMany else joined_by (entry_name (length (ledger l))) (verdict (ledger l) (join_of (ledger l) scopes detail moment))
 
   join_by : (held : Held) (a b : Bool) → (is_full_at t l).0 ≡ a → has_too_many_clients t.limits.clients (ledger l) (Join (entry_name (length (ledger l))) scopes detail moment) ≡ b
@@ -100,7 +101,7 @@ module _ (name : List ℕ) (p q : APass) (scopes : Scopes) (detail : Tree) (mome
 
   full_given : (n : ℕ) → Grown (Err (lane.Full n)) → Does (Err (lane.Full n))
   full_given n grows =
-      let open_ = fault_open {A = List ℕ × Message} (is_worn_behind (entries grows.before)) (lane.Full n) (λ same. cc) grows.says.answers.worn in
+      let open_ = fault_open (List ℕ × Message) (is_worn_behind (entries grows.before)) (lane.Full n) (λ same. cc) grows.says.answers.worn in
       let refused = λ (told : p.turn.fixed.told ≡ true). full_first p.turn.fixed name scopes detail moment (entries grows.before) _ _ n ((grows.says.answers.told told).ruled open_) in
       record {
         found = grows.before;
@@ -117,7 +118,7 @@ module _ (name : List ℕ) (p q : APass) (scopes : Scopes) (detail : Tree) (mome
 
   many_given : Grown (Err lane.TooManyClients) → Does (Err lane.TooManyClients)
   many_given grows =
-      let open_ = fault_open {A = List ℕ × Message} (is_worn_behind (entries grows.before)) lane.TooManyClients (λ same. cc) grows.says.answers.worn in
+      let open_ = fault_open (List ℕ × Message) (is_worn_behind (entries grows.before)) lane.TooManyClients (λ same. cc) grows.says.answers.worn in
       record {
         found = grows.before;
         added = [];
@@ -133,7 +134,7 @@ module _ (name : List ℕ) (p q : APass) (scopes : Scopes) (detail : Tree) (mome
 
   -- no other fault comes where the document isn't worn
   named : (fault : LaneFault) → (fault ≡ lane.Worn → ⊥) → Grown (Err fault) → IsJoinFault p.turn.fixed fault
-  named fault other grows = grows.says.answers.named (fault_open {A = List ℕ × Message} (is_worn_behind (entries grows.before)) fault other grows.says.answers.worn)
+  named fault other grows = grows.says.answers.named (fault_open (List ℕ × Message) (is_worn_behind (entries grows.before)) fault other grows.says.answers.worn)
 
   fault_goes : (fault : LaneFault) → Grown (Err fault) → Goes (knowing name p) (knowing name q) (fault_steps fault)
   fault_goes fault grows = goes_with name p q _ _ grows
@@ -150,4 +151,4 @@ module _ (name : List ℕ) (p q : APass) (scopes : Scopes) (detail : Tree) (mome
   joins (Err lane.NoMemory) grows = record { goes = fault_goes lane.NoMemory grows; cause = λ before now. tt }
   joins (Err (lane.BadCheckpoint number bad)) grows = absurd (named (lane.BadCheckpoint number bad) (λ same. cc) grows)
   joins (Err (lane.TooLarge bytes)) grows = absurd (named (lane.TooLarge bytes) (λ same. cc) grows)
-  joins (Err lane.Worn) grows = record { goes = fault_goes lane.Worn grows; cause = λ before now. (refl, worn_seen {A = List ℕ × Message} p q _ grows grows.says.answers.worn) }
+  joins (Err lane.Worn) grows = record { goes = fault_goes lane.Worn grows; cause = λ before now. (refl, worn_seen (List ℕ × Message) p q _ grows grows.says.answers.worn) }

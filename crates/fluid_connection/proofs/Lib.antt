@@ -8,3 +8,11 @@ mod Choosing
 mod Questions
 mod Hears
 mod Reached
+mod Keyrings
+mod Greetings
+mod Passings
+mod Stretches
+mod Collections
+mod Leavings
+mod Standing
+mod States

@@ -83,7 +83,7 @@ ranges (act.GetObject id) fault caused = absurd caused
 ranges (act.PutObject bytes) fault caused = absurd caused
 
 rose : (a : Act) (note : FaultNote) → IsLookFault a (delta.DeltaFailed note) → Rose note.before note.after
-rose (act.Deltas from to) note (last, (first, (end, (asked, risen)))) = risen
+rose (act.Deltas from to) note (last, first, end, is) = is.1
 rose (act.Summary asked) note caused = absurd caused
 rose (act.Connect name write scopes detail moment) note caused = absurd caused
 rose (act.Say reply) note caused = absurd caused

@@ -25,21 +25,21 @@ goes_with name p q added says grows = record {
 ok_worn : {A P : Type 0} (v : A) → ◌≡◌ {A = Result A LaneFault} (Ok v) (Err lane.Worn) → P
 ok_worn v same = cc
 
-fault_same : {A : Type 0} (a b : LaneFault) → ◌≡◌ {A = Result A LaneFault} (Err a) (Err b) → a ≡ b
-fault_same a b same = cc
+fault_same : (A : Type 0) (a b : LaneFault) → ◌≡◌ {A = Result A LaneFault} (Err a) (Err b) → a ≡ b
+fault_same A a b same = cc
 
 -- an answer that isn't worn comes where the list isn't as long as may be
 pub ok_open : {A : Type 0} (b : Bool) (v : A) → WornBy b (Ok v) → b ≡ false
 ok_open true v worn = ok_worn v worn
 ok_open false v worn = refl
 
-pub fault_open : {A : Type 0} (b : Bool) (fault : LaneFault) → (fault ≡ lane.Worn → ⊥) → WornBy {A = A} b (Err fault) → b ≡ false
-fault_open {A} true fault other worn = absurd (other (fault_same {A = A} fault lane.Worn worn))
-fault_open false fault other worn = refl
+pub fault_open : (A : Type 0) (b : Bool) (fault : LaneFault) → (fault ≡ lane.Worn → ⊥) → WornBy {A = A} b (Err fault) → b ≡ false
+fault_open A true fault other worn = absurd (other (fault_same A fault lane.Worn worn))
+fault_open A false fault other worn = refl
 
-worn_long : {A : Type 0} (b : Bool) → WornBy {A = A} b (Err lane.Worn) → b ≡ true
-worn_long true worn = refl
-worn_long false worn = absurd worn
+worn_long : (A : Type 0) (b : Bool) → WornBy {A = A} b (Err lane.Worn) → b ≡ true
+worn_long A true worn = refl
+worn_long A false worn = absurd worn
 
 as_long : (many long seen : ℕ) → nat_le many long ≡ true → seen ≡ long → seen ≤ many → seen ≡ many
 as_long many long seen worn same few = grind (arith, nat_tests)
@@ -50,5 +50,5 @@ long_seen p q says grows long =
     as_long most (length (entries grows.before)) (length q.seen) long
     (ap length (grows.seen ∙ append-nil grows.before) ∙ sym (length-map grows.before (λ (x : Numbered Step). x.entry))) grows.few
 
-pub worn_seen : {A : Type 0} (p q : APass) (says : List Step → Type 0) → (grows : Grows p q [] says) → WornBy {A = A} (is_worn_behind (entries grows.before)) (Err lane.Worn) → length q.seen ≡ most
-worn_seen {A} p q says grows worn = long_seen p q says grows (worn_long {A = A} (is_worn_behind (entries grows.before)) worn)
+pub worn_seen : (A : Type 0) (p q : APass) (says : List Step → Type 0) → (grows : Grows p q [] says) → WornBy {A = A} (is_worn_behind (entries grows.before)) (Err lane.Worn) → length q.seen ≡ most
+worn_seen A p q says grows worn = long_seen p q says grows (worn_long A (is_worn_behind (entries grows.before)) worn)

@@ -1,8 +1,10 @@
 -- One act alone, which enters nothing.
-use Rattle.std.proofs.Common.{◌≡◌, ◌∙◌, ◌⊎◌, inl, inr, ⊤, ℕ, ◌+◌, ◌≤◌, Bool, true, false, is_some, List, [], ◌∷◌, ◌++◌, Option, Some, None, option_map, Result, Ok, Err, IfOk, IfErr, append-nil, refl, sym, ap, subst, arith}
+use Rattle.std.proofs.Common.{◌≡◌, ◌∙◌, ◌⊎◌, inl, inr, ℕ, ◌+◌, ◌≤◌, Bool, true, false, is_some, List, [], ◌∷◌, ◌++◌, map, Option, Some, None, option_map, Result, Ok, Err, IfOk, IfErr, append-nil, refl, sym, ap, subst, arith}
+use Rattle.std.specs.Bool.{⊤}
 use Rattle.std.specs.List.{list_any}
 use Rattle.std.proofs.lemmas.List.Elements.{All-nil}
 use Rattle.fluid_io.specs.declared.faults.FaultNote.{FaultNote}
+use Rattle.fluid_turn.specs.Entries.{by_seat}
 use Rattle.fluid_store.specs.Held.{Held}
 use Rattle.fluid_store.specs.Storing.{Storing}
 use Rattle.fluid_store.specs.declared.fault.StoreFault.TheVariants as store
@@ -15,7 +17,8 @@ use Rattle.fluid_voice.specs.declared.actions.Act.TheVariants as act
 use Rattle.fluid_voice.specs.declared.ends.ActEnd.{ActEnd}
 use Rattle.fluid_voice.specs.declared.ends.ActEnd.TheVariants.{Said, Joined, Told, Entered, FullNow, TooMany, Given}
 use Rattle.fluid_voice.specs.Laws.{FullBehind}
-use Rattle.fluid_voice.specs.Replies.{replies_to, state_after, entered_verdict, one_where}
+use Rattle.fluid_voice.specs.Replies.{replies_to, state_after, is_sequenced, is_dropped, is_nacked, entered_verdict, one_where}
+use Rattle.fluid_talk.specs.Counting.{is_absorbed}
 use Rattle.fluid_voice.specs.Ends.{held_behind, outcome}
 use Rattle.fluid_voice.specs.Ends.Outcome.{ends}
 use Rattle.fluid_voice.specs.Suits.{Suits}
@@ -34,6 +37,7 @@ use Rattle.fluid_connection.specs.Entering.{did_of, DoesOne, FailsOne, DoesAs}
 use Rattle.fluid_connection.specs.Telling.{no_counts, with_ends, SaysOne}
 use Rattle.fluid_connection.specs.Hearing.{IsQuestion, AsksOne, AsksFail, AsksAs, DoesActs, HearsActs}
 use Rattle.fluid_connection.proofs.Running.{goes_nowhere, no_replies}
+use Rattle.fluid_connection.proofs.Texts.{counts_one}
 
 -- ---- what a question leaves
 
@@ -72,12 +76,12 @@ no_verdict (act.Connect name write scopes detail moment) (Entered v) is suits = 
 no_verdict (act.Enter raw) (Entered v) is suits = absurd is
 
 pub not_counted : (a : Act) (end : ActEnd) → entered_verdict end ≡ None → no_counts ≡ with_ends no_counts ((a, end) ∷ [])
-not_counted a end none = ap (λ o. record {
-  sequenced = one_where _ o + 0;
-  dropped = one_where _ o + 0;
-  nacked = one_where _ o + 0;
-  absorbed = one_where _ o + 0;
-}) (sym none)
+not_counted a end none = sym (ap (λ o. record {
+  sequenced = 0 + one_where is_sequenced o;
+  dropped = 0 + one_where is_dropped o;
+  nacked = 0 + one_where is_nacked o;
+  absorbed = 0 + one_where is_absorbed o;
+}) none) ∙ counts_one no_counts a end
 
 pub full_alone : (end : ActEnd) → FullBehind (end ∷ [])
 full_alone FullNow = All-nil (λ e. e ≡ FullNow)
@@ -132,7 +136,7 @@ module _ (p q : Knowing) (s : Storing) (a : Act) (asks : IsQuestion a) (none : i
       record {
         found = h.found;
         begins = h.begins;
-        seen = subst (λ added. q.seen ≡ h.found ++ _ ) nothing h.seen ∙ append-nil h.found;
+        seen = subst (λ added. q.seen ≡ h.found ++ map (by_seat p.number) added) nothing h.seen ∙ append-nil h.found;
         goes = subst (λ added. Goes p q added) nothing h.goes;
         is_done = record { suits = h.is_done.suits; adds = subst (λ added. AddsBy a end added) nothing h.is_done.adds };
         answered = h.answered s;

@@ -205,7 +205,7 @@ module _ (old new : Talked) (c : Connect) (visit now : Visiting) (told : ATold) 
         rest = [];
         asked = refl;
         whole = λ none. refl;
-        cause = λ before now. cause_of fault free;
+        cause = λ before now. cause_of fault free (talking new).pass before now;
         are_done = (one.is_done, tt);
         full = full_alone end;
         voice = voice ∙ ap (λ v. connect_state c.name c.write v end) (sym was);
@@ -221,9 +221,9 @@ module _ (old new : Talked) (c : Connect) (visit now : Visiting) (told : ATold) 
         };
       }
     where
-      cause_of : (f : Option TalkFault) → IfSome f IsNoMemory → {q : Knowing} {a b : Storing} → IfSome f (IsCauseAt q a b [])
-      cause_of None free = tt
-      cause_of (Some f) free = free
+      cause_of : (f : Option TalkFault) → IfSome f IsNoMemory → (q : Knowing) (a b : Storing) → IfSome f (IsCauseAt q a b [])
+      cause_of None free q a b = tt
+      cause_of (Some f) free q a b = free
 
       fault_of : (f : Option TalkFault) → IfSome f IsNoMemory → IsFaultOf (Some c.name) f
       fault_of None free = tt

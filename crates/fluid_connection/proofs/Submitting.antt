@@ -92,7 +92,7 @@ module _ (name : List ℕ) (p q : APass) (raw : Raw) where
   full_given : (n : ℕ) → Grown (Err (lane.Full n)) → Does (Err (lane.Full n))
   full_given n grows =
       let goes = goes_with name p q [] (Submits p.turn.fixed raw (Err (lane.Full n))) grows in
-      let open_ = fault_open {A = Verdict} (is_worn_behind (entries grows.before)) (lane.Full n) (λ same. cc) grows.says.worn in
+      let open_ = fault_open Verdict (is_worn_behind (entries grows.before)) (lane.Full n) (λ same. cc) grows.says.worn in
       let refused = λ (told : p.turn.fixed.told ≡ true). full_refuses p.turn.fixed raw (entries grows.before) empty (asides (entries grows.before)) (is_full_by p.turn.fixed (entries grows.before) raw).0 n ((grows.says.told told).ruled open_) in
       record {
         found = grows.before;
@@ -110,7 +110,7 @@ module _ (name : List ℕ) (p q : APass) (raw : Raw) where
 
   -- no other fault comes where the document isn't worn
   named : (fault : LaneFault) → (fault ≡ lane.Worn → ⊥) → Grown (Err fault) → IsSubmitFault p.turn.fixed raw fault
-  named fault other grows = grows.says.named (fault_open {A = Verdict} (is_worn_behind (entries grows.before)) fault other grows.says.worn)
+  named fault other grows = grows.says.named (fault_open Verdict (is_worn_behind (entries grows.before)) fault other grows.says.worn)
 
   fault_goes : (fault : LaneFault) → Grown (Err fault) → Goes (knowing name p) (knowing name q) (fault_steps fault)
   fault_goes fault grows = goes_with name p q (fault_steps fault) (Submits p.turn.fixed raw (Err fault)) grows
@@ -118,7 +118,7 @@ module _ (name : List ℕ) (p q : APass) (raw : Raw) where
   worn_fails : Grown (Err lane.Worn) → Does (Err lane.Worn)
   worn_fails grows = record {
     goes = fault_goes lane.Worn grows;
-    cause = λ before now. (refl, worn_seen {A = Verdict} p q _ grows grows.says.worn);
+    cause = λ before now. (refl, worn_seen Verdict p q _ grows grows.says.worn);
   }
 
   pub entered : (answer : Result Verdict LaneFault) → Grown answer → Does answer

@@ -96,7 +96,7 @@ same_counts a b c d e f g h one two three four = rw (one, two, three, four) refl
 counts_none : (c : Counts) → with_ends c [] ≡ c
 counts_none c = same_counts _ _ _ _ _ _ _ _ (omega arith) (omega arith) (omega arith) (omega arith)
 
-counts_one : (c : Counts) (a : Act) (end : ActEnd) → with_end c end ≡ with_ends c ((a, end) ∷ [])
+pub counts_one : (c : Counts) (a : Act) (end : ActEnd) → with_end c end ≡ with_ends c ((a, end) ∷ [])
 counts_one c a end = same_counts _ _ _ _ _ _ _ _ (omega arith) (omega arith) (omega arith) (omega arith)
 
 counts_more : (c : Counts) (a : Act) (end : ActEnd) (done : List (Act × ActEnd)) → with_ends (with_end c end) done ≡ with_ends c ((a, end) ∷ done)
@@ -124,7 +124,7 @@ module _ (s : VoiceState) (old new : ATold) (p m : Knowing) (raw : Raw) (is : Is
     counts = counts ∙ counts_one old.counts (act.Enter raw) end;
   }
 
-  pub next_fails : (fault : TalkFault) → FailsOne p m (act.Enter raw) fault → new.replies.items ≡ old.replies.items → new.counts ≡ old.counts → NextDoes s old new p m (act.Enter raw) (Some fault)
+  pub next_fails : (fault : TalkFault) → FailsOne p m (act.Enter raw) fault → new.replies.items ≡ old.replies.items → new.counts ≡ old.counts → NextDoes s old new p m (act.Enter raw) (Err fault)
   next_fails fault fails replies counts = record {
     done = [];
     more = [];

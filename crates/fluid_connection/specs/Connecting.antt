@@ -84,7 +84,7 @@ IsAheadIn true q (Joined id number) = (0 < number) × (q.told ≡ true → numbe
 IsAheadIn false q (ToldLast last) = q.told ≡ true → number_behind last ≤ number_behind_last q.seen
 IsAheadIn write q end = ⊤
 
-pub record IsSettled (name : List ℕ) (write : Bool) (visit : Visiting) (answer : Result ActEnd TalkFault) : Type 0 where
+pub record MaySettle (name : List ℕ) (write : Bool) (visit : Visiting) (answer : Result ActEnd TalkFault) : Type 0 where
   pub named : visit.door.name ≡ name
   pub few : length visit.pass.seen ≤ most
   pub ahead : IfOk answer (IsAheadIn write (knowing visit.door.name visit.pass))

@@ -82,11 +82,11 @@ pub record NextStops (s : VoiceState) (old new : Told) (p m : Knowing) (a : Act)
   pub said : new.replies.items ≡ old.replies.items ++ more
   pub counts : new.counts ≡ with_ends old.counts (ended done)
 
-abbrev pub NextDoes : VoiceState → (old new : Told) → (p m : Knowing) → Act → Option TalkFault → Type 0
-NextDoes s old new p m a None = NextEntered s old new p m a
-NextDoes s old new p m a (Some fault) = NextStops s old new p m a fault
+abbrev pub NextDoes : VoiceState → (old new : Told) → (p m : Knowing) → Act → Result (Unit {0}) TalkFault → Type 0
+NextDoes s old new p m a (Ok done) = NextEntered s old new p m a
+NextDoes s old new p m a (Err fault) = NextStops s old new p m a fault
 
 -- want of memory for a reply
-abbrev pub lost : Result (Unit {0}) NoMemory → Option TalkFault
-lost (Ok done) = None
-lost (Err refused) = Some fault.NoMemory
+abbrev pub lost : Result (Unit {0}) NoMemory → Result (Unit {0}) TalkFault
+lost (Ok done) = Ok tt
+lost (Err refused) = Err fault.NoMemory

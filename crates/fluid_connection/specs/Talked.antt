@@ -1,5 +1,5 @@
 -- A connection, as its own crate sees it.
-use Rattle.std.specs.Prelude.{◌≡◌, ◌<◌, ◌≤◌, ℕ, true, false, List, [], length, Option, Some, None, refl}
+use Rattle.std.specs.Prelude.{◌≡◌, ◌<◌, ◌≤◌, ℕ, true, false, List, [], length, Option, Some, None, IfSome, refl}
 use Rattle.std.specs.Coded.{Coded, code_by, coded×, coded_ℕ, coded_list, coded_option}
 use Rattle.fluid_turn.specs.declared.view.Numbered.{Numbered}
 use Rattle.fluid_document.specs.Entries.{most}
@@ -33,6 +33,9 @@ talking t = record { voice = t.voice; pass = pass_of t.visit; handed = pass_of t
 abbrev pub belongs : Talked → Serving → Type 0
 belongs t service = t.key.turn ≡ service
 
+abbrev pub visited : Visiting → Knowing
+visited visit = knowing visit.door.name visit.pass
+
 -- what always holds of it: one that is connected has a visit of its document. The number of the message that is delivered next isn't
 -- 0 then, and not above the one behind the last message
 pub record IsTalk (t : Talked) : Type 0 where
@@ -40,6 +43,13 @@ pub record IsTalk (t : Talked) : Type 0 where
   pub first : is_connected t.voice ≡ true → 0 < next_number t.voice
   pub next : is_connected t.voice ≡ true → (pass_of t.visit).told ≡ true → next_number t.voice ≤ number_behind_last (pass_of t.visit).seen
   pub few : is_connected t.voice ≡ true → length (pass_of t.visit).seen ≤ most
+
+-- one that noted how many steps its document had has delivered all that its pass has seen
+abbrev pub IsDelivered : Talking → Type 0
+IsDelivered t = t.pass.told ≡ true → next_number t.voice ≡ number_behind_last t.pass.seen
+
+abbrev pub HasDelivered : Talked → Option ℕ → Type 0
+HasDelivered t settled = IfSome settled (λ steps. IsDelivered (talking t))
 
 -- only its visit is another one, or knows more
 pub record StaysBut (old new : Talked) : Type 0 where

@@ -8,7 +8,7 @@ ghost use Rattle.fluid_talk.specs.Causes.{IsConnect};
 ghost use Rattle.fluid_connection.specs.Talked.{talking, belongs};
 ghost use Rattle.fluid_connection.specs.Entering.{joined};
 ghost use Rattle.fluid_connection.specs.Hearing.{HearsOther};
-ghost use Rattle.fluid_connection.specs.Connecting.{act_of, name_of, FitsJoin, Splits, ReachesBy, Greets, IsSettled, Settles, IsRefused};
+ghost use Rattle.fluid_connection.specs.Connecting.{act_of, name_of, FitsJoin, Splits, ReachesBy, Greets, MaySettle, Settles, IsRefused};
 
 use crate::asking::look;
 use crate::entering::refused;
@@ -111,11 +111,12 @@ where
         answer: Result<ActEnd, TalkFault>,
     ) -> (Told, Option<TalkFault>)
         requires fresh { self.old.voice ≡ Fresh }
-        requires settled { IsSettled name write visit answer }
+        requires settled { MaySettle name write visit answer }
         ensures key { self.new.key ≡ self.old.key }
         ensures does { Settles self.old self.new name write visit answer result.0 result.1 }
     {
         self.visit = Some(visit);
+        self.settled = None;
         match answer {
             Ok(end) => {
                 let replies = self.voice.take_connect(alloc, name, write, end);

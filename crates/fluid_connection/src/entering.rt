@@ -59,11 +59,11 @@ pub(crate) fn enter_all<R: Wait, K: Keeper>(
     let mut pass = pass;
     let mut told = Told::new(alloc);
     for act in acts {
-        let (back, fault) = enter_next(rt, alloc, door, voice, pass, act, &mut told);
+        let (back, entered) = enter_next(rt, alloc, door, voice, pass, act, &mut told);
         pass = back;
-        match fault {
-            Some(fault) => return (pass, told, Some(fault)),
-            None => {}
+        match entered {
+            Ok(()) => {}
+            Err(fault) => return (pass, told, Some(fault)),
         }
     }
     (pass, told, None)
@@ -77,7 +77,7 @@ fn enter_next<R: Wait, K: Keeper>(
     pass: Pass<K>,
     act: Act,
     told: &mut Told,
-) -> (Pass<K>, Option<TalkFault>)
+) -> (Pass<K>, Result<(), TalkFault>)
     requires pass { pass.turn ≡ door.now.turn }
     requires act { IsSubmission act }
     requires full { told.old.full ≡ true → IsFullAt (knowing door.now.name pass) }
@@ -88,16 +88,16 @@ fn enter_next<R: Wait, K: Keeper>(
 {
     let raw = entry_of(act);
     if told.full {
-        let fault = lost(told.say(alloc, voice, ActEnd::FullNow));
-        return (pass, fault);
+        let said = told.say(alloc, voice, ActEnd::FullNow);
+        return (pass, lost(said));
     }
     let (pass, answer) = enter(rt, alloc, door, pass, raw);
     match answer {
         Ok(end) => {
-            let fault = lost(told.say(alloc, voice, end));
-            (pass, fault)
+            let said = told.say(alloc, voice, end);
+            (pass, lost(said))
         }
-        Err(fault) => (pass, Some(fault)),
+        Err(fault) => (pass, Err(fault)),
     }
 }
 
@@ -118,17 +118,17 @@ fn entry_of(act: Act) -> Raw
     }
 }
 
-fn lost(said: Result<(), NoMemory>) -> Option<TalkFault>
+fn lost(said: Result<(), NoMemory>) -> Result<(), TalkFault>
     ensures { result ≡ lost said }
 {
     match said {
-        Ok(()) => None,
-        Err(_) => Some(TalkFault::NoMemory),
+        Ok(()) => Ok(()),
+        Err(_) => Err(TalkFault::NoMemory),
     }
 }
 
 // How an entry ended.
-fn ended(answer: Result<Verdict, LaneFault>) -> Result<ActEnd, TalkFault>
+pub(crate) fn ended(answer: Result<Verdict, LaneFault>) -> Result<ActEnd, TalkFault>
     ensures { result ≡ ended answer }
 {
     match answer {

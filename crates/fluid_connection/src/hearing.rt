@@ -83,6 +83,7 @@ where
         };
         let (visit, told, fault) = do_acts(rt, alloc, &mut self.voice, visit, objects, acts);
         self.visit = Some(visit);
+        self.settled = None;
         (told, fault)
     }
 

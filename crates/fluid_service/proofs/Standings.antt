@@ -81,7 +81,7 @@ refusal-none l few room =
 
 -- no document is open: no step was taken
 pub nothing_stands : (shelving : Shelving) (limits : Limits) → ShelfStands (nothing_open shelving limits) []
-nothing_stands shelving limits = record { names = refl; failed = refl; last = refl; causes = tt }
+nothing_stands shelving limits = record { names = refl; failed = refl; last = refl; causes = tt; few = omega arith }
 
 pub stands_nothing : (shelving : Shelving) (limits : Limits) (l : List ShelfStep) → ShelfStands (nothing_open shelving limits) l → l ≡ []
 stands_nothing shelving limits [] stands = refl

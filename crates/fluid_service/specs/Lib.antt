@@ -3,4 +3,4 @@ pub mod Shelved
 pub mod Keys
 pub mod Opening
 pub mod Closing
-mod Codes
+pub mod Codes
