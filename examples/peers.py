@@ -42,7 +42,7 @@ class Server:
         return self
 
     def __exit__(self, *_):
-        self.process.kill()
+        self.process.terminate()  # `bin/fluidd` ends what it started then
         self.process.wait()
 
 

@@ -12,6 +12,8 @@ pub mod sequence;
 pub mod status;
 mod task;
 #[cfg(test)]
+mod serving_tests;
+#[cfg(test)]
 mod tests;
 
 use fluid_front::ThreadSpawner;
