@@ -51,20 +51,24 @@ abbrev pub SweepsThese : Terms → APass → APass → ℕ → List (List ℕ) �
 SweepsThese t p q moment [] = q ≡ p
 SweepsThese t p q moment (id ∷ ids) = (mid : APass) × (SweepsOne t p mid moment (Ok (Some id)) × SweepsThese t mid q moment ids)
 
--- nobody is left, or the call was refused
-abbrev pub IsLast : Result (Option (List ℕ)) LaneFault → Type 0
-IsLast (Ok None) = ⊤
-IsLast (Ok (Some id)) = ⊥
-IsLast (Err fault) = ⊤
+-- whether somebody was taken out; else nobody is left, or the call was refused
+abbrev pub is_swept : Result (Option (List ℕ)) LaneFault → Bool
+is_swept (Ok None) = false
+is_swept (Ok (Some id)) = true
+is_swept (Err fault) = false
+
+-- one call, and whether it took somebody out
+pub record SweepsBy (t : Terms) (p q : APass) (moment : ℕ) (swept : Bool) : Type 0 where
+  pub answer : Result (Option (List ℕ)) LaneFault
+  pub one : SweepsOne t p q moment answer
+  pub swept_is : swept ≡ is_swept answer
 
 -- clients were taken out until nobody was left, or a call was refused
 pub record Sweeps (t : Terms) (p q : APass) (moment : ℕ) : Type 0 where
   pub ids : List (List ℕ)
   pub mid : APass
   pub these : SweepsThese t p mid moment ids
-  pub answer : Result (Option (List ℕ)) LaneFault
-  pub last : SweepsOne t mid q moment answer
-  pub ends : IsLast answer
+  pub last : SweepsBy t mid q moment false
 
 -- ---- all of it
 

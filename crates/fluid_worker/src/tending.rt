@@ -1,12 +1,14 @@
 //! What is done for one document at a hint.
 ghost use Rattle.std.specs.Prelude.{◌≡◌, ◌≤◌};
 ghost use Rattle.fluid_document.specs.Entries.{most};
-ghost use Rattle.fluid_worker.specs.Tending.{is_concluded, Renews, Sweeps, Tends};
+ghost use Rattle.fluid_worker.specs.Tending.{is_concluded, is_swept, Renews, Sweeps, SweepsBy, Tends};
 
 use fluid_doors::{Door, Pass, ScribeEnd, ScribeFault};
+use fluid_lane::LaneFault;
 use fluid_log::Keeper;
 use fluid_service::Visit;
 use fluid_store::Objects;
+use fluid_types::ClientId;
 use std::alloc::Global;
 use std::sync::Wait;
 
@@ -74,16 +76,44 @@ fn sweep<R: Wait, K: Keeper>(
 ) -> Pass<K>
     requires pass { pass.turn ≡ door.now.turn }
     requires moment { moment ≤ most }
-    ensures { Sweeps door.now.turn.fixed pass result moment }
+    ensures turn { result.turn ≡ door.now.turn }
+    ensures does { Sweeps door.now.turn.fixed pass result moment }
 {
     let mut pass = pass;
-    for _ in rt.forever() {
-        let (back, swept) = door.sweep(rt, alloc, pass, moment, SILENCE);
-        match swept {
-            Ok(Some(_)) => pass = back,
-            Ok(None) => return back,
-            Err(_) => return back,
+    'sweeps: for _ in rt.forever() {
+        let (back, swept) = sweep_one(rt, alloc, door, pass, moment);
+        if !swept {
+            return back;
         }
+        pass = back;
     }
     unreachable!()
+}
+
+// Takes out one who was silent for too long, and says whether there was one.
+fn sweep_one<R: Wait, K: Keeper>(
+    rt: &R,
+    alloc: Global,
+    door: &Door<K>,
+    pass: Pass<K>,
+    moment: u64,
+) -> (Pass<K>, bool)
+    requires pass { pass.turn ≡ door.now.turn }
+    requires moment { moment ≤ most }
+    ensures turn { result.0.turn ≡ door.now.turn }
+    ensures does { SweepsBy door.now.turn.fixed pass result.0 moment result.1 }
+{
+    let (pass, answer) = door.sweep(rt, alloc, pass, moment, SILENCE);
+    let swept = is_swept(&answer);
+    (pass, swept)
+}
+
+fn is_swept(answer: &Result<Option<ClientId>, LaneFault>) -> bool
+    ensures { result ≡ is_swept answer.now }
+{
+    match answer {
+        Ok(Some(_)) => true,
+        Ok(None) => false,
+        Err(_) => false,
+    }
 }
