@@ -1,9 +1,8 @@
 -- What a text of one that is connected asks for.
-use Rattle.std.proofs.Common.{◌≡◌, ◌≤◌, ◌⊎◌, inl, inr, ℕ, Bool, not, true, false, List, [], ◌∷◌, map, All, Ok, Err, is_ok, bytes_eq, if◌then◌else◌, refl, sym, ◌∙◌, subst}
+use Rattle.std.proofs.Common.{◌≡◌, ◌≤◌, inl, inr, ℕ, Bool, not, true, false, List, [], ◌∷◌, All, Ok, Err, is_ok, bytes_eq, if◌then◌else◌, refl, sym, ◌∙◌, subst}
 use Rattle.std.proofs.lemmas.List.Elements.{All-head, All-tail}
 use Rattle.fluid_types.specs.Forms.{Read, largest}
 use Rattle.fluid_types.specs.declared.entries.Submission.{Submission}
-use Rattle.fluid_types.specs.declared.entries.Raw.{Raw}
 use Rattle.fluid_types.specs.declared.entries.Raw.TheVariants.{Join, Leave, Submit, Report}
 use Rattle.fluid_tree.specs.Reading.{object_read}
 use Rattle.fluid_codec.specs.Events.{event_spelled}
@@ -15,9 +14,9 @@ use Rattle.fluid_voice.specs.declared.actions.Act.{Act}
 use Rattle.fluid_voice.specs.declared.actions.Act.TheVariants as act
 use Rattle.fluid_voice.specs.States.{is_connected}
 use Rattle.fluid_voice.specs.Fitting.{IsFitting}
-use Rattle.fluid_voice.specs.Heard.{submission_acts, nacks, read_acts, acts_of}
+use Rattle.fluid_voice.specs.Heard.{submission_acts, read_acts, acts_of}
 use Rattle.fluid_connection.specs.Running.{AreSubmissions}
-use Rattle.fluid_connection.specs.Hearing.{IsQuestion, IsSubmitAct, AreSubmitActs, AreAskedAtOnce, ConnectedAsk, AreSole, AreAskedApart, OthersAsk, begin_with_entry}
+use Rattle.fluid_connection.specs.Hearing.{IsQuestion, AreSubmitActs, AreAskedAtOnce, ConnectedAsk, AreSole, AreAskedApart, OthersAsk, begin_with_entry}
 
 -- ---- the law
 

@@ -1,13 +1,11 @@
 -- What a connection collects, slice by slice.
-use Rattle.std.proofs.Common.{◌≡◌, ◌∙◌, ℕ, ◌+◌, ◌<◌, ◌≤◌, Bool, true, false, List, [], ◌∷◌, ◌++◌, length, map, All, Option, Some, None, Result, Ok, Err, append-nil, refl, sym, ap, subst, arith, length-append}
+use Rattle.std.proofs.Common.{◌≡◌, ◌∙◌, ℕ, ◌+◌, ◌<◌, ◌≤◌, Bool, true, false, List, [], ◌++◌, length, All, Result, Ok, Err, append-nil, refl, sym, ap, subst, arith, length-append}
 use Rattle.fluid_document.specs.Entries.{most}
 use Rattle.std.proofs.lemmas.List.Elements.{All-nil, All-append}
-use Rattle.fluid_turn.specs.declared.view.Numbered.{Numbered}
 use Rattle.fluid_types.specs.declared.messages.Message.{Message}
 use Rattle.fluid_types.specs.Order.{AreNumberedFrom}
 use Rattle.fluid_types.proofs.Numbers.{numbered_same, numbered_append}
 use Rattle.fluid_deltas.specs.Pushed.{slice}
-use Rattle.fluid_deltas.specs.Ranges.{AreNumbersOf}
 use Rattle.fluid_deltas.specs.declared.fault.DeltaFault.{DeltaFault}
 use Rattle.fluid_deltas.specs.declared.fault.DeltaFault.TheVariants.{DeltaFailed, NoMemory, BadDelta, Worn}
 use Rattle.fluid_lane.specs.declared.steps.Step.{Step}
@@ -18,15 +16,14 @@ use Rattle.fluid_doors.specs.Collecting.{batch, Collects}
 use Rattle.fluid_codec.specs.declared.replies.Reply.{Reply}
 use Rattle.fluid_voice.specs.Feed.{fed, IsEventOf, most_in_event}
 use Rattle.fluid_ends.specs.declared.fault.TalkFault.{TalkFault}
-use Rattle.fluid_ends.specs.declared.fault.TalkFault.TheVariants as talk
 use Rattle.fluid_ends.specs.Faults.{of_delta}
-use Rattle.fluid_talk.specs.Talking.{Knowing, Goes, order_of, number_behind_last}
+use Rattle.fluid_talk.specs.Talking.{Knowing, order_of, number_behind_last}
 use Rattle.fluid_service.specs.Visiting.{Visiting}
 use Rattle.fluid_connection.specs.Knowing.{knowing}
 use Rattle.fluid_connection.specs.Talked.{visited}
 use Rattle.fluid_connection.specs.declared.collecting.Slice.{Slice}
 use Rattle.fluid_connection.specs.declared.collecting.Collected.{Collected}
-use Rattle.fluid_connection.specs.Slices.{event_of, PutsEvent, PutsAnswer, TakesSlice, FailsToCollect, TakesNext, IsStretch, Brings, BringsAll, CollectsAll, ComesBack}
+use Rattle.fluid_connection.specs.Slices.{event_of, PutsAnswer, TakesSlice, FailsToCollect, TakesNext, IsStretch, Brings, CollectsAll, ComesBack}
 use Rattle.fluid_connection.proofs.Passes.{goes_with, long_seen}
 use Rattle.fluid_connection.proofs.Passings.{goes_on, goes_nowhere}
 use Rattle.fluid_connection.proofs.Stretches.{order-prefix, slice-none, slice-grows, slice-joins, IsBatch, batch-is, fed-append, fed-event, event-whole}
@@ -103,7 +100,7 @@ module _ (name : List ℕ) (p m q : Knowing) (from next : ℕ) (old new : List R
       let was = brings.told told in
       let now = batched told in
       let front : fed old ≡ slice (order_of q.seen) from next =
-          was.is ∙ sym (slice-grows (order_of m.seen) grown.0 from next first ordered was.within) ∙ ap (λ o. slice o from next) (sym grown.1) in
+      was.is ∙ sym (slice-grows (order_of m.seen) grown.0 from next first ordered was.within) ∙ ap (λ o. slice o from next) (sym grown.1) in
       let to : s.next ≡ next + length takes.messages = takes.puts.next in
       record {
         is = fed_is ∙ ap (λ ms. ms ++ takes.messages) front ∙ ap (λ ms. slice (order_of q.seen) from next ++ ms) now.stretch
@@ -134,12 +131,13 @@ fails_then name p m q from next old fault brings fails = record { goes = goes_on
 
 -- ---- a visit by its parts
 
-pub collects_back : (visit back : Visiting) (door : Doorway) (pass behind : APass) (next : ℕ) (answer : Result Collected TalkFault) → door ≡ visit.door → pass ≡ visit.pass → back ≡ record { door = door; pass = behind }
-    → CollectsAll door.name (knowing door.name pass) (knowing door.name behind) next answer → CollectsAll visit.door.name (visited visit) (visited back) next answer
-collects_back visit back door pass behind next answer same_door same_pass is does =
+pub collects_back : (visit back : Visiting) (lent door : Doorway) (pass behind : APass) (next : ℕ) (answer : Result Collected TalkFault) → lent ≡ door → door ≡ visit.door → pass ≡ visit.pass → back ≡ record { door = door; pass = behind }
+    → CollectsAll lent.name (knowing lent.name pass) (knowing lent.name behind) next answer → CollectsAll visit.door.name (visited visit) (visited back) next answer
+collects_back visit back lent door pass behind next answer same_lent same_door same_pass is does =
     subst (λ v. CollectsAll visit.door.name (visited visit) (visited v) next answer) (sym is)
     (subst (λ p. CollectsAll visit.door.name (knowing visit.door.name p) (knowing door.name behind) next answer) same_pass
-    (subst (λ d. CollectsAll d.name (knowing d.name pass) (knowing door.name behind) next answer) same_door does))
+    (subst (λ (d : Doorway). CollectsAll d.name (knowing d.name pass) (knowing door.name behind) next answer) same_door
+    (subst (λ (d : Doorway). CollectsAll d.name (knowing d.name pass) (knowing d.name behind) next answer) same_lent does)))
 
 pub comes_back : (visit back : Visiting) (door : Doorway) (behind : APass) → door ≡ visit.door → back ≡ record { door = door; pass = behind } → length behind.seen ≤ most → ComesBack visit back
 comes_back visit back door behind same_door is few = subst (λ v. ComesBack visit v) (sym is) (record { door = same_door; few = few })

@@ -1,11 +1,9 @@
 -- What a document answers to a connect.
-use Rattle.std.proofs.Common.{◌≡◌, ◌∙◌, ◌⊎◌, inl, inr, ℕ, ◌+◌, ◌-◌, ◌<◌, ◌≤◌, ◌^◌, min, Bool, true, false, if◌then◌else◌, List, [], ◌∷◌, ◌++◌, length, map, Option, Some, None, Result, Ok, Err, IfOk, IfErr, append-nil, length-append, refl, sym, ap, subst, arith}
+use Rattle.std.proofs.Common.{◌≡◌, ◌∙◌, ℕ, ◌+◌, ◌-◌, ◌≤◌, ◌^◌, Bool, true, false, if◌then◌else◌, List, ◌++◌, length, map, Some, None, Result, Ok, Err, IfOk, IfErr, append-nil, refl, sym, ap, subst, arith}
 use Rattle.std.specs.FinMap.{empty}
 use Rattle.std.proofs.Math.Nat.{min-le_left}
 use Rattle.fluid_json.specs.Tree.{Tree}
-use Rattle.fluid_turn.specs.declared.view.Numbered.{Numbered}
 use Rattle.fluid_turn.specs.Entries.{by_seat, entries}
-use Rattle.fluid_turn.proofs.Lists.{entries-append}
 use Rattle.fluid_types.specs.Ledger.{Ledger, order, seq}
 use Rattle.fluid_types.specs.Names.{entry_name}
 use Rattle.fluid_types.specs.declared.entries.Scopes.{Scopes}
@@ -13,21 +11,19 @@ use Rattle.fluid_types.specs.declared.entries.Raw.{Raw}
 use Rattle.fluid_types.specs.declared.messages.Message.{Message}
 use Rattle.fluid_types.specs.declared.verdicts.Verdict.{Verdict}
 use Rattle.fluid_types.specs.declared.verdicts.Verdict.TheVariants as verdict
-use Rattle.fluid_types.proofs.Ledgers.{order-append}
 use Rattle.fluid_rules.specs.Rules.{verdict as verdict_of}
 use Rattle.fluid_rules.specs.Counted.{is_full, has_too_many_clients}
 use Rattle.fluid_rules.proofs.Verdicts.{verdict-is_message, message-number}
 use Rattle.fluid_document.specs.Entries.{most}
 use Rattle.fluid_deltas.specs.declared.fault.DeltaFault.{DeltaFault}
 use Rattle.fluid_deltas.specs.declared.fault.DeltaFault.TheVariants as delta
-use Rattle.fluid_store.specs.Held.{Held}
 use Rattle.fluid_store.specs.Storing.{Storing}
-use Rattle.fluid_lane.specs.declared.steps.Step.{Step}
-use Rattle.fluid_lane.specs.declared.steps.Step.TheVariants.{Entered}
 use Rattle.fluid_lane.specs.declared.fault.LaneFault.{LaneFault}
 use Rattle.fluid_lane.specs.declared.fault.LaneFault.TheVariants as lane
-use Rattle.fluid_lane.specs.Steps.{ledger}
-use Rattle.fluid_lane.proofs.Listed.{ledger-append}
+use Rattle.fluid_lane.specs.Steps.{steps_of}
+use Rattle.fluid_doors.specs.Terms.{Doorway}
+use Rattle.fluid_doors.specs.Passing.{APass, Grows}
+use Rattle.fluid_doors.specs.Entering.{Joins, joined_as}
 use Rattle.fluid_doors.specs.Looking.{SuitsLook}
 use Rattle.fluid_service.specs.Visiting.{Visiting}
 use Rattle.fluid_voice.specs.declared.actions.Act.{Act}
@@ -35,11 +31,9 @@ use Rattle.fluid_voice.specs.declared.actions.Act.TheVariants as act
 use Rattle.fluid_voice.specs.declared.ends.ActEnd.{ActEnd}
 use Rattle.fluid_voice.specs.declared.ends.ActEnd.TheVariants as end
 use Rattle.fluid_voice.specs.States.{number_behind}
-use Rattle.fluid_voice.specs.Ends.{Outcome, outcome, join_of, join_end, joined_by}
+use Rattle.fluid_voice.specs.Ends.{Outcome, join_of, join_end, joined_by}
 use Rattle.fluid_voice.specs.Ends.Outcome.{ends}
 use Rattle.fluid_ends.specs.declared.fault.TalkFault.{TalkFault}
-use Rattle.fluid_ends.specs.Asking.{found_in}
-use Rattle.fluid_ends.specs.Faults.{refused_by, of_delta}
 use Rattle.fluid_talk.specs.Talking.{Knowing, ledger_of, order_of, number_behind_last}
 use Rattle.fluid_talk.specs.Hearing.{IsConnectEnd, IsFaultOf}
 use Rattle.fluid_connection.specs.declared.connecting.Connect.{Connect}
@@ -47,6 +41,7 @@ use Rattle.fluid_connection.specs.Knowing.{knowing}
 use Rattle.fluid_connection.specs.Entering.{joined, looked, DoesOne, DoesAs}
 use Rattle.fluid_connection.specs.Connecting.{act_of, IsAheadIn, Greets, MaySettle}
 use Rattle.fluid_connection.proofs.Hears.{behind_later}
+use Rattle.fluid_connection.proofs.Joining.{joins}
 
 -- ---- which ends and faults a door has
 
@@ -162,3 +157,37 @@ greeted_settled c visit now answer named h = record {
     by : (r : Result ActEnd TalkFault) → DoesAs (knowing visit.door.name visit.pass) (knowing now.door.name now.pass) (act_of c) r → IfOk r (IsAheadIn c.write (knowing now.door.name now.pass))
     by (Ok e) one = ahead_of (knowing visit.door.name visit.pass) (knowing now.door.name now.pass) c e one
     by (Err fault) failed = tt
+
+-- ---- a visit behind asking its document
+
+pub greets_join : (c : Connect) (visit now : Visiting) (door : Doorway) (p q : APass) (r : Result (List ℕ × Message) LaneFault) → door ≡ visit.door → p ≡ visit.pass → now ≡ record { door = door; pass = q }
+    → p.turn ≡ door.turn → c.write ≡ true → Grows p q (steps_of (joined_as c.scopes c.detail c.moment) r) (Joins door.turn.fixed c.scopes c.detail c.moment r) → Greets c visit now (joined r)
+greets_join c visit now door p q r is_door is_pass is_now turn write grows =
+    let grown = subst (λ t. Grows p q (steps_of (joined_as c.scopes c.detail c.moment) r) (Joins t.fixed c.scopes c.detail c.moment r)) (sym turn) grows in
+    let ends = joined_ends visit.door.name c.name c.write c.scopes c.detail c.moment r in
+    subst (λ n. Greets c visit n (joined r)) (sym is_now) (record {
+      door = is_door;
+      few = grows.few;
+      does =
+          subst (λ d. DoesAs (knowing d.name visit.pass) (knowing door.name q) (act_of c) (joined r)) is_door
+          (subst (λ k. DoesAs (knowing door.name k) (knowing door.name q) (act_of c) (joined r)) is_pass
+          (subst (λ w. DoesAs (knowing door.name p) (knowing door.name q) (act.Connect c.name w c.scopes c.detail c.moment) (joined r)) (sym write)
+          (joins door.name c.name p q c.scopes c.detail c.moment r grown)));
+      ends = ends.0;
+      faults = ends.1;
+    })
+
+pub greets_read : (c : Connect) (visit now : Visiting) (door : Doorway) (p q : APass) (a : Act) (r : Result ActEnd TalkFault) → door ≡ visit.door → p ≡ visit.pass → now ≡ record { door = door; pass = q }
+    → a ≡ act_of c → length q.seen ≤ most → (answer : Result ActEnd DeltaFault) → r ≡ looked answer → IfOk answer (SuitsLook a) → DoesAs (knowing door.name p) (knowing door.name q) a r → Greets c visit now r
+greets_read c visit now door p q a r is_door is_pass is_now is_act few answer is suits does =
+    let ends = looked_ends visit.door.name c.name c.write c.scopes c.detail c.moment answer (subst (λ b. IfOk answer (SuitsLook b)) is_act suits) in
+    subst (λ n. Greets c visit n r) (sym is_now) (record {
+      door = is_door;
+      few = few;
+      does =
+          subst (λ d. DoesAs (knowing d.name visit.pass) (knowing door.name q) (act_of c) r) is_door
+          (subst (λ k. DoesAs (knowing door.name k) (knowing door.name q) (act_of c) r) is_pass
+          (subst (λ b. DoesAs (knowing door.name p) (knowing door.name q) b r) is_act does));
+      ends = subst (λ x. IfOk x (IsConnectEnd (Some visit.door.name) (act_of c))) (sym is) ends.0;
+      faults = subst (λ x. IfErr x (λ fault. IsFaultOf (Some visit.door.name) (Some fault))) (sym is) ends.1;
+    })

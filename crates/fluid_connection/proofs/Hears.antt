@@ -1,5 +1,5 @@
 -- What comes of a text, as a connection's contract says it.
-use Rattle.std.proofs.Common.{◌≡◌, ◌∙◌, ◌⊎◌, inl, inr, ℕ, ◌+◌, ◌<◌, ◌≤◌, Bool, true, false, is_some, List, [], ◌∷◌, ◌++◌, length, All, Option, Some, None, option_map, Result, Ok, Err, IfSome, append-nil, length-append, refl, sym, ap, subst, arith}
+use Rattle.std.proofs.Common.{◌≡◌, ◌∙◌, inl, ℕ, ◌<◌, ◌≤◌, true, false, List, [], ◌∷◌, ◌++◌, length, All, Option, Some, None, option_map, append-nil, length-append, refl, sym, ap, subst, arith}
 use Rattle.std.proofs.lemmas.List.Elements.{All-head, All-tail, All-nil, All-append}
 use Rattle.fluid_turn.specs.declared.view.Numbered.{Numbered}
 use Rattle.fluid_turn.specs.Entries.{IsPrefix, entries}
@@ -14,7 +14,10 @@ use Rattle.fluid_lane.specs.declared.steps.Step.{Step}
 use Rattle.fluid_lane.specs.Steps.{ledger}
 use Rattle.fluid_lane.proofs.Listed.{ledger-append}
 use Rattle.fluid_codec.specs.declared.replies.Reply.{Reply}
+use Rattle.fluid_doors.specs.Terms.{Doorway}
+use Rattle.fluid_doors.specs.Passing.{APass}
 use Rattle.fluid_service.specs.Visiting.{Visiting}
+use Rattle.fluid_service.specs.Keys.{AKey}
 use Rattle.fluid_voice.specs.declared.states.VoiceState.{VoiceState}
 use Rattle.fluid_voice.specs.declared.states.VoiceState.TheVariants.{Fresh, Reading, Writing, Used}
 use Rattle.fluid_voice.specs.declared.actions.Act.{Act}
@@ -23,16 +26,15 @@ use Rattle.fluid_voice.specs.declared.ends.ActEnd.{ActEnd}
 use Rattle.fluid_voice.specs.States.{document_name, is_connected, is_used, next_number}
 use Rattle.fluid_voice.specs.Heard.{acts_of}
 use Rattle.fluid_voice.specs.Suits.{Suits}
-use Rattle.fluid_voice.specs.Replies.{state_after, state_behind, replies_to, replies_behind, is_sequenced, is_dropped, is_nacked, count_of}
+use Rattle.fluid_voice.specs.Replies.{state_after, state_behind, replies_to, replies_behind}
 use Rattle.fluid_voice.specs.Laws.{ConnectedStay, RepliesAreNoEvents}
 use Rattle.fluid_voice.specs.Feed.{is_event}
 use Rattle.fluid_ends.specs.declared.fault.TalkFault.{TalkFault}
 use Rattle.fluid_ends.specs.declared.fault.TalkFault.TheVariants.{Door, Lane, Delta, Store, NoMemory}
 use Rattle.fluid_talk.specs.declared.heard.Heard.{Heard}
 use Rattle.fluid_talk.specs.Talking.{Knowing, Talking, Goes, order_of, number_behind_last}
-use Rattle.fluid_talk.specs.Counting.{is_absorbed}
 use Rattle.fluid_talk.specs.Doing.{Did, acts_in, ended, held_after, AreDone}
-use Rattle.fluid_talk.specs.Hearing.{KeyBehind, HearsApart, HoldsWith, HoldsBehind, LeavesStore, Does, AreReplies, HearsAs, Hears}
+use Rattle.fluid_talk.specs.Hearing.{KeyBehind, HearsApart, HoldsWith, HoldsBehind, LeavesStore, Does, AreReplies, Hears}
 use Rattle.fluid_talk.specs.Shelves.{KeepsKey}
 use Rattle.fluid_connection.specs.declared.telling.Told.{Told as ATold}
 use Rattle.fluid_connection.specs.Knowing.{knowing}
@@ -52,8 +54,8 @@ false_true same = cc
 order_longer : (a b : List (Numbered Step)) → IsPrefix a b → length (order_of a) ≤ length (order_of b)
 order_longer a b front =
     let same : order_of b ≡ order_of a ++ order (ledger (entries front.0)) =
-        ap order_of front.1 ∙ ap (λ l. order (ledger l)) (entries-append a front.0)
-        ∙ ap order (ledger-append (entries a) (entries front.0)) ∙ order-append (ledger (entries a)) (ledger (entries front.0)) in
+    ap order_of front.1 ∙ ap (λ l. order (ledger l)) (entries-append a front.0)
+    ∙ ap order (ledger-append (entries a) (entries front.0)) ∙ order-append (ledger (entries a)) (ledger (entries front.0)) in
     omega (arith, ap length same ∙ length-append (order_of a) (order (ledger (entries front.0))))
 
 pub behind_later : (a b : List (Numbered Step)) → IsPrefix a b → number_behind_last a ≤ number_behind_last b
@@ -68,7 +70,7 @@ talk_goes t u added is same goes few = record {
   next = λ on told. omega (
     arith,
     subst (λ s. next_number s ≤ number_behind_last (pass_of t.visit).seen) (sym same) (is.next (was on) (sym goes.same.told ∙ told)),
-    behind_later (pass_of t.visit).seen (pass_of u.visit).seen goes.seen
+    behind_later (pass_of t.visit).seen (pass_of u.visit).seen goes.seen,
   );
   few = λ on. few (is.few (was on));
 }
@@ -308,3 +310,20 @@ hears_entries s p q store acts told fault subs h =
       };
       counts = h.counts;
     }
+
+-- ---- a visit behind them
+
+pub visit_hears : (s : VoiceState) (visit now : Visiting) (door : Doorway) (p q : APass) (a b : Storing) (acts : List Act) (told : ATold) (fault : Option TalkFault) → door ≡ visit.door → p ≡ visit.pass
+    → now ≡ record { door = door; pass = q } → HearsActs s (knowing door.name p) (knowing door.name q) a b acts told fault
+    → HearsActs s (knowing visit.door.name visit.pass) (knowing now.door.name now.pass) a b acts told fault
+visit_hears s visit now door p q a b acts told fault is_door is_pass is_now h =
+    subst (λ n. HearsActs s (knowing visit.door.name visit.pass) (knowing n.door.name n.pass) a b acts told fault) (sym is_now)
+    (subst (λ d. HearsActs s (knowing d.name visit.pass) (knowing door.name q) a b acts told fault) is_door
+    (subst (λ k. HearsActs s (knowing door.name k) (knowing door.name q) a b acts told fault) is_pass h))
+
+-- a connected one behind its acts
+pub hears_talk : (v w : VoiceState) (k : AKey) (visit now : Visiting) (handed : Option Visiting) (a b : Storing) (acts : List Act) (told : ATold) (fault : Option TalkFault)
+    → IsTalk (record { voice = v; key = k; visit = Some visit; handed = handed }) → w ≡ v → (length visit.pass.seen ≤ most → length now.pass.seen ≤ most)
+    → HearsActs v (knowing visit.door.name visit.pass) (knowing now.door.name now.pass) a b acts told fault → IsTalk (record { voice = w; key = k; visit = Some now; handed = handed })
+hears_talk v w k visit now handed a b acts told fault is same few h =
+    talk_goes (record { voice = v; key = k; visit = Some visit; handed = handed }) (record { voice = w; key = k; visit = Some now; handed = handed }) _ is same h.does.goes few

@@ -1,17 +1,14 @@
 -- What a join through a door does, as a connection knows it.
-use Rattle.std.proofs.Common.{◌≡◌, ◌∙◌, inl, inr, ◌⊎◌, ℕ, Bool, true, false, nat_le, List, [], ◌∷◌, length, Result, Ok, Err, if◌then◌else◌, append-nil, refl, sym, ap, subst}
-use Rattle.std.specs.FinMap.{empty}
+use Rattle.std.proofs.Common.{◌≡◌, ◌∙◌, inl, inr, ℕ, Bool, true, false, List, [], ◌∷◌, length, Result, Ok, Err, if◌then◌else◌, append-nil, refl, sym, ap, subst}
 use Rattle.fluid_json.specs.Tree.{Tree}
 use Rattle.fluid_turn.specs.Entries.{entries}
 use Rattle.fluid_types.specs.Names.{entry_name}
 use Rattle.fluid_types.specs.declared.entries.Scopes.{Scopes}
 use Rattle.fluid_types.specs.declared.entries.Raw.TheVariants.{Join}
 use Rattle.fluid_types.specs.declared.messages.Message.{Message}
-use Rattle.fluid_types.specs.declared.verdicts.Verdict.{Verdict}
 use Rattle.fluid_types.specs.declared.verdicts.Verdict.TheVariants.{Sequenced}
-use Rattle.fluid_rules.specs.Rules.{verdict, joined as joined_in}
-use Rattle.fluid_rules.specs.Counted.{counted, has_too_many_clients}
-use Rattle.fluid_document.specs.Entries.{most}
+use Rattle.fluid_rules.specs.Rules.{verdict}
+use Rattle.fluid_rules.specs.Counted.{has_too_many_clients}
 use Rattle.fluid_store.specs.Held.{Held}
 use Rattle.fluid_lane.specs.declared.steps.Step.{Step}
 use Rattle.fluid_lane.specs.declared.fault.LaneFault.{LaneFault}
@@ -22,7 +19,7 @@ use Rattle.fluid_lane.specs.Steps.{ledger, asides, steps_of, fault_steps}
 use Rattle.fluid_doors.specs.declared.bench.Terms.{Terms}
 use Rattle.fluid_doors.specs.Passing.{APass, Grows}
 use Rattle.fluid_doors.specs.Answers.{is_worn_behind, IsRuled}
-use Rattle.fluid_doors.specs.Entering.{is_full_at, has_too_many_at, IsJoinFault, Joins, joined_as}
+use Rattle.fluid_doors.specs.Entering.{is_full_at, IsJoinFault, Joins, joined_as}
 use Rattle.fluid_voice.specs.declared.actions.Act.{Act}
 use Rattle.fluid_voice.specs.declared.actions.Act.TheVariants as act
 use Rattle.fluid_voice.specs.declared.ends.ActEnd.{ActEnd}
@@ -74,12 +71,12 @@ module _ (t : Terms) (name : List ℕ) (scopes : Scopes) (detail : Tree) (moment
   joined_right id message named is =
       subst (λ own. joined_by own (verdict (ledger l) (Join own scopes detail moment)) ≡ Joined id message.number) named (ap (joined_by id) (sym is))
 
-module _ (name : List ℕ) (p q : APass) (scopes : Scopes) (detail : Tree) (moment : ℕ) where
+module _ (name own : List ℕ) (p q : APass) (scopes : Scopes) (detail : Tree) (moment : ℕ) where
   abbrev Grown : Result (List ℕ × Message) LaneFault → Type 0
   Grown answer = Grows p q (steps_of (joined_as scopes detail moment) answer) (Joins p.turn.fixed scopes detail moment answer)
 
   abbrev Does : Result (List ℕ × Message) LaneFault → Type 0
-  Does answer = DoesAs (knowing name p) (knowing name q) (connect p.turn.fixed name scopes detail moment []) (joined answer)
+  Does answer = DoesAs (knowing name p) (knowing name q) (connect p.turn.fixed own scopes detail moment []) (joined answer)
 
   join_given : (id : List ℕ) (message : Message) → Grown (Ok (id, message)) → Does (Ok (id, message))
   join_given id message grows =
@@ -93,16 +90,16 @@ module _ (name : List ℕ) (p q : APass) (scopes : Scopes) (detail : Tree) (mome
         is_done = record { suits = grows.says.numbered.message.0; adds = record { message = message; is = refl; numbered = refl } };
         answered = λ store held told.
             let tells = grows.says.answers.told told in
-            let passes = joins_pass p.turn.fixed name scopes detail moment (entries grows.before) _ _ (id, message) (tells.ruled open_) in
-            join_by p.turn.fixed name scopes detail moment (entries grows.before) held false false passes.0 (grows.says.limited told ∙ passes.1)
-                ∙ ap ends (joined_right p.turn.fixed name scopes detail moment (entries grows.before) id message tells.is_right.0 tells.is_right.1);
+            let passes = joins_pass p.turn.fixed own scopes detail moment (entries grows.before) _ _ (id, message) (tells.ruled open_) in
+            join_by p.turn.fixed own scopes detail moment (entries grows.before) held false false passes.0 (grows.says.limited told ∙ passes.1)
+            ∙ ap ends (joined_right p.turn.fixed own scopes detail moment (entries grows.before) id message tells.is_right.0 tells.is_right.1);
         limit = tt;
       }
 
   full_given : (n : ℕ) → Grown (Err (lane.Full n)) → Does (Err (lane.Full n))
   full_given n grows =
       let open_ = fault_open (List ℕ × Message) (is_worn_behind (entries grows.before)) (lane.Full n) (λ same. cc) grows.says.answers.worn in
-      let refused = λ (told : p.turn.fixed.told ≡ true). full_first p.turn.fixed name scopes detail moment (entries grows.before) _ _ n ((grows.says.answers.told told).ruled open_) in
+      let refused = λ (told : p.turn.fixed.told ≡ true). full_first p.turn.fixed own scopes detail moment (entries grows.before) _ _ n ((grows.says.answers.told told).ruled open_) in
       record {
         found = grows.before;
         added = [];
@@ -110,7 +107,7 @@ module _ (name : List ℕ) (p q : APass) (scopes : Scopes) (detail : Tree) (mome
         seen = grows.seen;
         goes = goes_with name p q _ _ grows;
         is_done = record { suits = tt; adds = refl };
-        answered = λ store held told. join_by p.turn.fixed name scopes detail moment (entries grows.before) held true _ (refused told) refl;
+        answered = λ store held told. join_by p.turn.fixed own scopes detail moment (entries grows.before) held true _ (refused told) refl;
         limit = λ told.
             let same : p.turn.fixed.told ≡ true = sym (ap (λ t. t.fixed.told) grows.turn) ∙ told in
             rw (ap (λ t. t.fixed.limits) grows.turn, grows.seen ∙ append-nil grows.before) (refused same);
@@ -127,8 +124,8 @@ module _ (name : List ℕ) (p q : APass) (scopes : Scopes) (detail : Tree) (mome
         goes = goes_with name p q _ _ grows;
         is_done = record { suits = tt; adds = refl };
         answered = λ store held told.
-            let refused = many_first p.turn.fixed name scopes detail moment (entries grows.before) _ _ ((grows.says.answers.told told).ruled open_) in
-            join_by p.turn.fixed name scopes detail moment (entries grows.before) held false true refused.0 (grows.says.limited told ∙ refused.1);
+            let refused = many_first p.turn.fixed own scopes detail moment (entries grows.before) _ _ ((grows.says.answers.told told).ruled open_) in
+            join_by p.turn.fixed own scopes detail moment (entries grows.before) held false true refused.0 (grows.says.limited told ∙ refused.1);
         limit = tt;
       }
 

@@ -1,22 +1,19 @@
 -- How a document is reached: by the visit that was handed in, or by the service.
-use Rattle.std.proofs.Common.{◌≡◌, ◌∙◌, ◌⊎◌, inl, inr, ℕ, Bool, true, false, List, [], ◌∷◌, ◌++◌, map, Option, Some, None, Result, Ok, Err, IfErr, append-nil, refl, sym, ap, subst}
+use Rattle.std.proofs.Common.{◌≡◌, ◌∙◌, inl, inr, ℕ, Bool, true, false, List, [], ◌++◌, map, Option, Some, None, Result, Ok, Err, append-nil, refl, sym, ap, subst}
 use Rattle.fluid_turn.specs.Entries.{IsPrefix, by_seat, entries}
 use Rattle.fluid_turn.proofs.Lists.{prefix-append}
 use Rattle.fluid_json.specs.Unless.{IsUnless}
-use Rattle.fluid_json.specs.declared.memory.NoMemory.{NoMemory as Refused}
-use Rattle.fluid_lane.specs.declared.fault.LaneFault.TheVariants as lane
 use Rattle.fluid_opening.specs.declared.opening.TheConstants.{MOST_DOCUMENTS}
 use Rattle.fluid_opening.specs.declared.fault.DoorFault.{DoorFault}
 use Rattle.fluid_opening.specs.declared.fault.DoorFault.TheVariants.{ShelfFailed, Lane, TooManyDocuments, NoMemory}
-use Rattle.fluid_opening.specs.declared.shelf.ShelfStep.{ShelfStep}
-use Rattle.fluid_opening.specs.Steps.{is_opened, is_worn, is_full, refusal_by, refusal, opening_steps, visit_steps_by, visit_steps, IsOpeningFault, IsAnswerBy}
-use Rattle.fluid_service.specs.Visiting.{Visiting, IsSplitOf}
-use Rattle.fluid_service.specs.Keys.{AKey, Passes, IsVisitOf, Reaches}
+use Rattle.fluid_opening.specs.Steps.{is_opened, is_worn, is_full, refusal_by, refusal, visit_steps_by, visit_steps, IsAnswerBy}
+use Rattle.fluid_service.specs.Visiting.{Visiting}
+use Rattle.fluid_service.specs.Keys.{AKey, Passes, Reaches}
 use Rattle.fluid_talk.specs.Talking.{Keyed}
 use Rattle.fluid_talk.specs.Shelves.{KeepsKey, AsksFor, IsRefusedDoor}
 use Rattle.fluid_connection.specs.Knowing.{keyed}
 use Rattle.fluid_connection.specs.Talked.{pass_of}
-use Rattle.fluid_connection.specs.Connecting.{Splits, ReachesVisit, ReachesBy}
+use Rattle.fluid_connection.specs.Connecting.{Splits, ReachesBy}
 
 -- an answer without its visit
 abbrev shown : {A : Type 0} → Result A DoorFault → Result (Unit {0}) DoorFault

@@ -1,5 +1,5 @@
 -- What entering a leave does.
-use Rattle.std.proofs.Common.{◌≡◌, ◌∙◌, ℕ, true, false, List, [], Result, Ok, Err, refl, sym, ap, subst}
+use Rattle.std.proofs.Common.{◌≡◌, ◌∙◌, ℕ, false, List, Result, Ok, Err, refl, sym, subst}
 use Rattle.std.proofs.lemmas.Bool.{false≢true}
 use Rattle.fluid_turn.specs.Entries.{entries}
 use Rattle.fluid_types.specs.Fits.{Fits}
@@ -16,15 +16,15 @@ use Rattle.fluid_doors.specs.Terms.{Doorway}
 use Rattle.fluid_doors.specs.Passing.{APass, Grows}
 use Rattle.fluid_doors.specs.Answers.{is_worn_behind}
 use Rattle.fluid_doors.specs.Entering.{IsSubmitFault, Submits}
+use Rattle.fluid_voice.specs.declared.actions.Act.TheVariants as act
 use Rattle.fluid_voice.specs.declared.ends.ActEnd.{ActEnd}
 use Rattle.fluid_service.specs.Visiting.{Visiting}
 use Rattle.fluid_ends.specs.declared.fault.TalkFault.{TalkFault}
-use Rattle.fluid_ends.specs.declared.fault.TalkFault.TheVariants as talk
 use Rattle.fluid_talk.specs.Talking.{Goes}
 use Rattle.fluid_connection.specs.Knowing.{knowing}
 use Rattle.fluid_connection.specs.Talked.{visited}
 use Rattle.fluid_connection.specs.Entering.{ended}
-use Rattle.fluid_connection.specs.Leaving.{IsLeave, EntersLeaving, FailsToLeave, EntersBy}
+use Rattle.fluid_connection.specs.Leaving.{IsLeave, EntersBy}
 use Rattle.fluid_connection.proofs.Passes.{goes_with, fault_open, worn_seen}
 
 leave_uncounted : (raw : Raw) → IsLeave raw → is_counted raw ≡ false
@@ -70,7 +70,7 @@ module _ (name : List ℕ) (p q : APass) (raw : Raw) (is : IsLeave raw) where
 
   -- what isn't worn has a cause
   cause_of : (fault : LaneFault) → (fault ≡ lane.Worn → ⊥) → Grown (Err fault) → IsSubmitFault p.turn.fixed raw fault
-  cause_of fault other grows = grows.says.named (fault_open {A = Verdict} (is_worn_behind (entries grows.before)) fault other grows.says.worn)
+  cause_of fault other grows = grows.says.named (fault_open Verdict (is_worn_behind (entries grows.before)) fault other grows.says.worn)
 
   goes_at : (fault : LaneFault) → Grown (Err fault) → Goes (knowing name p) (knowing name q) (fault_steps fault)
   goes_at fault grows = goes_with name p q (fault_steps fault) (Says (Err fault)) grows
@@ -88,12 +88,16 @@ module _ (name : List ℕ) (p q : APass) (raw : Raw) (is : IsLeave raw) where
   leaves (Err lane.NoMemory) grows = record { goes = goes_at lane.NoMemory grows; cause = tt }
   leaves (Err (lane.BadCheckpoint number bad)) grows = absurd (cause_of (lane.BadCheckpoint number bad) (λ same. cc) grows)
   leaves (Err (lane.TooLarge bytes)) grows = absurd (cause_of (lane.TooLarge bytes) (λ same. cc) grows)
-  leaves (Err lane.Worn) grows = record { goes = goes_at lane.Worn grows; cause = worn_seen {A = Verdict} p q (Says (Err lane.Worn)) grows grows.says.worn }
+  leaves (Err lane.Worn) grows = record { goes = goes_at lane.Worn grows; cause = worn_seen Verdict p q (Says (Err lane.Worn)) grows grows.says.worn }
 
 -- the same of a visit by its parts
-pub leaves_back : (visit back : Visiting) (door : Doorway) (pass behind : APass) (raw : Raw) (answer : Result ActEnd TalkFault) → door ≡ visit.door → pass ≡ visit.pass → back ≡ record { door = door; pass = behind }
-    → EntersBy (knowing door.name pass) (knowing door.name behind) raw answer → EntersBy (visited visit) (visited back) raw answer
-leaves_back visit back door pass behind raw answer same_door same_pass is does =
+pub leaves_back : (visit back : Visiting) (lent door : Doorway) (pass behind : APass) (raw : Raw) (answer : Result ActEnd TalkFault) → lent ≡ door → door ≡ visit.door → pass ≡ visit.pass → back ≡ record { door = door; pass = behind }
+    → EntersBy (knowing lent.name pass) (knowing lent.name behind) raw answer → EntersBy (visited visit) (visited back) raw answer
+leaves_back visit back lent door pass behind raw answer same_lent same_door same_pass is does =
     subst (λ v. EntersBy (visited visit) (visited v) raw answer) (sym is)
     (subst (λ p. EntersBy (knowing visit.door.name p) (knowing door.name behind) raw answer) same_pass
-    (subst (λ d. EntersBy (knowing d.name pass) (knowing door.name behind) raw answer) same_door does))
+    (subst (λ (d : Doorway). EntersBy (knowing d.name pass) (knowing door.name behind) raw answer) same_door
+    (subst (λ (d : Doorway). EntersBy (knowing d.name pass) (knowing d.name behind) raw answer) same_lent does)))
+
+pub same_entry : (one other : Raw) → act.Enter one ≡ act.Enter other → one ≡ other
+same_entry one other same = cc

@@ -13,6 +13,7 @@ mod Greetings
 mod Passings
 mod Stretches
 mod Collections
+mod Events
 mod Leavings
 mod Standing
 mod States

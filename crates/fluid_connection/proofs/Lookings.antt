@@ -1,6 +1,5 @@
 -- What asking a document for an act that enters nothing does, as a connection knows it.
-use Rattle.std.proofs.Common.{◌≡◌, ◌∙◌, ℕ, Bool, true, false, List, [], Result, Ok, Err, IfOk, IfErr, refl, sym, ap}
-use Rattle.fluid_turn.specs.Entries.{entries}
+use Rattle.std.proofs.Common.{◌≡◌, ◌∙◌, ℕ, Bool, true, false, List, [], Result, Ok, Err, IfOk, refl, sym, ap}
 use Rattle.fluid_io.specs.Causes.{Rose}
 use Rattle.fluid_io.specs.declared.faults.FaultNote.{FaultNote}
 use Rattle.fluid_store.specs.Storing.{Storing}
@@ -136,7 +135,7 @@ module _ (name : List ℕ) (p q : APass) (a : Act) (look : IsLook a) where
     goes = goes_with name p q _ _ grows;
     cause = λ before now. (
       ranges a _ grows.says.faults,
-      untold q.turn.fixed.told (λ told. absurd (grows.says.told (sym (ap (λ t. t.fixed.told) grows.turn) ∙ told)).faults)
+      untold q.turn.fixed.told (λ told. absurd (grows.says.told (sym (ap (λ t. t.fixed.told) grows.turn) ∙ told)).faults),
     );
   }
   looks (Err delta.Worn) grows = record {

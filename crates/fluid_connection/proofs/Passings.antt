@@ -1,6 +1,5 @@
 -- How what is known of a pass goes on.
-use Rattle.std.proofs.Common.{◌≡◌, ◌∙◌, ℕ, ◌≤◌, List, [], ◌++◌, length, append-nil, append_assoc, refl, sym, ap}
-use Rattle.fluid_turn.specs.Entries.{IsPrefix}
+use Rattle.std.proofs.Common.{◌∙◌, List, [], ◌++◌, append-nil, append_assoc, refl, sym, ap}
 use Rattle.fluid_turn.proofs.Lists.{prefix_refl, prefix_trans}
 use Rattle.fluid_lane.specs.declared.steps.Step.{Step}
 use Rattle.fluid_talk.specs.Talking.{Knowing, Goes}

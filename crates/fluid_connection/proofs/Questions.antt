@@ -1,5 +1,5 @@
 -- One act alone, which enters nothing.
-use Rattle.std.proofs.Common.{◌≡◌, ◌∙◌, ◌⊎◌, inl, inr, ℕ, ◌+◌, ◌≤◌, Bool, true, false, is_some, List, [], ◌∷◌, ◌++◌, map, Option, Some, None, option_map, Result, Ok, Err, IfOk, IfErr, append-nil, refl, sym, ap, subst, arith}
+use Rattle.std.proofs.Common.{◌≡◌, ◌∙◌, ◌⊎◌, inl, inr, ◌+◌, false, is_some, List, [], ◌∷◌, ◌++◌, map, Option, Some, None, option_map, Result, Ok, Err, IfOk, append-nil, refl, sym, ap, subst, arith}
 use Rattle.std.specs.Bool.{⊤}
 use Rattle.std.specs.List.{list_any}
 use Rattle.std.proofs.lemmas.List.Elements.{All-nil}
@@ -33,7 +33,7 @@ use Rattle.fluid_talk.specs.Doing.{IsAnswered}
 use Rattle.fluid_talk.specs.Hearing.{HoldsWith, HoldsBehind, LeavesStore}
 use Rattle.fluid_talk.specs.Causes.{IsCauseOf}
 use Rattle.fluid_connection.specs.declared.telling.Told.{Told as ATold}
-use Rattle.fluid_connection.specs.Entering.{did_of, DoesOne, FailsOne, DoesAs}
+use Rattle.fluid_connection.specs.Entering.{did_of, DoesAs}
 use Rattle.fluid_connection.specs.Telling.{no_counts, with_ends, SaysOne}
 use Rattle.fluid_connection.specs.Hearing.{IsQuestion, AsksOne, AsksFail, AsksAs, DoesActs, HearsActs}
 use Rattle.fluid_connection.proofs.Running.{goes_nowhere, no_replies}

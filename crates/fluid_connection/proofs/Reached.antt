@@ -1,6 +1,9 @@
 -- A connect: what comes of it, whether its document was reached or not.
-use Rattle.std.proofs.Common.{◌≡◌, ◌∙◌, ◌⊎◌, inl, inr, ℕ, ◌+◌, ◌<◌, ◌≤◌, Bool, true, false, List, [], ◌∷◌, ◌++◌, length, map, Option, Some, None, if◌then◌else◌, Result, Ok, Err, IfSome, append-nil, refl, sym, ap, subst}
-use Rattle.fluid_turn.specs.Entries.{IsPrefix, by_seat}
+use Rattle.std.proofs.Common.{◌≡◌, ◌∙◌, ◌⊎◌, inl, inr, ℕ, Bool, true, false, List, [], ◌∷◌, ◌++◌, Option, Some, None, if◌then◌else◌, Result, Ok, Err, IfSome, append-nil, All, IfOk, refl, sym, ap, subst, arith}
+use Rattle.std.proofs.lemmas.List.Elements.{All-head}
+use Rattle.fluid_json.specs.declared.memory.NoMemory.{NoMemory as Refused}
+use Rattle.fluid_types.specs.Names.{entry_name}
+use Rattle.fluid_types.proofs.EntryNames.{entry_name-is_name}
 use Rattle.fluid_store.specs.Storing.{Storing}
 use Rattle.fluid_codec.specs.declared.replies.Reply.{Reply}
 use Rattle.fluid_lane.specs.declared.steps.Step.{Step}
@@ -8,9 +11,7 @@ use Rattle.fluid_opening.specs.declared.opening.TheConstants.{MOST_DOCUMENTS}
 use Rattle.fluid_opening.specs.declared.fault.DoorFault.{DoorFault}
 use Rattle.fluid_opening.specs.declared.fault.DoorFault.TheVariants as door
 use Rattle.fluid_service.specs.Visiting.{Visiting}
-use Rattle.fluid_service.specs.Keys.{AKey}
 use Rattle.fluid_voice.specs.declared.refusals.ConnectRefusal.TheVariants.{TooManyDocuments}
-use Rattle.fluid_voice.specs.declared.states.VoiceState.{VoiceState}
 use Rattle.fluid_voice.specs.declared.states.VoiceState.TheVariants.{Fresh}
 use Rattle.fluid_voice.specs.declared.actions.Act.{Act}
 use Rattle.fluid_voice.specs.declared.actions.Act.TheVariants as act
@@ -18,24 +19,25 @@ use Rattle.fluid_voice.specs.declared.ends.ActEnd.{ActEnd}
 use Rattle.fluid_voice.specs.declared.ends.ActEnd.TheVariants.{Said, Joined, Told, Entered, FullNow, TooMany, Given}
 use Rattle.fluid_voice.specs.States.{is_connected, is_used}
 use Rattle.fluid_voice.specs.Refusals.{refused}
-use Rattle.fluid_voice.specs.Suits.{Suits, SuitsConnect}
-use Rattle.fluid_voice.specs.Replies.{connect_replies, connect_state, replies_to, entered_verdict}
+use Rattle.fluid_voice.specs.Suits.{SuitsConnect}
+use Rattle.fluid_voice.specs.Fitting.{IsFitting}
+use Rattle.fluid_voice.specs.Replies.{connect_replies, connect_state, entered_verdict}
 use Rattle.fluid_ends.specs.declared.fault.TalkFault.{TalkFault}
 use Rattle.fluid_ends.specs.declared.fault.TalkFault.TheVariants.{Door, Lane, Delta, Store, NoMemory}
 use Rattle.fluid_ends.specs.Adding.{AddsBy}
 use Rattle.fluid_talk.specs.Talking.{Knowing, Talking, Goes}
 use Rattle.fluid_talk.specs.Doing.{Did, steps_in, may_steps, seen_behind, IsSeenLast, AreFound, AreAnswered}
 use Rattle.fluid_talk.specs.Causes.{IsDoorFault, IsNoMemory, IsCauseOf, IsCauseAt}
-use Rattle.fluid_talk.specs.Shelves.{KeepsKey, OpensFor, IsRefusedDoor}
-use Rattle.fluid_talk.specs.Hearing.{AreReplies, KeyBehind, IsConnectEnd, IsFaultOf, Reaches, HearsApart}
+use Rattle.fluid_talk.specs.Shelves.{KeepsKey, IsRefusedDoor}
+use Rattle.fluid_talk.specs.Hearing.{AreReplies, KeyBehind, IsConnectEnd, IsFaultOf, Reaches}
 use Rattle.fluid_connection.specs.declared.connecting.Connect.{Connect}
 use Rattle.fluid_connection.specs.declared.telling.Told.{Told as ATold}
-use Rattle.fluid_connection.specs.Knowing.{knowing, keyed}
+use Rattle.fluid_connection.specs.Knowing.{knowing}
 use Rattle.fluid_connection.specs.Talked.{Talked, pass_of, talking}
-use Rattle.fluid_connection.specs.Telling.{no_counts}
+use Rattle.fluid_connection.specs.Telling.{no_counts, SaysOne}
 use Rattle.fluid_connection.specs.Entering.{did_of, DoesOne, FailsOne}
 use Rattle.fluid_connection.specs.Hearing.{HearsOther}
-use Rattle.fluid_connection.specs.Connecting.{act_of, ReachesVisit, Greets, IsSaid, IsRefused, SettlesBy}
+use Rattle.fluid_connection.specs.Connecting.{act_of, FitsJoin, ReachesVisit, Greets, IsRefused, SettlesBy}
 use Rattle.fluid_connection.proofs.Running.{answered_same, no_replies}
 use Rattle.fluid_connection.proofs.Questions.{not_counted, full_alone}
 
@@ -160,6 +162,80 @@ module _ (s t : Talking) (c : Connect) (told : ATold) (was : s.voice ≡ Fresh) 
       by (inl (none, all)) = subst (λ f. HearsOther s t (act_of c ∷ []) told f) (sym none) (beyond_said key all is.counts)
       by (inr (lost, nothing)) = subst (λ f. HearsOther s t (act_of c ∷ []) told f) (sym lost) (connect_lost keeps nothing is.counts)
 
+-- ---- nothing is asked for, or one reply
+
+module _ (s t : Talking) (acts : List Act) (told : ATold) (off : is_connected s.voice ≡ false) (fresh : is_used s.voice ≡ false)
+    (voice : t.voice ≡ s.voice) (pass : t.pass ≡ s.pass) (handed : t.handed ≡ s.handed) (key : t.key ≡ s.key) where
+  keeps : KeepsKey s.key t.key
+  keeps = subst (λ k. KeepsKey s.key k) (sym key) (record { same = record { told = refl; number = refl }; seen = ([], sym (append-nil s.key.seen)); mine = refl })
+
+  pub apart_none : acts ≡ [] → told.replies.items ≡ [] → told.counts ≡ no_counts → HearsOther s t acts told None
+  apart_none none replies counts = subst (λ l. HearsOther s t l told None) (sym none) (record {
+    done = [];
+    rest = [];
+    asked = refl;
+    whole = λ _. refl;
+    cause = λ before now. tt;
+    are_done = tt;
+    full = tt;
+    voice = voice;
+    unused = ap is_used voice ∙ fresh;
+    said = replies;
+    counts = counts;
+    apart = λ store. record {
+      reached = None;
+      does = record { apart = ap is_connected voice ∙ off; pass = pass; handed = handed; nothing = refl; key = keeps };
+      ends = tt;
+      cause = tt;
+    };
+  })
+
+  pub apart_say : (reply : Reply) (said : Result (List Reply) Refused) (fault : Option TalkFault) → acts ≡ act.Say reply ∷ [] → IfOk said (λ replies. replies ≡ reply ∷ []) → SaysOne said told fault
+      → HearsOther s t acts told fault
+  apart_say reply (Ok replies) fault one is says = subst (λ l. HearsOther s t l told fault) (sym one) (subst (λ f. HearsOther s t (act.Say reply ∷ []) told f) (sym says.1.1) (record {
+    done = did_of (act.Say reply) Said [] [] ∷ [];
+    rest = [];
+    asked = refl;
+    whole = λ _. refl;
+    cause = λ before now. tt;
+    are_done = (record { suits = refl; adds = refl }, tt);
+    full = tt;
+    voice = voice;
+    unused = ap is_used voice ∙ fresh;
+    said = says.0 ∙ is;
+    counts = says.1.0 ∙ not_counted (act.Say reply) Said refl;
+    apart = λ store. record {
+      reached = None;
+      does = record { apart = ap is_connected voice ∙ off; pass = pass; handed = handed; nothing = refl; key = keeps };
+      ends = (tt, tt);
+      cause = tt;
+    };
+  }))
+  apart_say reply (Err refusal) fault one is says = subst (λ l. HearsOther s t l told fault) (sym one) (subst (λ f. HearsOther s t (act.Say reply ∷ []) told f) (sym says.1.1) (record {
+    done = [];
+    rest = act.Say reply ∷ [];
+    asked = refl;
+    whole = λ none. absurd (some_none NoMemory none);
+    cause = λ before now. tt;
+    are_done = tt;
+    full = tt;
+    voice = voice;
+    unused = ap is_used voice ∙ fresh;
+    said = ([], sym (ap (λ rs. rs ++ []) says.0));
+    counts = says.1.0;
+    apart = λ store. record {
+      reached = None;
+      does = record { apart = ap is_connected voice ∙ off; pass = pass; handed = handed; nothing = refl; key = keeps };
+      ends = tt;
+      cause = tt;
+    };
+  }))
+
+-- a connect that is heard fits a log under any id
+pub connect_fits : (acts : List Act) (c : Connect) → acts ≡ act_of c ∷ [] → All IsFitting acts → FitsJoin c
+connect_fits acts c one fit = λ n few.
+    All-head IsFitting (act_of c) [] (subst (λ l. All IsFitting l) one fit) (entry_name n) (entry_name-is_name n (omega (arith, few)))
+
 -- ---- a door was reached
 
 module _ (old new : Talked) (c : Connect) (visit now : Visiting) (told : ATold) (was : old.voice ≡ Fresh) (reached : ReachesVisit c.name old.handed old.key new.key visit)
@@ -260,7 +336,7 @@ module _ (old new : Talked) (c : Connect) (visit now : Visiting) (told : ATold) 
     };
   }
 
-  pub connect_settled : (answer : Result ActEnd TalkFault) (fault : Option TalkFault) → Greets c visit now answer → SettlesBy old new c.name c.write answer told fault
+  pub connect_settled : (answer : Result ActEnd TalkFault) (fault : Option TalkFault) → Greets c visit now answer → SettlesBy new c.name c.write answer told fault
       → HearsOther (talking old) (talking new) (act_of c ∷ []) told fault
   connect_settled (Ok end) fault greets by = said by.1.said
     where

@@ -1,10 +1,11 @@
 -- What a collection and a leave make of a connection.
-use Rattle.std.proofs.Common.{◌≡◌, ◌∙◌, ℕ, ◌+◌, ◌<◌, ◌≤◌, max, Bool, true, false, List, [], length, All, Option, Some, None, is_some, option_map, IfSome, Result, Ok, Err, refl, sym, ap, subst, arith, length-append}
+use Rattle.std.proofs.Common.{◌≡◌, ◌∙◌, ℕ, ◌+◌, ◌≤◌, max, true, false, List, [], length, All, Option, Some, None, is_some, option_map, Result, Ok, refl, sym, ap, subst, arith, length-append}
 use Rattle.std.proofs.lemmas.List.Elements.{All-nil}
 use Rattle.std.proofs.lemmas.Bool.{false≢true}
+use Rattle.fluid_turn.specs.Entries.{made_by}
+use Rattle.fluid_rules.specs.Rules.{IsLegal}
 use Rattle.fluid_types.specs.declared.entries.Raw.{Raw}
 use Rattle.fluid_types.specs.declared.entries.Raw.TheVariants.{Leave}
-use Rattle.fluid_document.specs.Entries.{most}
 use Rattle.fluid_lane.specs.declared.steps.Step.{Step}
 use Rattle.fluid_codec.specs.declared.replies.Reply.{Reply}
 use Rattle.fluid_voice.specs.declared.states.VoiceState.{VoiceState}
@@ -15,15 +16,17 @@ use Rattle.fluid_voice.specs.declared.ends.ActEnd.{ActEnd}
 use Rattle.fluid_voice.specs.States.{client_id, document_name, is_connected, next_number, with_next, leave_of}
 use Rattle.fluid_voice.specs.Fitting.{IsFitting}
 use Rattle.fluid_voice.specs.Feed.{IsEventOf}
+use Rattle.fluid_doors.specs.Passing.{APass}
+use Rattle.fluid_opening.specs.declared.opening.TheConstants.{MOST_DOCUMENTS}
 use Rattle.fluid_service.specs.Visiting.{Visiting}
 use Rattle.fluid_service.specs.Keys.{AKey}
 use Rattle.fluid_ends.specs.declared.fault.TalkFault.{TalkFault}
 use Rattle.fluid_ends.specs.declared.fault.TalkFault.TheVariants as talk
-use Rattle.fluid_talk.specs.Talking.{Knowing, Talking, Goes, order_of, number_behind_last}
+use Rattle.fluid_talk.specs.Talking.{Knowing, Talking, Goes, IsSound, ledger_of, order_of, number_behind_last, opened_by}
 use Rattle.fluid_talk.specs.Collecting.{Feeds, FailsAs, IsCollectCause, CollectsBy, Collects}
 use Rattle.fluid_talk.specs.Leaving.{EntersLeave, HasLeft, IsLeaveCause, LeavesBy, Leaves}
 use Rattle.fluid_connection.specs.declared.collecting.Collected.{Collected}
-use Rattle.fluid_connection.specs.Talked.{Talked, pass_of, visited, talking, IsTalk, IsDelivered, HasDelivered}
+use Rattle.fluid_connection.specs.Talked.{Talked, pass_of, visited, talking, IsTalk, HasDelivered}
 use Rattle.fluid_connection.specs.Slices.{BringsAll, FailsToCollect, ComesBack}
 use Rattle.fluid_connection.specs.Leaving.{IsLeaveAct, EntersLeaving, FailsToLeave}
 use Rattle.fluid_connection.proofs.Passings.{goes_nowhere}
@@ -54,6 +57,12 @@ with_next-number to Fresh joined later = absurd (false≢true joined)
 with_next-number to (Reading name next) joined later = max_later next to later
 with_next-number to (Writing name id next) joined later = max_later next to later
 with_next-number to Used joined later = absurd (false≢true joined)
+
+pub next_is : (s : VoiceState) (number next : ℕ) → is_connected s ≡ true → next_number s ≡ number → Some number ≡ Some next → (is_connected s ≡ true) × (next ≡ next_number s)
+next_is s number next joined is same = (joined, sym (some_number same) ∙ sym is)
+  where
+    some_number : Some number ≡ Some next → number ≡ next
+    some_number e = cc
 
 -- ---- visits
 
@@ -171,6 +180,44 @@ module _ (v : VoiceState) (k : AKey) (h : Option Visiting) (old new : Visiting) 
     key = refl;
   }
 
+-- ---- the same of a connection by what it had
+
+module _ (t : Talked) (old new : Visiting) (is : IsTalk t) (some : t.visit ≡ Some old) (back : ComesBack old new) where
+  was : standing t.voice t.key old t.handed ≡ t
+  was = ap (λ (o : Option Visiting). record t { visit = o }) (sym some)
+
+  before : IsTalk (standing t.voice t.key old t.handed)
+  before = subst IsTalk (sym was) is
+
+  pub behind_stays : (added : List Step) → Goes (visited old) (visited new) added → IsTalk (standing t.voice t.key new t.handed)
+  behind_stays added goes = stays_talk t.voice t.key t.handed old new before back added goes
+
+  pub behind_fault : (fault : TalkFault) → FailsToCollect (visited old) (visited new) fault → FailsAs (talking t) (talking (standing t.voice t.key new t.handed)) IsCollectCause fault
+  behind_fault fault fails =
+      subst (λ s. FailsAs (talking s) (talking (standing t.voice t.key new t.handed)) IsCollectCause fault) was (fails_to_collect t.voice t.key t.handed old new before back fault fails)
+
+  pub behind_refusal : (fault : TalkFault) → FailsToLeave (visited old) (visited new) fault → FailsAs (talking t) (talking (standing t.voice t.key new t.handed)) IsLeaveCause fault
+  behind_refusal fault fails =
+      subst (λ s. FailsAs (talking s) (talking (standing t.voice t.key new t.handed)) IsLeaveCause fault) was (fails_to_leave t.voice t.key t.handed old new before back fault fails)
+
+  pub behind_leave : (w : VoiceState) (raw : Raw) (moment : ℕ) (end : ActEnd) → w ≡ Used → leave_of moment t.voice ≡ Some raw → EntersLeaving (visited old) (visited new) raw end
+      → HasLeft (talking t) (talking (standing w t.key new t.handed)) moment
+  behind_leave w raw moment end used leave enters =
+      subst (λ s. HasLeft (talking s) (talking (standing w t.key new t.handed)) moment) was (left t.voice t.key t.handed old new before back w raw moment end used leave enters)
+
+  module _ (joined : is_connected t.voice ≡ true) (c : Collected) (all : BringsAll old.door.name (visited old) (visited new) (next_number t.voice) c) (w : VoiceState) (next : w ≡ with_next c.next t.voice) where
+    pub behind_talk : IsTalk (standing w t.key new t.handed)
+    behind_talk = subst (λ v. IsTalk (standing v t.key new t.handed)) (sym next) (collected_talk t.voice t.key t.handed old new before back joined c all)
+
+    pub behind_delivered : (steps : ℕ) → HasDelivered (standing w t.key new t.handed) (Some steps)
+    behind_delivered steps = subst (λ v. HasDelivered (standing v t.key new t.handed) (Some steps)) (sym next) (collected_settled t.voice t.key t.handed old new before back joined c all steps)
+
+    pub behind_feeds : (replies : List Reply) → replies ≡ c.replies.items → Feeds (talking t) (talking (standing w t.key new t.handed)) replies
+    behind_feeds replies same =
+        subst (λ rs. Feeds (talking t) (talking (standing w t.key new t.handed)) rs) (sym same)
+        (subst (λ s. Feeds (talking s) (talking (standing w t.key new t.handed)) c.replies.items) was
+        (subst (λ v. Feeds (talking (standing t.voice t.key old t.handed)) (talking (standing v t.key new t.handed)) c.replies.items) (sym next) (feeds t.voice t.key t.handed old new before back joined c all)))
+
 -- one that has left is connected to no document
 pub left_talk : (t : Talked) → t.voice ≡ Used → IsTalk t
 left_talk t used =
@@ -182,7 +229,10 @@ left_talk t used =
       few = λ joined. absurd (never joined);
     }
 
-pub new_talk : (key : AKey) (visit : Option Visiting) → IsTalk (record { voice = Fresh; key = key; visit = None; handed = visit })
+abbrev pub unvisited : VoiceState → AKey → Option Visiting → Talked
+unvisited voice key handed = record { voice = voice; key = key; visit = None; handed = handed }
+
+pub new_talk : (key : AKey) (visit : Option Visiting) → IsTalk (unvisited Fresh key visit)
 new_talk key visit = record {
   named = λ joined. absurd (false≢true joined);
   first = λ joined. absurd (false≢true joined);
@@ -249,3 +299,33 @@ client_leaves s t moment result writes does = record { does = does; nothing = λ
 -- want of memory before anything was done
 pub stays_by : (t : Talking) → FailsAs t t IsLeaveCause talk.NoMemory
 stays_by t = record { voice = refl; goes = goes_nowhere t.pass; handed = refl; key = refl; cause_is = tt }
+
+-- ---- what holds of the pass of a visit
+
+pub known_some : (o : Option Visiting) (visit : Visiting) → o ≡ Some visit → (pass : APass) → pass ≡ visit.pass → pass.mine ≡ made_by pass.number pass.seen → (pass_of o).mine ≡ made_by (pass_of o).number (pass_of o).seen
+known_some o visit some pass same own =
+    subst (λ v. (pass_of v).mine ≡ made_by (pass_of v).number (pass_of v).seen) (sym some) (subst (λ (p : APass). p.mine ≡ made_by p.number p.seen) same own)
+
+pub legal_some : (o : Option Visiting) (visit : Visiting) → o ≡ Some visit → (pass : APass) → pass ≡ visit.pass → (pass.turn.fixed.told ≡ true → IsLegal (ledger_of pass.seen)) → (pass_of o).told ≡ true → IsLegal (ledger_of (pass_of o).seen)
+legal_some o visit some pass same legal =
+    subst (λ v. (pass_of v).told ≡ true → IsLegal (ledger_of (pass_of v).seen)) (sym some)
+    (subst (λ (p : APass). p.turn.fixed.told ≡ true → IsLegal (ledger_of p.seen)) same legal)
+
+pub known_none : (o : Option Visiting) → o ≡ None → (pass_of o).mine ≡ made_by (pass_of o).number (pass_of o).seen
+known_none o none = subst (λ v. (pass_of v).mine ≡ made_by (pass_of v).number (pass_of v).seen) (sym none) refl
+
+pub legal_none : (o : Option Visiting) → o ≡ None → (pass_of o).told ≡ true → IsLegal (ledger_of (pass_of o).seen)
+legal_none o none = subst (λ v. (pass_of v).told ≡ true → IsLegal (ledger_of (pass_of v).seen)) (sym none) (λ told. absurd (false≢true told))
+
+pub sound : (t : Talked) → IsTalk t → (pass_of t.visit).mine ≡ made_by (pass_of t.visit).number (pass_of t.visit).seen → ((pass_of t.visit).told ≡ true → IsLegal (ledger_of (pass_of t.visit).seen)) → t.key.mine ≡ made_by t.key.number t.key.seen
+    → length (opened_by (talking t).key) ≤ MOST_DOCUMENTS → IsSound (talking t)
+sound t is own legal key_own key_few = record {
+  named = is.named;
+  first = is.first;
+  next = is.next;
+  few = is.few;
+  own = own;
+  legal = legal;
+  key_own = key_own;
+  key_few = key_few;
+}

@@ -1,20 +1,16 @@
 -- What always holds of a connection, behind a text.
-use Rattle.std.proofs.Common.{◌≡◌, ◌∙◌, ℕ, ◌+◌, ◌-◌, ◌<◌, ◌≤◌, ◌^◌, Bool, true, false, List, length, Option, Some, None, if◌then◌else◌, Result, Ok, Err, IfOk, refl, sym, ap, subst, arith}
+use Rattle.std.proofs.Common.{◌≡◌, ◌∙◌, ℕ, ◌+◌, ◌-◌, ◌<◌, ◌^◌, Bool, true, false, List, Option, Some, Ok, refl, sym, ap, arith}
 use Rattle.std.proofs.Math.Nat.{le-min}
-use Rattle.fluid_document.specs.Entries.{most}
-use Rattle.fluid_lane.specs.declared.steps.Step.{Step}
 use Rattle.fluid_service.specs.Visiting.{Visiting}
 use Rattle.fluid_service.specs.Keys.{AKey}
 use Rattle.fluid_voice.specs.declared.states.VoiceState.{VoiceState}
 use Rattle.fluid_voice.specs.declared.states.VoiceState.TheVariants.{Fresh, Reading, Writing, Used}
 use Rattle.fluid_voice.specs.declared.ends.ActEnd.{ActEnd}
 use Rattle.fluid_voice.specs.declared.ends.ActEnd.TheVariants as end
-use Rattle.fluid_voice.specs.States.{document_name, is_connected, is_fresh, is_used, number_behind}
+use Rattle.fluid_voice.specs.States.{is_connected, is_used, number_behind}
 use Rattle.fluid_voice.specs.Replies.{connect_state}
-use Rattle.fluid_ends.specs.declared.fault.TalkFault.{TalkFault}
-use Rattle.fluid_connection.specs.Knowing.{knowing}
 use Rattle.fluid_connection.specs.Talked.{Talked, IsTalk}
-use Rattle.fluid_connection.specs.Connecting.{IsAheadIn, MaySettle}
+use Rattle.fluid_connection.specs.Connecting.{MaySettle}
 
 false_true : {A : Type 0} → false ≡ true → A
 false_true same = cc
@@ -42,7 +38,7 @@ fresh_of Used off unused = false_true (sym unused)
 -- ---- one that was connected
 
 some_behind : (last : ℕ) → 0 < number_behind last
-some_behind last = le-min {1} {last + 1} {2 ^ 64 - 1} (omega arith) (omega arith)
+some_behind last = le-min {k = 1} {a = last + 1} {b = 2 ^ 64 - 1} (omega arith) (omega arith)
 
 pub settled_talk : (name : List ℕ) (write : Bool) (visit : Visiting) (e : ActEnd) (key : AKey) (handed : Option Visiting) → MaySettle name write visit (Ok e)
     → IsTalk (record { voice = connect_state name write Fresh e; key = key; visit = Some visit; handed = handed })

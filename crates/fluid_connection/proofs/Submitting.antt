@@ -1,15 +1,11 @@
 -- What a submission through a door does, as a connection knows it.
-use Rattle.std.proofs.Common.{◌≡◌, ◌∙◌, inl, inr, ◌⊎◌, ℕ, ◌≤◌, Bool, true, false, nat_le, ◌&&◌, List, [], ◌∷◌, ◌++◌, length, map, Option, Some, None, Result, Ok, Err, IfErr, if◌then◌else◌, append-nil, refl, sym, ap, subst, arith}
+use Rattle.std.proofs.Common.{◌≡◌, ◌∙◌, ℕ, Bool, true, false, nat_le, ◌&&◌, List, [], ◌∷◌, Result, Ok, Err, if◌then◌else◌, append-nil, refl, sym, ap}
 use Rattle.std.specs.FinMap.{empty}
-use Rattle.std.proofs.lemmas.List.{length-map}
-use Rattle.std.proofs.lemmas.Bool.Decides.{nat_tests}
-use Rattle.fluid_turn.specs.declared.view.Numbered.{Numbered}
-use Rattle.fluid_turn.specs.Entries.{IsPrefix, by_seat, entries}
+use Rattle.fluid_turn.specs.Entries.{entries}
 use Rattle.fluid_types.specs.declared.entries.Raw.{Raw}
 use Rattle.fluid_types.specs.declared.verdicts.Verdict.{Verdict}
 use Rattle.fluid_rules.specs.Rules.{verdict}
 use Rattle.fluid_rules.specs.Counted.{counted, is_counted}
-use Rattle.fluid_document.specs.Entries.{most}
 use Rattle.fluid_store.specs.Held.{Held}
 use Rattle.fluid_lane.specs.declared.steps.Step.{Step}
 use Rattle.fluid_lane.specs.declared.fault.LaneFault.{LaneFault}
@@ -19,7 +15,7 @@ use Rattle.fluid_lane.specs.Refusals.{first_refusal}
 use Rattle.fluid_lane.specs.Steps.{ledger, asides, steps_of, entered_by, fault_steps}
 use Rattle.fluid_doors.specs.declared.bench.Terms.{Terms}
 use Rattle.fluid_doors.specs.Passing.{APass, Grows}
-use Rattle.fluid_doors.specs.Answers.{is_worn_behind, WornBy, IsRuled}
+use Rattle.fluid_doors.specs.Answers.{is_worn_behind, IsRuled}
 use Rattle.fluid_doors.specs.Entering.{is_full_by, IsSubmitFault, Submits}
 use Rattle.fluid_voice.specs.declared.actions.Act.TheVariants as act
 use Rattle.fluid_voice.specs.declared.ends.ActEnd.TheVariants.{Entered, FullNow}

@@ -6,7 +6,6 @@ use Rattle.fluid_types.specs.declared.entries.Raw.TheVariants.{Join, Leave, Subm
 use Rattle.fluid_types.specs.declared.verdicts.Verdict.{Verdict}
 use Rattle.fluid_rules.specs.Rules.{verdict}
 use Rattle.fluid_rules.specs.Counted.{counted, is_counted}
-use Rattle.fluid_store.specs.Storing.{Storing}
 use Rattle.fluid_codec.specs.declared.replies.Reply.{Reply}
 use Rattle.fluid_voice.specs.declared.states.VoiceState.{VoiceState}
 use Rattle.fluid_voice.specs.declared.actions.Act.{Act}
@@ -14,8 +13,7 @@ use Rattle.fluid_voice.specs.declared.actions.Act.TheVariants as act
 use Rattle.fluid_voice.specs.declared.ends.ActEnd.{ActEnd}
 use Rattle.fluid_voice.specs.declared.ends.ActEnd.TheVariants.{Said, Joined, Told, Entered, FullNow, TooMany, Given}
 use Rattle.fluid_voice.specs.States.{document_name}
-use Rattle.fluid_voice.specs.Replies.{entry_replies, entered_verdict, state_after, one_where, count_of}
-use Rattle.fluid_voice.specs.Ends.{outcome}
+use Rattle.fluid_voice.specs.Replies.{entry_replies, entered_verdict, state_after, one_where}
 use Rattle.fluid_voice.specs.Ends.Outcome.{ends}
 use Rattle.fluid_ends.specs.declared.fault.TalkFault.{TalkFault}
 use Rattle.fluid_talk.specs.Talking.{Knowing, ledger_of}
@@ -23,8 +21,8 @@ use Rattle.fluid_talk.specs.Doing.{Did, ended}
 use Rattle.fluid_connection.specs.declared.telling.Counts.{Counts}
 use Rattle.fluid_connection.specs.declared.telling.Told.{Told as ATold}
 use Rattle.fluid_connection.specs.Entering.{IsFullAt, LimitBy, did_of, DoesOne, FailsOne}
-use Rattle.fluid_connection.specs.Telling.{HasRoom, no_counts, with_end, with_ends, full_behind, is_full_end, TellsFront}
-use Rattle.fluid_connection.specs.Running.{EntersAll, EntersText, IsSubmit, IsSubmission, AreSubmissions, NextEntered, NextStops, NextDoes, lost}
+use Rattle.fluid_connection.specs.Telling.{HasRoom, no_counts, with_end, with_ends, full_behind, TellsFront}
+use Rattle.fluid_connection.specs.Running.{EntersAll, EntersText, IsSubmit, AreSubmissions, NextEntered, NextStops, NextDoes, lost}
 use Rattle.fluid_connection.proofs.Running.{goes_nowhere, enters_more, enters_none, enters_fails, enters_lost}
 
 -- ---- submissions

@@ -100,12 +100,12 @@ abbrev pub IsRefused : Told → Option TalkFault → Type 0
 IsRefused told fault = IsSaid (refused TooManyDocuments ∷ []) told fault
 
 -- an answer was said, and it stands as that says; a fault leaves it unconnected
-abbrev pub SettlesBy : Talked → Talked → List ℕ → Bool → Result ActEnd TalkFault → Told → Option TalkFault → Type 0
-SettlesBy old new name write (Ok end) told fault = (new.voice ≡ connect_state name write Fresh end) × IsSaid (connect_replies Fresh write end) told fault
-SettlesBy old new name write (Err cause) told fault = (new.voice ≡ Fresh) × ((told.counts ≡ no_counts) × ((told.replies.items ≡ []) × (fault ≡ Some cause)))
+abbrev pub SettlesBy : Talked → List ℕ → Bool → Result ActEnd TalkFault → Told → Option TalkFault → Type 0
+SettlesBy new name write (Ok end) told fault = (new.voice ≡ connect_state name write Fresh end) × IsSaid (connect_replies Fresh write end) told fault
+SettlesBy new name write (Err cause) told fault = (new.voice ≡ Fresh) × ((told.counts ≡ no_counts) × ((told.replies.items ≡ []) × (fault ≡ Some cause)))
 
 -- the visit is kept, and what was handed in as long as it isn't connected
 pub record Settles (old new : Talked) (name : List ℕ) (write : Bool) (visit : Visiting) (answer : Result ActEnd TalkFault) (told : Told) (fault : Option TalkFault) : Type 0 where
   pub visit_is : new.visit ≡ Some visit
   pub handed : new.handed ≡ (if is_connected new.voice then None else old.handed)
-  pub by : SettlesBy old new name write answer told fault
+  pub by : SettlesBy new name write answer told fault

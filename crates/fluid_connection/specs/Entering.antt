@@ -1,5 +1,5 @@
 -- What asking a document for one act does.
-use Rattle.std.specs.Prelude.{◌≡◌, ℕ, nat_le, true, List, [], ◌++◌, map, Result, Ok, Err}
+use Rattle.std.specs.Prelude.{◌≡◌, ℕ, nat_le, true, List, ◌++◌, map, Result, Ok, Err}
 use Rattle.fluid_turn.specs.declared.view.Numbered.{Numbered}
 use Rattle.fluid_turn.specs.Entries.{IsPrefix, by_seat}
 use Rattle.fluid_types.specs.declared.messages.Message.{Message}

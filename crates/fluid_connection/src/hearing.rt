@@ -109,13 +109,15 @@ where
                 let replies = self.voice.take(alloc, Act::Say(reply), ActEnd::Said);
                 say_one(alloc, replies)
             }
-            Some(Act::Connect {
-                name,
-                write,
-                scopes,
-                detail,
-                moment,
-            }) => {
+            Some(
+                Act::Connect {
+                    name,
+                    write,
+                    scopes,
+                    detail,
+                    moment,
+                },
+            ) => {
                 let connect = Connect {
                     name,
                     write,
@@ -202,7 +204,9 @@ fn heard(told: Told, fault: Option<TalkFault>) -> Heard
     ensures { IsHeardOf told fault result }
 {
     let Told {
-        replies, counts, ..
+        replies,
+        counts,
+        ..
     } = told;
     Heard {
         replies: Replies::new(replies),

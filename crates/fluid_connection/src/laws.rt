@@ -10,7 +10,3 @@ pub fn connected_ones_ask()
 pub fn others_ask()
     ensures { OthersAsk }
 {}
-
-pub fn all_lemmas()
-    ensures { OthersAsk }
-{}

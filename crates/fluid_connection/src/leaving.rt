@@ -1,8 +1,10 @@
 // How a client leaves.
-ghost use Rattle.std.specs.Prelude.{◌≡◌, ◌≤◌, length};
+ghost use Rattle.std.specs.Prelude.{◌≡◌, ◌≤◌, true, length, is_some};
 ghost use Rattle.fluid_document.specs.Entries.{most};
 ghost use Rattle.fluid_types.specs.declared.entries.Raw.{Raw as ARaw};
 ghost use Rattle.fluid_voice.specs.declared.actions.Act.TheVariants as AnAct;
+ghost use Rattle.fluid_voice.specs.declared.states.VoiceState.TheVariants.{Used};
+ghost use Rattle.fluid_voice.specs.Replies.{entered_verdict};
 ghost use Rattle.fluid_connection.specs.Talked.{visited};
 ghost use Rattle.fluid_connection.specs.Knowing.{knowing};
 ghost use Rattle.fluid_connection.specs.Leaving.{IsLeave, IsLeaveAct, EntersBy};
@@ -14,7 +16,7 @@ use fluid_ends::TalkFault;
 use fluid_log::Keeper;
 use fluid_service::Visit;
 use fluid_types::Raw;
-use fluid_voice::{Act, ActEnd};
+use fluid_voice::{Act, ActEnd, Voice};
 use std::alloc::Global;
 use std::sync::Wait;
 
@@ -50,6 +52,14 @@ fn enter<R: Wait, K: Keeper>(
 {
     let (pass, answer) = door.submit(rt, alloc, pass, raw);
     (pass, ended(answer))
+}
+
+/// The connection has left, where its leave was entered.
+pub(crate) fn take_leave(voice: &mut Voice, end: ActEnd)
+    requires { is_some (entered_verdict end) ≡ true }
+    ensures { voice.new ≡ Used }
+{
+    voice.take_leave(&end);
 }
 
 fn entry_of(act: Act) -> Raw

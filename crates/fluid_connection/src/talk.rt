@@ -15,7 +15,7 @@ ghost use Rattle.fluid_voice.specs.declared.states.VoiceState.TheVariants.{Fresh
 ghost use Rattle.fluid_connection.specs.Talked.{pass_of, talking};
 
 use crate::collecting::{Collected, collect_all, is_quiet, next_of};
-use crate::leaving::enter_leave;
+use crate::leaving::{enter_leave, take_leave};
 use fluid_doors::know;
 use fluid_ends::TalkFault;
 use fluid_log::{Keeper, Shelves};
@@ -78,7 +78,10 @@ where
         ensures visit { result.1 ≡ option_or self.visit self.handed }
     {
         let Talk {
-            key, visit, handed, ..
+            key,
+            visit,
+            handed,
+            ..
         } = self;
         match visit {
             Some(visit) => (key, Some(visit)),
@@ -131,7 +134,7 @@ where
         self.visit = Some(visit);
         self.settled = None;
         let end = answer?;
-        self.voice.take_leave(&end);
+        take_leave(&mut self.voice, end);
         Ok(())
     }
 }
@@ -200,10 +203,4 @@ fn know_visit<K: Keeper>(visit: &Option<Visit<K>>)
         Some(visit) => know(visit.pass()),
         None => {}
     }
-}
-
-fn lemma_probe(x: u64) -> u64
-    ensures { result ≡ x }
-{
-    x
 }

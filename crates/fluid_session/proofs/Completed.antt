@@ -1,12 +1,11 @@
 -- A session ends as its wire does, unless something failed.
-use Rattle.std.proofs.Common.{◌≡◌, ◌⊎◌, inl, inr, ℕ, ◌<◌, ◌≤◌, Bool, true, false, List, [], ◌∷◌, ◌++◌, length, map, Option, Some, None, Result, Ok, Err, refl, sym, ap, subst, ◌∙◌, arith}
+use Rattle.std.proofs.Common.{◌≡◌, ◌⊎◌, inl, inr, ℕ, ◌<◌, ◌≤◌, Bool, true, false, List, [], ◌∷◌, ◌++◌, length, Option, Some, None, Result, Ok, Err, refl, sym, ap, subst, ◌∙◌, arith}
 use Rattle.std.specs.Prelude.{All, IfSome}
 use Rattle.std.specs.Option.{option_map}
-use Rattle.std.proofs.lemmas.Bool.{false≢true}
 use Rattle.std.proofs.lemmas.List.Elements.{All-head, All-tail}
 use Rattle.fluid_io.specs.Causes.{Rose, Tells}
 use Rattle.fluid_io.specs.declared.lines.TheConstants.{LONGEST_TEXT}
-use Rattle.fluid_turn.specs.Entries.{by_seat, entries}
+use Rattle.fluid_turn.specs.Entries.{entries}
 use Rattle.fluid_deltas.specs.declared.fault.DeltaFault.{DeltaFault}
 use Rattle.fluid_deltas.specs.declared.fault.DeltaFault.TheVariants as delta
 use Rattle.fluid_store.specs.Storing.{Storing}
@@ -25,7 +24,7 @@ use Rattle.fluid_opening.specs.declared.fault.DoorFault.{DoorFault}
 use Rattle.fluid_opening.specs.declared.fault.DoorFault.TheVariants as door
 use Rattle.fluid_opening.specs.declared.shelf.ShelfStep.{ShelfStep}
 use Rattle.fluid_opening.specs.declared.shelf.ShelfStep.TheVariants.{Opened, Failed}
-use Rattle.fluid_opening.specs.Steps.{is_opened, is_worn, is_full, refusal, refusal_by, visit_steps, visit_steps_by, IsAnswerBy}
+use Rattle.fluid_opening.specs.Steps.{is_opened, is_worn, is_full, refusal, refusal_by, visit_steps_by, IsAnswerBy}
 use Rattle.fluid_voice.specs.declared.actions.Act.{Act}
 use Rattle.fluid_voice.specs.declared.actions.Act.TheVariants as act
 use Rattle.fluid_types.specs.declared.entries.Raw.{Raw}
@@ -38,7 +37,7 @@ use Rattle.fluid_ends.specs.Faults.{talk_steps}
 use Rattle.fluid_ends.specs.declared.fault.TalkFault.{TalkFault}
 use Rattle.fluid_ends.specs.declared.fault.TalkFault.TheVariants.{Door, Lane, Delta, Store, NoMemory}
 use Rattle.fluid_talk.specs.Talking.{Knowing, Talking, Keyed}
-use Rattle.fluid_talk.specs.Shelves.{AsksFor, IsRefusedDoor}
+use Rattle.fluid_talk.specs.Shelves.{IsRefusedDoor}
 use Rattle.fluid_talk.specs.Causes.{IsLaneCause, IsDeltaCause, IsDoorFault, IsConnect, IsCauseOf, IsCauseAt, IsNoMemory}
 use Rattle.fluid_talk.specs.Doing.{Did, acts_in, steps_in, may_steps}
 use Rattle.fluid_talk.specs.Hearing.{KeyBehind, ReachesBy, IsFaultOf}
@@ -47,21 +46,20 @@ use Rattle.fluid_talk.specs.Leaving.{Leaves, EntersLeave, IsLeaveCause}
 use Rattle.fluid_session.specs.declared.report.SessionEnd.{SessionEnd}
 use Rattle.fluid_session.specs.declared.report.SessionEnd.TheVariants as end
 use Rattle.fluid_session.specs.declared.report.Report.{Report}
-use Rattle.fluid_session.specs.declared.tally.Tally.{Tally}
-use Rattle.fluid_session.specs.Ends.{end_of, wire_end, behind_leave, with_fault, unless_refused, most_unread}
-use Rattle.fluid_session.specs.Sending.{Passes, IsWireCause, ins_of}
-use Rattle.fluid_session.specs.Events.{Event, Stand, Collection, Round, IsRound, AreEvents, behind, history_of}
+use Rattle.fluid_session.specs.Ends.{end_of, wire_end, behind_leave, unless_refused}
+use Rattle.fluid_session.specs.Sending.{IsWireCause, ins_of}
+use Rattle.fluid_session.specs.Events.{Event, Stand, Round, IsRound, AreEvents, behind, history_of}
 use Rattle.fluid_session.specs.Events.Event.{brings, hears}
 use Rattle.fluid_session.specs.Running.{EndsIn, Stops}
 use Rattle.fluid_session.specs.Running.Stops.{at_end, at_long, at_receive, at_feed, at_reply, at_text, at_collection, at_count}
 use Rattle.fluid_session.specs.Lines.{HasNote}
-use Rattle.fluid_session.specs.Whole.{Account, Serves}
+use Rattle.fluid_session.specs.Whole.{Account}
 use Rattle.fluid_session.specs.Complete.{HasRefusal, IsCarried, NothingFailed, EndsWithItsWire}
 use Rattle.fluid_session.proofs.Sent.{rose_later}
 use Rattle.fluid_session.proofs.Counts.{more_none}
 use Rattle.fluid_session.proofs.Submitted.{IsNoConnect, NoConnects, no_connects}
 use Rattle.fluid_session.proofs.Filling.{split_events}
-use Rattle.fluid_session.proofs.Leavings.{Halts, Closes, stops_halts, closes}
+use Rattle.fluid_session.proofs.Leavings.{Closes, stops_halts, closes}
 
 -- ---- ends behind the leave
 

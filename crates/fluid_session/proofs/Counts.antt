@@ -1,6 +1,5 @@
 -- The numbers of a report: sums over the texts, counted in the steps of the pass.
-use Rattle.std.proofs.Common.{◌≡◌, ℕ, suc, ◌+◌, ◌-◌, ◌^◌, ◌<◌, ◌≤◌, Bool, true, false, not, List, [], ◌∷◌, ◌++◌, length, map, filter, Option, Some, None, refl, sym, ap, subst, ◌∙◌, arith, if◌then◌else◌, length-append, zero-add}
-use Rattle.std.proofs.lemmas.Bool.{false≢true}
+use Rattle.std.proofs.Common.{◌≡◌, ℕ, suc, ◌+◌, ◌-◌, ◌^◌, ◌<◌, ◌≤◌, Bool, true, false, not, List, [], ◌∷◌, ◌++◌, length, filter, Option, Some, None, refl, sym, ap, subst, ◌∙◌, arith, if◌then◌else◌, zero-add}
 use Rattle.std.proofs.lemmas.List.Filters.{length-filter_both}
 use Rattle.fluid_turn.specs.declared.view.Numbered.{Numbered}
 use Rattle.fluid_turn.specs.Entries.{entries, made_by, is_number}
@@ -24,16 +23,15 @@ use Rattle.fluid_voice.specs.Suits.{Suits}
 use Rattle.fluid_voice.specs.Laws.{IsOneAnswer}
 use Rattle.fluid_voice.proofs.Ahead.{others_connect}
 use Rattle.fluid_ends.specs.Adding.{AddsBy}
-use Rattle.fluid_ends.specs.Faults.{talk_steps}
 use Rattle.fluid_ends.specs.declared.fault.TalkFault.{TalkFault}
 use Rattle.fluid_ends.specs.declared.fault.TalkFault.TheVariants.{Door, Lane, Delta, Store, NoMemory}
 use Rattle.fluid_talk.specs.Talking.{Talking}
 use Rattle.fluid_talk.specs.Doing.{Did, AreDone, acts_in, ended, steps_in, may_steps}
 use Rattle.fluid_session.specs.declared.tally.Tally.{Tally}
 use Rattle.fluid_session.specs.Counted.{plus, capped, counts_of}
-use Rattle.fluid_session.specs.Events.{Event, Stand, Collection, Round, IsRound, AreEvents, behind, counted_with, counted_behind}
+use Rattle.fluid_session.specs.Events.{Event, Stand, Round, IsRound, AreEvents, behind, counted_behind}
 use Rattle.fluid_session.specs.Events.Event.{brings, hears}
-use Rattle.fluid_session.specs.Lines.{count_steps, steps_of, steps_of_round, unread_in, entered, GoesOn}
+use Rattle.fluid_session.specs.Lines.{count_steps, steps_of, steps_of_round, unread_in}
 use Rattle.fluid_session.proofs.Passes.{AllApart, goes_on}
 use Rattle.fluid_session.proofs.Submitted.{IsNoConnect, NoConnects, round_none}
 

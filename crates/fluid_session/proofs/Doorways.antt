@@ -1,5 +1,5 @@
 -- Connects: who is connected by one, and why one is refused.
-use Rattle.std.proofs.Common.{◌≡◌, ◌⊎◌, inl, inr, ℕ, ◌≤◌, Bool, true, false, ◌&&◌, nat_le, List, [], ◌∷◌, ◌++◌, length, map, Option, Some, None, refl, sym, ap, subst, ◌∙◌, append-nil, if◌then◌else◌}
+use Rattle.std.proofs.Common.{◌≡◌, ℕ, ◌≤◌, Bool, true, false, ◌&&◌, List, [], ◌∷◌, ◌++◌, length, map, Option, Some, None, refl, sym, ap, subst, ◌∙◌, append-nil, if◌then◌else◌}
 use Rattle.std.proofs.lemmas.Bool.{false≢true, leb-true}
 use Rattle.fluid_json.specs.Tree.{Tree}
 use Rattle.fluid_turn.specs.declared.view.Numbered.{Numbered}
@@ -10,9 +10,8 @@ use Rattle.fluid_types.specs.declared.entries.Scopes.{Scopes}
 use Rattle.fluid_types.specs.declared.verdicts.Verdict.{Verdict}
 use Rattle.fluid_types.specs.declared.verdicts.Verdict.TheVariants as verdict
 use Rattle.fluid_rules.specs.Rules.{verdict as verdict_of, joined}
-use Rattle.fluid_rules.specs.Counted.{counted, is_full, is_new_client, has_too_many_clients}
+use Rattle.fluid_rules.specs.Counted.{counted, is_full, has_too_many_clients}
 use Rattle.fluid_rules.specs.declared.limits.Limits.{Limits}
-use Rattle.fluid_store.specs.Held.{Held}
 use Rattle.fluid_lane.specs.declared.steps.Step.{Step}
 use Rattle.fluid_voice.specs.declared.states.VoiceState.{VoiceState}
 use Rattle.fluid_voice.specs.declared.states.VoiceState.TheVariants.{Fresh, Reading, Writing, Used}
@@ -23,17 +22,17 @@ use Rattle.fluid_voice.specs.declared.ends.ActEnd.TheVariants.{Said, Joined, Tol
 use Rattle.fluid_voice.specs.States.{is_connected, number_behind}
 use Rattle.fluid_voice.specs.Heard.{acts_of}
 use Rattle.fluid_voice.specs.Replies.{state_after, state_behind}
-use Rattle.fluid_voice.specs.Ends.{outcome, join_of, joined_by, join_end}
+use Rattle.fluid_voice.specs.Ends.{outcome, join_of, joined_by}
 use Rattle.fluid_voice.specs.Ends.Outcome.{ends}
 use Rattle.fluid_ends.specs.Adding.{AddsBy, IsJoinStep}
 use Rattle.fluid_ends.specs.Asking.{found_in}
-use Rattle.fluid_talk.specs.Talking.{Knowing, Talking, Goes, ledger_of}
+use Rattle.fluid_talk.specs.Talking.{Knowing, Talking, ledger_of}
 use Rattle.fluid_talk.specs.Causes.{IsConnect}
-use Rattle.fluid_talk.specs.Doing.{Did, IsDone, AreDone, AreFound, AreAnswered, IsAnswered, acts_in, ends_in, ended, steps_in}
+use Rattle.fluid_talk.specs.Doing.{Did, AreDone, AreFound, AreAnswered, IsAnswered, acts_in, ends_in, ended, steps_in}
 use Rattle.fluid_talk.specs.Hearing.{IsConnectTo, Reaches, ReachesBy}
-use Rattle.fluid_session.specs.Events.{Event, Stand, Collection, Round, IsRound, AreEvents, behind}
+use Rattle.fluid_session.specs.Events.{Event, Stand, Round, IsRound, AreEvents, behind}
 use Rattle.fluid_session.specs.Events.Event.{brings, hears}
-use Rattle.fluid_session.specs.Lines.{IsConnectedAs, IsFull, HasManyClients, IsLimitOf, NoneReached, IsLastDoor, AreLastDoors, GoesOn}
+use Rattle.fluid_session.specs.Lines.{IsConnectedAs, IsLimitOf, NoneReached, IsLastDoor, AreLastDoors, GoesOn}
 use Rattle.fluid_session.proofs.Passes.{goes_on}
 use Rattle.fluid_session.proofs.Filling.{nothing_held}
 
@@ -214,10 +213,10 @@ round_limit r name is reaches well = by r.done (round_connect r name is reaches)
         let one_answered : AreAnswered r.to.pass r.before (d ∷ []) = subst (AreAnswered r.to.pass r.before) only answered in
         subst (λ (l : List Did). IsLimitOf (ends_in l) r.to.pass) (sym only)
         (limit_of r.to.pass d.end (λ told refused.
-            let none : d.added ≡ [] = adds_none d.act d.end d.added connect refused one_done.0.adds in
-            let seen : r.to.pass.seen ≡ d.found = one_found.1 ∙ ap (λ added. d.found ++ map (by_seat r.to.pass.number) added) none ∙ append-nil d.found in
-            subst (λ (x : List (Numbered Step)). IsLimitAt r.to.pass.limits (ledger_of x) d.end) (sym seen)
-            (connect_limit r.to.pass.limits (ledger_of d.found) d.act d.end connect (told_answer d (d.act) refl connect told one_answered.0))))
+        let none : d.added ≡ [] = adds_none d.act d.end d.added connect refused one_done.0.adds in
+        let seen : r.to.pass.seen ≡ d.found = one_found.1 ∙ ap (λ added. d.found ++ map (by_seat r.to.pass.number) added) none ∙ append-nil d.found in
+        subst (λ (x : List (Numbered Step)). IsLimitAt r.to.pass.limits (ledger_of x) d.end) (sym seen)
+        (connect_limit r.to.pass.limits (ledger_of d.found) d.act d.end connect (told_answer d (d.act) refl connect told one_answered.0))))
       where
         told_answer : (d : Did) (a : Act) → d.act ≡ a → IsConnect a → r.to.pass.told ≡ true → IsAnswered r.to.pass r.before d → outcome (found_in r.to.pass.limits (ledger_of d.found) nothing_held) d.act ≡ ends d.end
         told_answer d (act.Connect name write scopes detail moment) is h told answer = answer nothing_held (rw is told)

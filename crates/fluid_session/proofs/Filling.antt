@@ -1,5 +1,5 @@
 -- What the texts of a client enter where its document's keeper tells its content: all of it until the document is full, and nothing then.
-use Rattle.std.proofs.Common.{◌≡◌, ◌⊎◌, inl, inr, ℕ, ◌+◌, ◌≤◌, Bool, true, false, ◌&&◌, List, [], ◌∷◌, ◌++◌, map, cond, nat_le, Option, Some, None, Result, Ok, Err, refl, sym, ap, subst, ◌∙◌, arith, append_assoc, append-nil, if◌then◌else◌}
+use Rattle.std.proofs.Common.{◌≡◌, ◌⊎◌, inl, inr, ℕ, ◌+◌, ◌≤◌, Bool, true, false, ◌&&◌, List, [], ◌∷◌, ◌++◌, map, cond, nat_le, Option, Some, None, refl, sym, ap, subst, ◌∙◌, arith, append-nil, if◌then◌else◌}
 use Rattle.std.proofs.lemmas.Bool.{false≢true, leb-true, le-leb}
 use Rattle.std.proofs.lemmas.List.Sums.{sum_by-append}
 use Rattle.std.specs.FinMap.{empty}
@@ -31,12 +31,12 @@ use Rattle.fluid_voice.specs.Laws.{entries_under}
 use Rattle.fluid_ends.specs.Adding.{AddsBy}
 use Rattle.fluid_ends.specs.Asking.{found_in}
 use Rattle.fluid_ends.specs.declared.fault.TalkFault.{TalkFault}
-use Rattle.fluid_talk.specs.Talking.{Knowing, Talking, Goes, ledger_of}
+use Rattle.fluid_talk.specs.Talking.{Knowing, Talking, ledger_of}
 use Rattle.fluid_talk.specs.Doing.{Did, AreDone, AreFound, AreAnswered, IsAnswered, seen_behind, acts_in, ends_in, steps_in}
 use Rattle.fluid_talk.specs.Hearing.{HearsConnected}
-use Rattle.fluid_session.specs.Events.{Event, Stand, Collection, Round, IsRound, IsEvent, AreWhole, AreEvents, behind}
+use Rattle.fluid_session.specs.Events.{Event, Stand, Round, IsRound, AreWhole, AreEvents, behind}
 use Rattle.fluid_session.specs.Events.Event.{brings, hears}
-use Rattle.fluid_session.specs.Lines.{entered, entered_in, tried_in, subs_in, IsFull, AreFronts, SubmitsTold, Submits, MayBreakLast, GoesOn}
+use Rattle.fluid_session.specs.Lines.{entered, entered_in, subs_in, IsFull, SubmitsTold, Submits, MayBreakLast, GoesOn}
 use Rattle.fluid_session.proofs.Passes.{goes_on, ledger-more, found_prefix}
 use Rattle.fluid_session.proofs.Fronts.{front_behind, front_last}
 use Rattle.fluid_session.proofs.Submitted.{IsNoConnect, NoConnects, round_none, round_tried, round_whole, each_front, all_in, HasNoFull, tried_front, all_tried}

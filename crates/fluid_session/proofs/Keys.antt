@@ -1,5 +1,5 @@
 -- The key along a session, and what it tells of the documents that are open.
-use Rattle.std.proofs.Common.{◌≡◌, inl, inr, ℕ, ◌+◌, ◌≤◌, Bool, true, false, not, ◌&&◌, nat_le, List, [], ◌∷◌, ◌++◌, length, map, Option, Some, None, Result, Ok, Err, refl, sym, ap, subst, ◌∙◌, arith, append-nil, length-append}
+use Rattle.std.proofs.Common.{◌≡◌, inl, inr, ℕ, ◌+◌, ◌≤◌, Bool, true, false, not, ◌&&◌, List, [], ◌∷◌, ◌++◌, length, map, Option, Some, None, Result, Ok, Err, refl, sym, ap, subst, ◌∙◌, arith, append-nil, length-append}
 use Rattle.std.proofs.lemmas.Bool.{false≢true, leb-true}
 use Rattle.fluid_turn.specs.declared.view.Numbered.{Numbered}
 use Rattle.fluid_turn.specs.Entries.{IsPrefix, by_seat, entries}
@@ -240,6 +240,7 @@ round_beyond r is = by (is_connected r.from.voice) refl
 pub all_beyond : (es : List Event) (s t : Stand) (k : Keyed) → AreEvents s es t → IsPrefix t.talk.key.seen k.seen → length (opened_by k) ≤ MOST_DOCUMENTS → AreBeyond k es
 all_beyond [] s t k same later few = tt
 all_beyond (brings c ∷ es) s t k (begins, (is, more)) later few = all_beyond es (behind (brings c) s) t k more later few
-all_beyond (hears r ∷ es) s t k (begins, (is, more)) later few =
-    (each_later r.to.key k r.done (prefix_trans r.to.key.seen t.talk.key.seen k.seen (key_on es (behind (hears r) s) t more) later) few (round_beyond r is),
-    all_beyond es (behind (hears r) s) t k more later few)
+all_beyond (hears r ∷ es) s t k (begins, (is, more)) later few = (
+  each_later r.to.key k r.done (prefix_trans r.to.key.seen t.talk.key.seen k.seen (key_on es (behind (hears r) s) t more) later) few (round_beyond r is),
+  all_beyond es (behind (hears r) s) t k more later few,
+)

@@ -1,10 +1,8 @@
 -- What a session leaves: its pass behind the leave, and its end.
-use Rattle.std.proofs.Common.{◌≡◌, ◌⊎◌, inl, inr, ℕ, ◌<◌, ◌≤◌, Bool, true, false, List, [], ◌∷◌, ◌++◌, length, map, Option, Some, None, Result, Ok, Err, refl, sym, ap, subst, ◌∙◌, arith, append_assoc, append-nil}
-use Rattle.fluid_turn.specs.Entries.{IsPrefix}
+use Rattle.std.proofs.Common.{◌≡◌, inl, inr, ℕ, ◌≤◌, Bool, true, false, List, [], ◌∷◌, ◌++◌, Option, Some, None, Result, Ok, Err, refl, sym, ap, subst, ◌∙◌, arith, append-nil}
 use Rattle.fluid_types.specs.declared.entries.Raw.{Raw}
 use Rattle.fluid_deltas.specs.declared.fault.DeltaFault.{DeltaFault}
 use Rattle.fluid_deltas.specs.declared.fault.DeltaFault.TheVariants as delta
-use Rattle.fluid_document.specs.Entries.{most}
 use Rattle.fluid_store.specs.declared.fault.StoreFault.{StoreFault}
 use Rattle.fluid_store.specs.declared.fault.StoreFault.TheVariants as store
 use Rattle.fluid_lane.specs.declared.fault.LaneFault.{LaneFault}
@@ -25,12 +23,12 @@ use Rattle.fluid_ends.specs.declared.fault.TalkFault.{TalkFault}
 use Rattle.fluid_ends.specs.declared.fault.TalkFault.TheVariants.{Door, Lane, Delta, Store, NoMemory}
 use Rattle.fluid_talk.specs.Talking.{Knowing, Talking, Goes}
 use Rattle.fluid_talk.specs.Doing.{steps_in, may_steps}
-use Rattle.fluid_talk.specs.Leaving.{Leaves, LeavesBy, EntersLeave, IsLeaveCause}
+use Rattle.fluid_talk.specs.Leaving.{Leaves, EntersLeave, IsLeaveCause}
 use Rattle.fluid_talk.specs.Collecting.{FailsAs}
 use Rattle.fluid_session.specs.declared.report.SessionEnd.{SessionEnd}
 use Rattle.fluid_session.specs.declared.report.SessionEnd.TheVariants as end
 use Rattle.fluid_session.specs.declared.tally.Tally.{Tally}
-use Rattle.fluid_session.specs.Ends.{end_of, wire_end, with_fault, unless_refused, behind_leave, most_unread}
+use Rattle.fluid_session.specs.Ends.{end_of, wire_end, unless_refused, behind_leave, most_unread}
 use Rattle.fluid_session.specs.Events.{Event, AreWhole, IsReached}
 use Rattle.fluid_session.specs.Running.{Stops}
 use Rattle.fluid_session.specs.Running.Stops.{at_end, at_long, at_receive, at_feed, at_reply, at_text, at_collection, at_count}

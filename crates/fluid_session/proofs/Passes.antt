@@ -18,7 +18,6 @@ use Rattle.fluid_voice.specs.declared.states.VoiceState.TheVariants.{Fresh, Read
 use Rattle.fluid_voice.specs.States.{client_id, document_name, is_connected, next_number, with_next}
 use Rattle.fluid_codec.specs.declared.replies.Reply.{Reply}
 use Rattle.fluid_rules.specs.declared.limits.Limits.{Limits}
-use Rattle.fluid_store.specs.Held.{Held}
 use Rattle.fluid_store.specs.Storing.{Storing}
 use Rattle.fluid_voice.specs.Heard.{acts_of}
 use Rattle.fluid_voice.specs.Feed.{fed}
@@ -225,9 +224,10 @@ pub read_between : (number : ℕ) (failed : Option TalkFault) (first last seen n
 read_between number failed first last seen now [] before behind_it found = tt
 read_between number failed first last seen now (d ∷ done) before behind_it (here, rest) =
     let at : IsPrefix first d.found = prefix_trans first seen d.found before here in
-    let onward : IsPrefix d.found (seen_behind number d) = (map (by_seat number) d.added, refl) in
-    ((at, prefix_trans d.found now last (prefix_trans d.found (seen_behind number d) now onward (found_prefix number failed (seen_behind number d) now done rest)) behind_it),
-    read_between number failed first last (seen_behind number d) now done (prefix_trans first d.found (seen_behind number d) at onward) behind_it rest)
+    let onward : IsPrefix d.found (seen_behind number d) = (map (by_seat number) d.added, refl) in (
+      (at, prefix_trans d.found now last (prefix_trans d.found (seen_behind number d) now onward (found_prefix number failed (seen_behind number d) now done rest)) behind_it),
+      read_between number failed first last (seen_behind number d) now done (prefix_trans first d.found (seen_behind number d) at onward) behind_it rest,
+    )
 
 answered_one : (p q : Knowing) (store : Storing) (d : Did) → q.told ≡ p.told → q.limits ≡ p.limits → IsAnswered p store d → IsAnswered q store d
 answered_one p q store d told limits answer = λ held is.
@@ -248,10 +248,13 @@ are_read (hears r ∷ es) s t q told limits later joined (begins, (is, more)) =
     let heard : HearsConnected r.from r.to r.before r.done r.heard.fault = is.hears_it.does.connected here in
     let one : GoesOn r.from r.to (hears r ∷ []) = hears_on r here is in
     let on : GoesOn r.to t.talk es = goes_on es (behind (hears r) s) t one.still more in
-    let seen : IsPrefix r.to.pass.seen q.seen = prefix_trans r.to.pass.seen t.talk.pass.seen q.seen on.goes.seen later in
-    ((read_between r.from.pass.number r.heard.fault r.from.pass.seen q.seen r.from.pass.seen r.to.pass.seen r.done (prefix_refl r.from.pass.seen) seen heard.found,
-    answered_later r.from.pass q r.before r.done (told ∙ on.goes.same.told ∙ one.goes.same.told) (limits ∙ on.goes.same.limits ∙ one.goes.same.limits) heard.answered),
-    are_read es (behind (hears r) s) t q told limits later one.still more)
+    let seen : IsPrefix r.to.pass.seen q.seen = prefix_trans r.to.pass.seen t.talk.pass.seen q.seen on.goes.seen later in (
+      (
+        read_between r.from.pass.number r.heard.fault r.from.pass.seen q.seen r.from.pass.seen r.to.pass.seen r.done (prefix_refl r.from.pass.seen) seen heard.found,
+        answered_later r.from.pass q r.before r.done (told ∙ on.goes.same.told ∙ one.goes.same.told) (limits ∙ on.goes.same.limits ∙ one.goes.same.limits) heard.answered,
+      ),
+      are_read es (behind (hears r) s) t q told limits later one.still more,
+    )
 
 pub are_reached : (es : List Event) (s t : Stand) → AreEvents s es t → AreReached es
 are_reached [] s t same = tt

@@ -10,7 +10,7 @@ use Rattle.fluid_lines.specs.declared.wire.WireText.TheVariants.{In, Out}
 use Rattle.fluid_lines.specs.declared.wire.WireFault.{WireFault}
 use Rattle.fluid_lines.specs.declared.wire.WireFault.TheVariants.{Failed, NoMemory}
 use Rattle.fluid_lines.specs.Wires.{Wiring}
-use Rattle.fluid_session.specs.Sending.{Passes, IsWireCause, SendsOne, SendsAll, out_texts, ins_of, sent_one}
+use Rattle.fluid_session.specs.Sending.{Passes, IsWireCause, SendsOne, SendsAll, out_texts, ins_of}
 
 -- ---- histories
 

@@ -1,8 +1,7 @@
 -- A whole session, from its account.
-use Rattle.std.proofs.Common.{◌≡◌, ◌⊎◌, inl, inr, ℕ, ◌+◌, ◌-◌, ◌^◌, ◌<◌, ◌≤◌, Bool, true, false, List, [], ◌∷◌, ◌++◌, length, Option, Some, None, Result, Ok, Err, refl, sym, ap, subst, ◌∙◌, arith, append_assoc, append-nil, length-append, zero-add}
+use Rattle.std.proofs.Common.{◌≡◌, inl, inr, ℕ, ◌+◌, ◌-◌, ◌^◌, ◌<◌, ◌≤◌, Bool, true, false, List, [], ◌∷◌, ◌++◌, length, refl, sym, ap, subst, ◌∙◌, arith, append_assoc, append-nil, length-append, zero-add}
 use Rattle.std.specs.Option.{option_map}
 use Rattle.std.proofs.lemmas.Bool.{false≢true}
-use Rattle.fluid_turn.specs.declared.view.Numbered.{Numbered}
 use Rattle.fluid_turn.specs.Entries.{IsPrefix, made_by}
 use Rattle.fluid_turn.proofs.Lists.{prefix_refl, prefix_trans}
 use Rattle.fluid_types.specs.declared.entries.Raw.TheVariants.{Leave}
@@ -14,29 +13,27 @@ use Rattle.fluid_lane.specs.declared.steps.Step.{Step}
 use Rattle.fluid_lines.specs.Wires.{Wiring}
 use Rattle.fluid_voice.specs.States.{client_id, is_connected, leave_of, next_number}
 use Rattle.fluid_voice.specs.Replies.{is_sequenced, is_dropped, is_nacked}
-use Rattle.fluid_ends.specs.declared.fault.TalkFault.{TalkFault}
 use Rattle.fluid_talk.specs.Talking.{Knowing, Talking, Keyed, IsSound, order_of}
 use Rattle.fluid_talk.specs.Counting.{is_absorbed}
-use Rattle.fluid_talk.specs.Doing.{Did, steps_in, may_steps}
-use Rattle.fluid_talk.specs.Leaving.{Leaves}
+use Rattle.fluid_talk.specs.Doing.{steps_in, may_steps}
 use Rattle.fluid_session.specs.declared.report.SessionEnd.{SessionEnd}
 use Rattle.fluid_session.specs.declared.report.SessionEnd.TheVariants.{Closed}
 use Rattle.fluid_session.specs.declared.report.Report.{Report}
 use Rattle.fluid_session.specs.declared.tally.Tally.{Tally}
 use Rattle.fluid_session.specs.Counted.{nothing, counts_of}
 use Rattle.fluid_session.specs.Ends.{most_unread}
-use Rattle.fluid_session.specs.Events.{Event, Stand, Collection, Round, IsRound, IsReached, AreWhole, AreEvents, behind, counted_behind}
+use Rattle.fluid_session.specs.Events.{Event, Stand, Round, IsReached, AreWhole, counted_behind}
 use Rattle.fluid_session.specs.Events.Event.{brings, hears}
 use Rattle.fluid_session.specs.Running.{EndsIn, Stops}
 use Rattle.fluid_session.specs.Running.Stops.{at_end, at_long, at_receive, at_feed, at_reply, at_text, at_collection, at_count}
-use Rattle.fluid_session.specs.Lines.{MayBreakLast, GoesOn, Stretches, HasLeft, HasCounts, Joins, StaysApart, Lines, count_steps, steps_of, steps_of_round, unread_in, entered, entered_in, collected_in, AreReadBetween}
+use Rattle.fluid_session.specs.Lines.{MayBreakLast, GoesOn, Stretches, HasLeft, HasCounts, Joins, StaysApart, Lines, count_steps, steps_of, steps_of_round, unread_in, entered, entered_in, collected_in}
 use Rattle.fluid_session.specs.Whole.{Account, Serves, HasNumbers}
-use Rattle.fluid_session.proofs.Passes.{Connected, Apart, Went, AllApart, went, goes_on, stretches, slice-grows, order-prefix, found_prefix, read_between, answered_later, are_read, are_reached, sound_behind}
+use Rattle.fluid_session.proofs.Passes.{Connected, Apart, Went, went, stretches, slice-grows, order-prefix, found_prefix, read_between, answered_later, are_read, are_reached, sound_behind}
 use Rattle.fluid_session.proofs.Fronts.{sends_in_order}
 use Rattle.fluid_session.proofs.Filling.{submits, submits_later}
 use Rattle.fluid_session.proofs.Counts.{sum_in, IsSummed, IsCountOf, sum_most, sum_exact, unread_sum, sum_steps, sum_apart, sum-append, apart_counts, count_few, made_few}
 use Rattle.fluid_session.proofs.Keys.{key_on, all_beyond}
-use Rattle.fluid_session.proofs.Doorways.{Back, connected_as, last_doors}
+use Rattle.fluid_session.proofs.Doorways.{connected_as, last_doors}
 use Rattle.fluid_session.proofs.Leavings.{Halts, Closes, stops_halts, closes, quiet_whole, closed_reached, stops_few, entered-append, entered_steps, may_enter_nothing}
 
 -- ---- the last event alone may be broken

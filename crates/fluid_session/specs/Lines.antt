@@ -24,7 +24,7 @@ use Rattle.fluid_voice.specs.declared.actions.Act.TheVariants.{Connect}
 use Rattle.fluid_voice.specs.declared.ends.ActEnd.{ActEnd}
 use Rattle.fluid_voice.specs.declared.ends.ActEnd.TheVariants.{Told, FullNow, TooMany, Given}
 use Rattle.fluid_voice.specs.States.{client_id, document_name, is_connected, leave_of, next_number, number_behind}
-use Rattle.fluid_voice.specs.Heard.{acts_of, entries_in}
+use Rattle.fluid_voice.specs.Heard.{entries_in}
 use Rattle.fluid_voice.specs.Laws.{entries_under}
 use Rattle.fluid_voice.specs.Feed.{fed}
 use Rattle.fluid_voice.specs.Replies.{has_front_nack, is_sequenced, is_dropped, is_nacked}

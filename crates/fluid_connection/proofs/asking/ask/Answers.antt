@@ -1,7 +1,8 @@
-use Rattle.std.proofs.Common.{◌≡◌, Ok, refl, sym, ap, subst}
+use Rattle.std.proofs.Common.{Ok, sym, ap, subst}
 use Rattle.fluid_voice.specs.declared.actions.Act.TheVariants as act
 use Rattle.fluid_voice.specs.declared.ends.ActEnd.TheVariants.{Said}
 use Rattle.fluid_ends.specs.Asking.{is_asked_of_store}
+use Rattle.fluid_acts.specs.Parts.{DoesOnStore}
 use Rattle.fluid_doors.specs.Looking.{IsLook}
 use Rattle.fluid_connection.specs.Knowing.{knowing}
 use Rattle.fluid_connection.specs.Hearing.{AsksAs}
@@ -37,4 +38,5 @@ pub returns-in-PutObject-clause-does : goal.returns-in-PutObject-clause-does
 returns-in-PutObject-clause-does g c =
     let p = knowing c.args.door.now.name c.args.pass in
     let before = g.O.Objects.seen c.args.objects.now in let now = g.O.Objects.seen c.put_object.new.objects in
-    subst (λ a. AsksAs p p before now a c.put_object.result) (sym c.in-PutObject.is) (asked_store p before now (act.PutObject c.in-PutObject.bytes) tt c.put_object.result c.put_object.ensures)
+    subst (λ a. AsksAs p p before now a c.put_object.result) (sym c.in-PutObject.is) (asked_store p before now (act.PutObject c.in-PutObject.bytes) tt c.put_object.result
+    (subst (λ bytes. DoesOnStore (act.PutObject bytes) before now c.put_object.result) c.as_slice.ensures c.put_object.ensures))

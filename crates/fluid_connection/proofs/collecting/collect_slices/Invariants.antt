@@ -1,5 +1,4 @@
-use Rattle.std.proofs.Common.{◌≡◌, ◌<◌, ◌≤◌, length}
-use Rattle.fluid_document.specs.Entries.{most}
+use Rattle.std.proofs.Common.{◌≡◌, ◌<◌}
 use Rattle.fluid_connection.specs.Knowing.{knowing}
 use Rattle.fluid_connection.specs.Slices.{Brings}
 use Rattle.fluid_connection.proofs.collecting.collect_slices.Given as goal

@@ -1,4 +1,4 @@
-use Rattle.std.proofs.Common.{◌≡◌, true, false, Result, Err, refl, sym, ap, ◌∙◌, subst}
+use Rattle.std.proofs.Common.{◌≡◌, true, false, Err, refl, sym, ◌∙◌, subst}
 use Rattle.fluid_voice.specs.declared.actions.Act.TheVariants as act
 use Rattle.fluid_voice.specs.declared.ends.ActEnd.TheVariants.{FullNow}
 use Rattle.fluid_connection.specs.Knowing.{knowing}

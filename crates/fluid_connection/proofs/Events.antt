@@ -1,0 +1,78 @@
+-- How the messages of a slice become an event.
+use Rattle.std.proofs.Common.{◌≡◌, ◌∙◌, ℕ, zero, suc, ◌+◌, ◌^◌, ◌<◌, ◌≤◌, nat_lt, true, List, [], ◌∷◌, ◌++◌, length, Option, Some, option_map, Result, Ok, Err, IfOk, append-nil, refl, sym, ap, subst, arith}
+use Rattle.std.proofs.lemmas.Bool.Decides.{nat_tests}
+use Rattle.fluid_types.specs.declared.messages.Message.{Message}
+use Rattle.fluid_document.specs.Entries.{most}
+use Rattle.fluid_deltas.specs.declared.fault.DeltaFault.{DeltaFault}
+use Rattle.fluid_doors.specs.Collecting.{AreNext}
+use Rattle.fluid_codec.specs.declared.replies.Reply.{Reply}
+use Rattle.fluid_codec.specs.declared.replies.Reply.TheVariants.{Ops}
+use Rattle.fluid_voice.specs.Feed.{most_in_event}
+use Rattle.fluid_ends.specs.declared.fault.TalkFault.{TalkFault}
+use Rattle.fluid_ends.specs.declared.fault.TalkFault.TheVariants as talk
+use Rattle.fluid_ends.specs.Faults.{of_delta}
+use Rattle.fluid_connection.specs.declared.collecting.Slice.{Slice}
+use Rattle.fluid_connection.specs.Slices.{event_of, in_list, PutsEvent, PutsAnswer}
+
+nil_of : (ms : List Message) → length ms ≡ 0 → ms ≡ []
+nil_of [] none = refl
+nil_of (m ∷ ms) none = absurd (omega arith)
+
+pub put_none : (name : List ℕ) (next : ℕ) (ms : List Message) (old : List Reply) → length ms ≡ 0 → PutsEvent name next ms old old (record { next = next; is_last = true })
+put_none name next ms old none = record {
+  put = sym (ap (λ l. old ++ event_of name l) (nil_of ms none) ∙ append-nil old);
+  next = omega arith;
+  last = λ _. omega arith;
+}
+
+event_some : (name : List ℕ) (ms : List Message) → 0 < length ms → Ops name ms ∷ [] ≡ event_of name ms
+event_some name [] some = absurd (omega arith)
+event_some name (m ∷ ms) some = refl
+
+pub put_one : (name : List ℕ) (next : ℕ) (ms : List Message) (old new : List Reply) (s : Slice) (event : Option Reply) (document : Option (List ℕ)) → 0 < length ms → document ≡ Some name → event ≡ option_map (λ (n : List ℕ). Ops n ms) document
+    → new ≡ old ++ in_list event → s.next ≡ next + length ms → (s.is_last ≡ true → length ms < most_in_event) → PutsEvent name next ms old new s
+put_one name next ms old new s event document some named is said next_is last = record {
+  put = said ∙ ap (λ e. old ++ in_list e) (is ∙ ap (option_map (λ (n : List ℕ). Ops n ms)) named) ∙ ap (λ rs. old ++ rs) (event_some name ms some);
+  next = next_is;
+  last = last;
+}
+
+pub is_few : (n : ℕ) → nat_lt n 64 ≡ true → n < 64
+is_few n test = grind (arith, nat_tests)
+
+-- ---- what is given fits
+
+pub few_given : {V : Type 0} (messages : V → List Message) (next atmost : ℕ) (answer : Result V DeltaFault) → IfOk answer (λ v. AreNext next atmost (messages v)) → IfOk answer (λ v. length (messages v) ≤ atmost)
+few_given messages next atmost (Ok v) given = given.few
+few_given messages next atmost (Err fault) given = tt
+
+fits_by : (next count : ℕ) → next < 2 ^ 64 → (0 < count → next + count ≤ most + 1) → next + count < 2 ^ 64
+fits_by next zero fits last = omega arith
+fits_by next (suc n) fits last = let h = last (omega arith) in omega arith
+
+pub fits_given : {V : Type 0} (messages : V → List Message) (next atmost : ℕ) (answer : Result V DeltaFault) → next < 2 ^ 64 → IfOk answer (λ v. AreNext next atmost (messages v)) → IfOk answer (λ v. next + length (messages v) < 2 ^ 64)
+fits_given messages next atmost (Ok v) fits given = fits_by next (length (messages v)) fits given.last
+fits_given messages next atmost (Err fault) fits given = tt
+
+-- ---- by what the door gave
+
+module _ {V : Type 0} (messages : V → List Message) (name : List ℕ) (next : ℕ) (old new : List Reply) (answer : Result V DeltaFault) (result : Result Slice TalkFault) where
+  pub err_given : (fault : DeltaFault) (given : TalkFault) → answer ≡ Err fault → result ≡ Err given → given ≡ of_delta fault → PutsAnswer messages name next old new answer result
+  err_given fault given was is said =
+      subst (λ a. PutsAnswer messages name next old new a result) (sym was) (subst (λ r. PutsAnswer messages name next old new (Err fault) r) (sym is) said)
+
+  pub err_lost : (v : V) (given : TalkFault) → answer ≡ Ok v → result ≡ Err given → given ≡ talk.NoMemory → PutsAnswer messages name next old new answer result
+  err_lost v given was is said =
+      subst (λ a. PutsAnswer messages name next old new a result) (sym was) (subst (λ r. PutsAnswer messages name next old new (Ok v) r) (sym is) said)
+
+pub ok_none : {V : Type 0} (messages : V → List Message) (name : List ℕ) (next : ℕ) (old : List Reply) (answer : Result V DeltaFault) (v : V) → answer ≡ Ok v → length (messages v) ≡ 0
+    → PutsAnswer messages name next old old answer (Ok (record { next = next; is_last = true }))
+ok_none messages name next old answer v was none =
+    subst (λ a. PutsAnswer messages name next old old a (Ok (record { next = next; is_last = true }))) (sym was) (put_none name next (messages v) old none)
+
+pub ok_one : {V : Type 0} (messages : V → List Message) (name : List ℕ) (next count : ℕ) (old new : List Reply) (answer : Result V DeltaFault) (v : V) (event : Option Reply) (document : Option (List ℕ)) → answer ≡ Ok v
+    → count ≡ length (messages v) → (count ≡ 0 → ⊥) → document ≡ Some name → event ≡ option_map (λ (n : List ℕ). Ops n (messages v)) document → new ≡ old ++ in_list event
+    → PutsAnswer messages name next old new answer (Ok (record { next = next + count; is_last = nat_lt count 64 }))
+ok_one messages name next count old new answer v event document was counted some named is said =
+    subst (λ a. PutsAnswer messages name next old new a (Ok (record { next = next + count; is_last = nat_lt count 64 }))) (sym was)
+    (put_one name next (messages v) old new (record { next = next + count; is_last = nat_lt count 64 }) event document (omega arith) named is said (omega arith) (λ last. let few = is_few count last in omega arith))

@@ -1,4 +1,0 @@
-use Rattle.fluid_connection.proofs.connecting.split.Goals as goal
-
-pub returns : goal.returns
-returns g c = ?

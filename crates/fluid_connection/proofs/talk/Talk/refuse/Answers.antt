@@ -1,4 +1,0 @@
-use Rattle.fluid_connection.proofs.talk.Talk.refuse.Goals as goal
-
-pub returns : goal.returns
-returns g c = ?

@@ -1,0 +1,18 @@
+use Rattle.std.proofs.Common.{refl, subst}
+use Rattle.fluid_connection.specs.Talked.{Talked, talking}
+use Rattle.fluid_session.specs.Whole.{Serves}
+use Rattle.fluid_hosting.specs.Hosting.{unconnected}
+use Rattle.fluid_hosting.proofs.hosting.session.Goals as goal
+
+pub returns : goal.returns
+returns g c =
+    let serves : Serves (talking (unconnected c.args.key c.args.visit)) (talking c.converse-report.new.talk) (g.O.Objects.seen c.args.objects.now) (g.O.Objects.seen c.converse-report.new.objects) (g.W.Wire.seen c.args.wire.now) (g.W.Wire.seen c.converse-report.new.wire) c.converse-report.result =
+    subst (λ (t : Talked). Serves (talking t) (talking c.converse-report.new.talk) (g.O.Objects.seen c.args.objects.now) (g.O.Objects.seen c.converse-report.new.objects) (g.W.Wire.seen c.args.wire.now) (g.W.Wire.seen c.converse-report.new.wire) c.converse-report.result)
+    c.new-talk.ensures c.converse-report.ensures.does in
+    record {
+      left = c.converse-report.new.talk;
+      serves = serves;
+      lines = serves.lines refl;
+      key_is = c.into_parts-key.ensures.key;
+      visit_is = c.into_parts-key.ensures.visit;
+    }
