@@ -2,4 +2,3 @@ mod Grown
 mod Clients
 mod Statuses
 mod Shown
-mod Served

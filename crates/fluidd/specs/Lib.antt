@@ -2,5 +2,4 @@ pub mod Input
 pub mod Refusals
 pub mod Output
 pub mod Documents
-pub mod Served
 pub mod Tasks

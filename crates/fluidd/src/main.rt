@@ -1,7 +1,7 @@
 //! The ordering service of collaborative documents, as a program.
 //! `run` has the top call, `task` what the words ask for, `sequence` the command of that name, `document` what it keeps
 //! between two lines of its input, `refusal` why the text of a line is refused, `status` how a run ends, and `laws` what
-//! holds of the definitions. What `serve` does stands in `fluid_serve`.
+//! holds of the definitions.
 #![tactic(auto)]
 
 mod document;
@@ -12,18 +12,10 @@ pub mod sequence;
 pub mod status;
 mod task;
 #[cfg(test)]
-mod serving_tests;
-#[cfg(test)]
 mod tests;
 
-use fluid_front::ThreadSpawner;
-use fluid_io::{StdClock, StdSink, StdSource};
+use fluid_io::{StdSink, StdSource};
 use fluid_json::Text;
-use fluid_log::MemoryShelves;
-use fluid_serve::Desk;
-use fluid_service::new_shelves_are_kept;
-use fluid_socket::TcpFront;
-use fluid_store::MemoryObjects;
 use run::run;
 use status::Status;
 use std::process::ExitCode;
@@ -41,26 +33,7 @@ fn main(rt: HostRuntime) -> ExitCode {
     };
     let mut input = StdSource::new(rt.stdin());
     let mut output = StdSink::new(rt.stdout());
-    let Ok(front) = TcpFront::new(alloc, rt, StdSink::new(rt.stderr())) else {
-        return ExitCode::from(Status::NoMemory.code());
-    };
-    let shelves = MemoryShelves::new(alloc, Vec::new(alloc));
-    new_shelves_are_kept(&shelves);
-    let desk = Desk {
-        shelves,
-        objects: MemoryObjects::new(alloc, Vec::new(alloc)),
-        clock: StdClock::new(rt),
-    };
-    let (status, _desk, _front, _spawner) = run(
-        &rt,
-        alloc,
-        &words,
-        &mut input,
-        &mut output,
-        desk,
-        front,
-        ThreadSpawner::new(),
-    );
+    let status = run(&rt, alloc, &words, &mut input, &mut output);
     ExitCode::from(status)
 }
 

@@ -1,15 +1,12 @@
 //! The program over readers and writers in memory: what fails, what limits refuse, and what stays unread. What the program
 //! writes for an input and for words is among the examples, which are run outside the proofs.
 
+use crate::run::run;
 use crate::sequence::sequence_within;
-use crate::serving_tests::{front_of, run_on};
 use fluid_io::{MemorySink, MemorySource, Source};
 use fluid_json::Text;
 use std::alloc::Global;
-use std::net::Net;
 use std::process::Abort;
-use std::sync::Wait;
-use std::thread::Threads;
 
 // A join, and the line of its verdict in an empty document.
 const JOIN: &str =
@@ -320,12 +317,11 @@ fn has_written(rt: &impl Abort, sink: &MemorySink, length: usize, output: &str) 
     );
 }
 
-fn ends<R: Threads + Wait + Net + Sync + Abort>(rt: &R, alloc: Global, row: &Run) {
+fn ends(rt: &impl Abort, alloc: Global, row: &Run) {
     let words = texts(rt, alloc, row.words);
     let mut source = source(rt, alloc, row.input, row.most, row.reads);
     let mut sink = sink(rt, alloc, row.most, row.writes);
-    let front = front_of(rt, alloc, 0, &[]);
-    let status = run_on(rt, alloc, &words, &mut source, &mut sink, front, 0);
+    let status = run(rt, alloc, &words, &mut source, &mut sink);
     assert!(rt; status == row.status, "{status}");
     has_written(rt, &sink, row.length, row.output);
     drop(sink);
