@@ -103,7 +103,7 @@ impl Wire for Told {
     ghost seen = { λ w. w };
 
     fn recv<R: Wait>(&mut self, _rt: &R, _alloc: Global) -> Result<Recv, WireFault> {
-        Ok(Recv::End)
+        Err(WireFault::NoMemory)
     }
 
     fn send<R: Wait>(&mut self, _rt: &R, _alloc: Global, text: &str) -> Result<(), WireFault> {
