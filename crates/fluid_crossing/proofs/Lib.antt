@@ -1,0 +1,4 @@
+pub mod Values
+pub mod Documents
+pub mod Doors
+pub mod Services
