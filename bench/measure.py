@@ -68,13 +68,16 @@ def programs():
     return [program for program in (proved(), baseline()) if program]
 
 
-def records(clients, operations, contents, numbered=False):
-    """A file of raw records, written anew; with joins as a lane numbers them where that is asked for."""
+def records(clients, operations, contents, numbered=False, behind=None):
+    """A file of raw records, written anew; with joins as a lane numbers them where that is asked for, and with references at most
+    `behind` messages behind the order."""
     OUT.mkdir(exist_ok=True)
-    path = OUT / f"{clients}-clients-{operations}-operations-{contents}-bytes{'-numbered' if numbered else ''}.jsonl"
+    name = f"{clients}-clients-{operations}-operations-{contents}-bytes"
+    path = OUT / f"{name}{'-numbered' if numbered else ''}{'' if behind is None else f'-{behind}-behind'}.jsonl"
     with path.open("wb") as out:
         subprocess.run([TOP / "bench" / "records", "--clients", str(clients), "--operations", str(operations),
-                        "--contents", str(contents), *(["--numbered"] if numbered else [])], stdout=out, check=True)
+                        "--contents", str(contents), *(["--numbered"] if numbered else []),
+                        *([] if behind is None else ["--behind", str(behind)])], stdout=out, check=True)
     return path
 
 

@@ -40,7 +40,7 @@ use Rattle.fluid_lane.specs.Faults.{of_loading, IsCausedBy}
 use Rattle.fluid_lane.specs.Steps.{ledger, last_side, stored, AreNoted, steps}
 use Rattle.fluid_lane.specs.Standing.{Standing, IsFor, IsTold, LaneStands}
 use Rattle.fluid_lane.specs.Restarts.{IsNotBad}
-use Rattle.fluid_lane.specs.Starting.{run, leaves, takes, opening, Grew, LeavesFirst, HasLeft, HasStopped, LeavesAll, LeftSome, StartsBad, Starts}
+use Rattle.fluid_lane.specs.Starting.{run, leaves, takes, opening, Grew, LeavesFirst, HasLeft, HasStopped, LeavesAll, LeftSome, StartsBad, IsFaultOfStart, Starts}
 use Rattle.fluid_lane.proofs.Restarting.{same_ok, never_err}
 use Rattle.fluid_lane.proofs.Leaving.{standing, grew_same, grew_put, grew_roomed, grew_told}
 use Rattle.fluid_lane.proofs.Stands.{Was, told_too, for_put, still_nothing}
@@ -376,6 +376,27 @@ bad_behind moment old mid new m now CheckpointsFull opens does = absurd does
 bad_behind moment old mid new m now TooManyClients opens does = absurd does
 bad_behind moment old mid new m now (BadCheckpoint number bad) opens does = absurd does
 bad_behind moment old mid new m now (TooLarge bytes) opens does = absurd does
+
+pub named_behind : (moment : ℕ) (mid new : Keeping) (m now : InMemory) (fault : LaneFault) → LeavesAll moment mid new m now (Err fault) → IsFaultOfStart fault
+named_behind moment mid new m now (LogFailed note) does = tt
+named_behind moment mid new m now (Full entries) does = absurd does
+named_behind moment mid new m now (BadRecord place) does = tt
+named_behind moment mid new m now (NoCheckpoint asked stored) does = absurd does
+named_behind moment mid new m now CheckpointsFull does = absurd does
+named_behind moment mid new m now TooManyClients does = absurd does
+named_behind moment mid new m now (DeltaFailed note) does = tt
+named_behind moment mid new m now NoMemory does = tt
+named_behind moment mid new m now (BadCheckpoint number fault) does = tt
+named_behind moment mid new m now (TooLarge bytes) does = absurd does
+named_behind moment mid new m now Worn does = tt
+
+pub named_reads : (fault : LoadFault) → IsFaultOfStart (of_loading fault)
+named_reads (loading.LogFailed note) = tt
+named_reads (loading.DeltaFailed note) = tt
+named_reads loading.NoMemory = tt
+named_reads (loading.BadRecord place) = tt
+named_reads (loading.BadCheckpoint number fault) = tt
+named_reads loading.Worn = tt
 
 pub bad_reads : (told : Option Content) (from : Option ℕ) (fault : LoadFault) → Tells told (λ content. IsBadAs (loaded content from) fault) → Tells told (λ content. StartsBad from content (of_loading fault))
 bad_reads told from (loading.LogFailed note) is = tells_each told _ (λ c. tt)

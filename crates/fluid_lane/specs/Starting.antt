@@ -165,10 +165,22 @@ StartsBad from content (BadCheckpoint number fault) = loaded content from ≡ Er
 StartsBad from content Worn = (loaded content from ≡ Err loading.Worn) ⊎ HasNoRoom from content
 StartsBad from content other = ⊥
 
+-- whatever the keeper tells, a start has no other fault: the keeper failed, memory was wanting, what was read is refused, or the numbers
+-- don't suffice
+abbrev pub IsFaultOfStart : LaneFault → Type 0
+IsFaultOfStart (LogFailed note) = ⊤
+IsFaultOfStart (DeltaFailed note) = ⊤
+IsFaultOfStart NoMemory = ⊤
+IsFaultOfStart (BadRecord place) = ⊤
+IsFaultOfStart (BadCheckpoint number fault) = ⊤
+IsFaultOfStart Worn = ⊤
+IsFaultOfStart other = ⊥
+
 -- nothing that a kept keeper gives is refused. Records of leaves and deltas may have been added to the keeper
 pub record StartsPartly (old new : Keeping) (moment : ℕ) (fault : LaneFault) : Type 0 where
   pub left : (l : Ledger) → Tells old.content (IsKept false l) → Tells new.content (LeftSome moment l)
   pub never : (l : Ledger) → Tells old.content (IsKept false l) → Tells old.content (λ _. IsNotBad fault)
   pub bad : Tells old.content (λ content. StartsBad (newest old.checkpoints) content fault)
+  pub named : IsFaultOfStart fault
   pub cause : IsCausedBy old.faults new.faults fault
   pub grew : (more : List (List ℕ)) × Grew more old new

@@ -120,15 +120,15 @@ noted_earlier first before now note le is = record { first = omega (arith, le, i
 
 for_earlier : (first before now : ℕ) (fault : LaneFault) → first ≤ before → IsRisenFor before now fault → IsRisenFor first now fault
 for_earlier first before now (lane.LogFailed note) le is = (rose_earlier first before now le is.0, is.1)
-for_earlier first before now (lane.Full entries) le is = tt
+for_earlier first before now (lane.Full entries) le is = absurd is
 for_earlier first before now (lane.BadRecord place) le is = tt
-for_earlier first before now (lane.NoCheckpoint asked stored) le is = tt
-for_earlier first before now lane.CheckpointsFull le is = tt
-for_earlier first before now lane.TooManyClients le is = tt
+for_earlier first before now (lane.NoCheckpoint asked stored) le is = absurd is
+for_earlier first before now lane.CheckpointsFull le is = absurd is
+for_earlier first before now lane.TooManyClients le is = absurd is
 for_earlier first before now (lane.DeltaFailed note) le is = (rose_earlier first before now le is.0, is.1)
-for_earlier first before now lane.NoMemory le is = is
+for_earlier first before now lane.NoMemory le is = absurd is
 for_earlier first before now (lane.BadCheckpoint number bad) le is = tt
-for_earlier first before now (lane.TooLarge bytes) le is = tt
+for_earlier first before now (lane.TooLarge bytes) le is = absurd is
 for_earlier first before now lane.Worn le is = tt
 
 pub risen_since : {A : Type 0} (name : List ℕ) (moment : ℕ) (old closed new : Opened) (result : Result A DoorFault) → old.shelving.faults ≤ closed.shelving.faults → Uses name moment closed new result

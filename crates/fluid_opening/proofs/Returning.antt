@@ -14,6 +14,7 @@ use Rattle.fluid_lane.specs.declared.fault.LaneFault.{LaneFault}
 use Rattle.fluid_lane.specs.declared.fault.LaneFault.TheVariants as lane
 use Rattle.fluid_lane.specs.Faults.{IsCausedBy}
 use Rattle.fluid_lane.specs.Standing.{Standing}
+use Rattle.fluid_lane.specs.Starting.{IsFaultOfStart}
 use Rattle.fluid_opening.specs.declared.fault.DoorFault.{DoorFault}
 use Rattle.fluid_opening.specs.declared.fault.DoorFault.TheVariants.{ShelfFailed, Lane, TooManyDocuments, NoMemory}
 use Rattle.fluid_opening.specs.Faults.{of_starting}
@@ -89,23 +90,23 @@ module _ (limits : Limits) (name : List ℕ) (moment : ℕ) (old between new : S
   memory : NoMemory ≡ Lane lane.NoMemory → ⊥
   memory same = cc
 
-  risen_for : (fault : LaneFault) (left : Keeping) → of_starting fault ≡ Lane fault → old.faults ≤ between.faults → IsCausedBy keeper.faults left.faults fault → PutsBack name between new left
+  risen_for : (fault : LaneFault) (left : Keeping) → of_starting fault ≡ Lane fault → IsFaultOfStart fault → old.faults ≤ between.faults → IsCausedBy keeper.faults left.faults fault → PutsBack name between new left
       → IsRisenFor old.faults new.faults fault
-  risen_for (lane.LogFailed note) left own le cause back = rose_back note left le cause back
-  risen_for (lane.Full entries) left own le cause back = tt
-  risen_for (lane.BadRecord place) left own le cause back = tt
-  risen_for (lane.NoCheckpoint asked stored) left own le cause back = tt
-  risen_for lane.CheckpointsFull left own le cause back = tt
-  risen_for lane.TooManyClients left own le cause back = tt
-  risen_for (lane.DeltaFailed note) left own le cause back = rose_back note left le cause back
-  risen_for lane.NoMemory left own le cause back = absurd (memory own)
-  risen_for (lane.BadCheckpoint number bad) left own le cause back = tt
-  risen_for (lane.TooLarge bytes) left own le cause back = tt
-  risen_for lane.Worn left own le cause back = tt
+  risen_for (lane.LogFailed note) left own named le cause back = rose_back note left le cause back
+  risen_for (lane.Full entries) left own named le cause back = absurd named
+  risen_for (lane.BadRecord place) left own named le cause back = tt
+  risen_for (lane.NoCheckpoint asked stored) left own named le cause back = absurd named
+  risen_for lane.CheckpointsFull left own named le cause back = absurd named
+  risen_for lane.TooManyClients left own named le cause back = absurd named
+  risen_for (lane.DeltaFailed note) left own named le cause back = rose_back note left le cause back
+  risen_for lane.NoMemory left own named le cause back = absurd (memory own)
+  risen_for (lane.BadCheckpoint number bad) left own named le cause back = tt
+  risen_for (lane.TooLarge bytes) left own named le cause back = absurd named
+  risen_for lane.Worn left own named le cause back = tt
 
   pub risen : (result : Result Standing DoorFault) → old.faults ≤ between.faults → StartDoes limits name moment keeper between new result → IfErr result (IsRisen old.faults new.faults)
   risen (Ok lane) le does = tt
   risen (Err (ShelfFailed note)) le does = absurd does
-  risen (Err (Lane fault)) le does = risen_for fault does.1.left does.0 le does.1.partly.cause does.1.back
+  risen (Err (Lane fault)) le does = risen_for fault does.1.left does.0 does.1.partly.named le does.1.partly.cause does.1.back
   risen (Err (TooManyDocuments count)) le does = absurd does
   risen (Err NoMemory) le does = tt

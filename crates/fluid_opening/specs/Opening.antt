@@ -57,12 +57,15 @@ OpenDoes limits name moment old new (Err NoMemory) = StaysPut old new ⊎ StartF
 
 -- ---- causes
 
--- where the keeper failed, the count of the shelves to which it came back rose too, to at least what the note tells
+-- no start has another fault; where the keeper failed, the count of the shelves to which it came back rose too, to at least what the note
+-- tells
 abbrev pub IsRisenFor : (before now : ℕ) → LaneFault → Type 0
 IsRisenFor before now (lane.LogFailed note) = Rose before now × (note.after ≤ now)
 IsRisenFor before now (lane.DeltaFailed note) = Rose before now × (note.after ≤ now)
-IsRisenFor before now lane.NoMemory = ⊥
-IsRisenFor before now fault = ⊤
+IsRisenFor before now (lane.BadRecord place) = ⊤
+IsRisenFor before now (lane.BadCheckpoint number bad) = ⊤
+IsRisenFor before now lane.Worn = ⊤
+IsRisenFor before now fault = ⊥
 
 -- a fault of the shelves or of a keeper comes only where the shelves' count rose
 abbrev pub IsRisen : (before now : ℕ) → DoorFault → Type 0

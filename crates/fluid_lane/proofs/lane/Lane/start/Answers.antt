@@ -7,7 +7,7 @@ use Rattle.fluid_lane.proofs.Ids.{named_nobody}
 use Rattle.fluid_lane.proofs.Caused.{caused_earlier}
 use Rattle.fluid_lane.proofs.Flushing.{read_kept}
 use Rattle.fluid_lane.proofs.Recorded.{length-records}
-use Rattle.fluid_lane.proofs.Beginning.{Opens, starts, left_some, left_nobody, never_behind, never_reads, bad_behind, bad_reads, all_grew, grew_read, caused_by}
+use Rattle.fluid_lane.proofs.Beginning.{Opens, starts, left_some, left_nobody, never_behind, never_reads, bad_behind, named_behind, bad_reads, named_reads, all_grew, grew_read, caused_by}
 use Rattle.fluid_lane.proofs.lane.Lane.start.Goals as goal
 
 pub begun-requires : goal.begun-requires
@@ -49,6 +49,7 @@ returns-in-Err-dismiss_all-clause-err g c =
       left = λ l kept. left_some c.args.limits c.args.moment old (g.K.Keeper.seen c.load.new.keeper) (g.K.Keeper.seen c.dismiss_all.new.keeper) c.in-Ok.document c.dismiss_all.new.document l c.in-Err-dismiss_all.fault opens d.does kept;
       never = λ l kept. tells_each old.content _ (λ content. never_behind c.args.moment _ _ _ _ c.in-Err-dismiss_all.fault d.does);
       bad = bad_behind c.args.moment old (g.K.Keeper.seen c.load.new.keeper) _ c.in-Ok.document _ c.in-Err-dismiss_all.fault opens d.does;
+      named = named_behind c.args.moment _ _ _ _ c.in-Err-dismiss_all.fault d.does;
       cause = caused_earlier _ _ _ c.in-Err-dismiss_all.fault e.later d.cause;
       grew = all_grew c.args.moment old (g.K.Keeper.seen c.load.new.keeper) _ c.in-Ok.document _ c.in-Err-dismiss_all.fault opens d.does;
     }
@@ -64,6 +65,7 @@ returns-in-Err-clause-err g c =
       left = λ l kept. left_nobody c.args.moment _ l (read_kept (λ d. d) l (Err c.in-Err.fault) _ (e.kept l kept));
       never = λ l kept. never_reads c.kept_is_loaded.ensures.checkpoints old l c.in-Err.fault (g.K.Keeper.sized c.args.keeper) loads kept;
       bad = bad_reads old.content (newest old.checkpoints) c.in-Err.fault loads;
+      named = named_reads c.in-Err.fault;
       cause = caused_by _ _ _ c.in-Err.fault e.cause;
       grew = grew_read _ _ e.puts;
     })
