@@ -252,7 +252,7 @@ module _ (s t : Talking) (before : Storing) (text : List ℕ) (moment : ℕ) (to
       some_none same = cc
 
       kept : KeepsKey s.key s.key
-      kept = record { same = record { told = refl; number = refl }; seen = ([], sym (append-nil s.key.seen)); mine = refl }
+      kept = record { same = record { limits = refl; told = refl; number = refl }; seen = ([], sym (append-nil s.key.seen)); mine = refl }
 
       keeps : (acts : List Act) → KeyBehind acts [] (Some NoMemory) s.key s.key
       keeps [] = kept

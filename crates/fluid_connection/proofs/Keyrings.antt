@@ -8,11 +8,11 @@ use Rattle.fluid_opening.specs.declared.fault.DoorFault.{DoorFault}
 use Rattle.fluid_opening.specs.declared.fault.DoorFault.TheVariants.{ShelfFailed, Lane, TooManyDocuments, NoMemory}
 use Rattle.fluid_opening.specs.Steps.{is_opened, is_worn, is_full, refusal_by, refusal, visit_steps_by, visit_steps, IsAnswerBy}
 use Rattle.fluid_service.specs.Visiting.{Visiting}
-use Rattle.fluid_service.specs.Keys.{AKey, Passes, Reaches}
-use Rattle.fluid_talk.specs.Talking.{Keyed}
+use Rattle.fluid_service.specs.Keys.{AKey, Passes, IsVisitOf, Reaches}
+use Rattle.fluid_talk.specs.Talking.{Keyed, IsServed}
 use Rattle.fluid_talk.specs.Shelves.{KeepsKey, AsksFor, IsRefusedDoor}
 use Rattle.fluid_connection.specs.Knowing.{keyed}
-use Rattle.fluid_connection.specs.Talked.{pass_of}
+use Rattle.fluid_connection.specs.Talked.{pass_of, visited}
 use Rattle.fluid_connection.specs.Connecting.{Splits, ReachesBy}
 
 -- an answer without its visit
@@ -56,7 +56,7 @@ module _ (k m : AKey) (name : List ℕ) (r : Result Visiting DoorFault) (h : Pas
   asked =
       let same = steps_shown (is_opened name (entries h.before)) (refusal (entries h.before)) name r in
       record {
-        same = record { told = ap (λ t. t.fixed.told) h.turn; number = h.number };
+        same = record { limits = ap (λ t. t.fixed.limits) h.turn; told = ap (λ t. t.fixed.told) h.turn; number = h.number };
         before = h.before;
         begins = h.begins;
         seen = h.seen ∙ ap (λ l. h.before ++ map (by_seat k.number) l) same;
@@ -115,13 +115,19 @@ other_name name (Some visit) split same = absurd (split (some_same same))
     some_same : ◌≡◌ {A = Option (List ℕ)} (Some visit.door.name) (Some name) → visit.door.name ≡ name
     some_same same = cc
 
+visit_served : (k : AKey) (name : List ℕ) (visit : Visiting) → IsVisitOf k.turn.fixed name visit → IsServed (keyed k) (visited visit)
+visit_served k name visit is = record {
+  limits = ap (λ t. t.fixed.limits) is.together ∙ is.served.limits;
+  told = λ told. ap (λ t. t.fixed.told) is.together ∙ is.served.told told;
+}
+
 pub reached_service : (k m : AKey) (name : List ℕ) (handed : Option Visiting) (r : Result Visiting DoorFault) → Splits name handed None
     → Passes k m (visit_steps name r) (Reaches k.turn.fixed name r) → ReachesBy name handed k m r
 reached_service k m name handed (Ok visit) split h = record {
   named = h.says.visit.name_is;
   new = h.says.visit.new;
   begins = λ same. other_name name handed split same;
-  key = inr (asked k m name (Ok visit) h);
+  through = inr (record { opens = asked k m name (Ok visit) h; served = visit_served k name visit h.says.visit });
 }
 reached_service k m name handed (Err (ShelfFailed note)) split h = asked k m name (Err (ShelfFailed note)) h
 reached_service k m name handed (Err (Lane fault)) split h = asked k m name (Err (Lane fault)) h
@@ -135,11 +141,11 @@ reached_service k m name handed (Err NoMemory) split h =
 pub reached_handed : (k : AKey) (name : List ℕ) (handed : Option Visiting) (visit : Visiting) → Splits name handed (Some (Ok visit)) → ReachesBy name handed k k (Ok visit)
 reached_handed k name None visit split = absurd split
 reached_handed k name (Some first) visit split = record {
-  named = ap (λ d. d.name) split.1.door ∙ split.0;
-  new = split.1.pass.1;
-  begins = λ same. ([], split.1.pass.0 ∙ sym (append-nil first.pass.seen));
-  key = inl (ap Some split.0, refl);
+  named = ap (λ d. d.name) split.1.0.door ∙ split.0;
+  new = split.1.0.pass.1;
+  begins = λ same. ([], split.1.0.pass.0 ∙ sym (append-nil first.pass.seen));
+  through = inl (record { named = ap Some split.0; limits = ap (λ t. t.fixed.limits) split.1.1; told = ap (λ t. t.fixed.told) split.1.1; key = refl });
 }
 
 pub reached_nothing : (k : AKey) (name : List ℕ) (handed : Option Visiting) → ReachesBy name handed k k (Err NoMemory)
-reached_nothing k name handed = record { same = record { told = refl; number = refl }; seen = ([], sym (append-nil k.seen)); mine = refl }
+reached_nothing k name handed = record { same = record { limits = refl; told = refl; number = refl }; seen = ([], sym (append-nil k.seen)); mine = refl }

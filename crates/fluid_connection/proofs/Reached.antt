@@ -25,14 +25,14 @@ use Rattle.fluid_voice.specs.Replies.{connect_replies, connect_state, entered_ve
 use Rattle.fluid_ends.specs.declared.fault.TalkFault.{TalkFault}
 use Rattle.fluid_ends.specs.declared.fault.TalkFault.TheVariants.{Door, Lane, Delta, Store, NoMemory}
 use Rattle.fluid_ends.specs.Adding.{AddsBy}
-use Rattle.fluid_talk.specs.Talking.{Knowing, Talking, Goes}
+use Rattle.fluid_talk.specs.Talking.{Knowing, Keyed, Talking, IsSamePass, Goes}
 use Rattle.fluid_talk.specs.Doing.{Did, steps_in, may_steps, seen_behind, IsSeenLast, AreFound, AreAnswered}
 use Rattle.fluid_talk.specs.Causes.{IsDoorFault, IsNoMemory, IsCauseOf, IsCauseAt}
-use Rattle.fluid_talk.specs.Shelves.{KeepsKey, IsRefusedDoor}
+use Rattle.fluid_talk.specs.Shelves.{KeepsKey, IsRefusedDoor, IsReachedBy}
 use Rattle.fluid_talk.specs.Hearing.{AreReplies, KeyBehind, IsConnectEnd, IsFaultOf, Reaches}
 use Rattle.fluid_connection.specs.declared.connecting.Connect.{Connect}
 use Rattle.fluid_connection.specs.declared.telling.Told.{Told as ATold}
-use Rattle.fluid_connection.specs.Knowing.{knowing}
+use Rattle.fluid_connection.specs.Knowing.{knowing, keyed}
 use Rattle.fluid_connection.specs.Talked.{Talked, pass_of, talking}
 use Rattle.fluid_connection.specs.Telling.{no_counts, SaysOne}
 use Rattle.fluid_connection.specs.Entering.{did_of, DoesOne, FailsOne}
@@ -167,7 +167,7 @@ module _ (s t : Talking) (c : Connect) (told : ATold) (was : s.voice ≡ Fresh) 
 module _ (s t : Talking) (acts : List Act) (told : ATold) (off : is_connected s.voice ≡ false) (fresh : is_used s.voice ≡ false)
     (voice : t.voice ≡ s.voice) (pass : t.pass ≡ s.pass) (handed : t.handed ≡ s.handed) (key : t.key ≡ s.key) where
   keeps : KeepsKey s.key t.key
-  keeps = subst (λ k. KeepsKey s.key k) (sym key) (record { same = record { told = refl; number = refl }; seen = ([], sym (append-nil s.key.seen)); mine = refl })
+  keeps = subst (λ k. KeepsKey s.key k) (sym key) (record { same = record { limits = refl; told = refl; number = refl }; seen = ([], sym (append-nil s.key.seen)); mine = refl })
 
   pub apart_none : acts ≡ [] → told.replies.items ≡ [] → told.counts ≡ no_counts → HearsOther s t acts told None
   apart_none none replies counts = subst (λ l. HearsOther s t l told None) (sym none) (record {
@@ -238,6 +238,12 @@ connect_fits acts c one fit = λ n few.
 
 -- ---- a door was reached
 
+-- the pass that goes on is one of the same document
+reached_on : (name : List ℕ) (handed p q : Knowing) (k m : Keyed) → IsSamePass p q → IsReachedBy name handed p k m → IsReachedBy name handed q k m
+reached_on name handed p q k m same (inl splits) = inl (record { named = splits.named; limits = same.limits ∙ splits.limits; told = same.told ∙ splits.told; key = splits.key })
+reached_on name handed p q k m same (inr opens) =
+    inr (record { opens = opens.opens; served = record { limits = same.limits ∙ opens.served.limits; told = λ told. same.told ∙ opens.served.told told } })
+
 module _ (old new : Talked) (c : Connect) (visit now : Visiting) (told : ATold) (was : old.voice ≡ Fresh) (reached : ReachesVisit c.name old.handed old.key new.key visit)
     (visit_is : new.visit ≡ Some now) (handed : new.handed ≡ (if is_connected new.voice then None else old.handed)) where
   abbrev P : Knowing
@@ -267,7 +273,7 @@ module _ (old new : Talked) (c : Connect) (visit now : Visiting) (told : ATold) 
     mine = ap (λ k. k.mine) passes ∙ goes.mine ∙ ap (λ l. l ++ Steps done fault) reached.new;
     nothing = nothing;
     handed = still_handed;
-    key = reached.key;
+    through = subst (λ k. IsReachedBy c.name (pass_of old.handed) k (keyed old.key) (keyed new.key)) (sym passes) (reached_on c.name (pass_of old.handed) P Q (keyed old.key) (keyed new.key) goes.same reached.through);
   }
 
   -- the document answered

@@ -24,11 +24,11 @@ use Rattle.fluid_ends.specs.declared.fault.TalkFault.{TalkFault}
 use Rattle.fluid_ends.specs.declared.fault.TalkFault.TheVariants as talk
 use Rattle.fluid_talk.specs.Talking.{Knowing, number_behind_last}
 use Rattle.fluid_talk.specs.Hearing.{IsConnectEnd, IsFaultOf}
-use Rattle.fluid_talk.specs.Shelves.{KeepsKey, OpensFor, IsRefusedDoor}
+use Rattle.fluid_talk.specs.Shelves.{KeepsKey, IsRefusedDoor, IsReachedBy}
 use Rattle.fluid_connection.specs.declared.connecting.Connect.{Connect}
 use Rattle.fluid_connection.specs.declared.telling.Told.{Told}
 use Rattle.fluid_connection.specs.Knowing.{knowing, keyed}
-use Rattle.fluid_connection.specs.Talked.{Talked, pass_of}
+use Rattle.fluid_connection.specs.Talked.{Talked, pass_of, visited}
 use Rattle.fluid_connection.specs.Entering.{DoesAs}
 use Rattle.fluid_connection.specs.Telling.{no_counts}
 
@@ -47,12 +47,12 @@ FitsJoin connect = (n : ℕ) → n ≤ most → Fits (Join (entry_name n) connec
 
 -- ---- the visit that was handed in, and the service
 
--- the visit that was handed in is split where it is one of the document of this name
+-- the visit that was handed in is split where it is one of the document of this name: the second one is of the same turn
 abbrev pub Splits : List ℕ → Option Visiting → Option (Result Visiting Refused) → Type 0
 Splits name None None = ⊤
 Splits name None (Some result) = ⊥
 Splits name (Some visit) None = visit.door.name ≡ name → ⊥
-Splits name (Some visit) (Some (Ok second)) = (visit.door.name ≡ name) × IsSplitOf visit second
+Splits name (Some visit) (Some (Ok second)) = (visit.door.name ≡ name) × (IsSplitOf visit second × (second.pass.turn ≡ visit.pass.turn))
 Splits name (Some visit) (Some (Err refused)) = visit.door.name ≡ name
 
 -- a visit of the document: a split of the one that was handed in, which has seen as much, or one of the service, for which the key was
@@ -61,7 +61,7 @@ pub record ReachesVisit (name : List ℕ) (handed : Option Visiting) (k m : AKey
   pub named : visit.door.name ≡ name
   pub new : visit.pass.mine ≡ []
   pub begins : (pass_of handed).name ≡ Some name → IsPrefix (pass_of handed).seen visit.pass.seen
-  pub key : (((pass_of handed).name ≡ Some name) × (keyed m ≡ keyed k)) ⊎ OpensFor name (keyed k) (keyed m)
+  pub through : IsReachedBy name (pass_of handed) (visited visit) (keyed k) (keyed m)
 
 abbrev pub ReachesBy : List ℕ → Option Visiting → AKey → AKey → Result Visiting DoorFault → Type 0
 ReachesBy name handed k m (Ok visit) = ReachesVisit name handed k m visit

@@ -27,4 +27,4 @@ knowing name pass = record {
 }
 
 abbrev pub keyed : AKey → Keyed
-keyed key = record { told = key.turn.fixed.told; number = key.number; seen = key.seen; mine = key.mine }
+keyed key = record { limits = key.turn.fixed.limits; told = key.turn.fixed.told; number = key.number; seen = key.seen; mine = key.mine }

@@ -164,6 +164,7 @@ fn split<K: Keeper>(
     match handed {
         Some(visit) => {
             if *visit.door().name() == *name {
+                visit.know();
                 return Some(visit.fork());
             }
             None

@@ -6,7 +6,9 @@ use Rattle.fluid_lines.specs.Wires.{Wiring}
 use Rattle.fluid_voice.specs.declared.states.VoiceState.TheVariants.{Fresh}
 use Rattle.fluid_service.specs.Visiting.{Visiting}
 use Rattle.fluid_service.specs.Keys.{AKey}
-use Rattle.fluid_connection.specs.Talked.{Talked, talking}
+use Rattle.fluid_talk.specs.Talking.{MayBeServed}
+use Rattle.fluid_connection.specs.Knowing.{keyed}
+use Rattle.fluid_connection.specs.Talked.{Talked, pass_of, talking}
 use Rattle.fluid_session.specs.declared.report.Report.{Report}
 use Rattle.fluid_session.specs.Lines.{Lines}
 use Rattle.fluid_session.specs.Whole.{Serves}
@@ -23,3 +25,5 @@ pub record Hosts (key : AKey) (visit : Option Visiting) (before now : Storing) (
   pub lines : Lines (talking (unconnected key visit)) serves.account.runs.behind_them (talking left) serves.account.moment report serves.account.runs.events
   pub key_is : key_back ≡ left.key
   pub visit_is : visit_back ≡ option_or left.visit left.handed
+  -- the visit is one of the service's documents, where the one was so that was handed in
+  pub served : MayBeServed (keyed key) (pass_of visit) → MayBeServed (keyed key) (pass_of visit_back)

@@ -28,7 +28,8 @@ pub fn session<R: Wait, B: Shelves, O: Objects, W: Wire, C: Clock>(
 where
     B::K: Drop,
     requires key { key.turn ≡ service.now }
-    ensures { Hosts key visit (O.seen objects.old) (O.seen objects.new) (W.seen wire.old) (W.seen wire.new) result.0 result.1 result.2 }
+    ensures key { result.1.turn ≡ service.now }
+    ensures does { Hosts key visit (O.seen objects.old) (O.seen objects.new) (W.seen wire.old) (W.seen wire.new) result.0 result.1 result.2 }
 {
     let mut talk = Talk::new(key, visit);
     let report = converse(rt, alloc, service, objects, wire, clock, &mut talk);

@@ -14,11 +14,11 @@ fed-append : (a b : List Reply) → fed (a ++ b) ≡ fed a ++ fed b
 fed-append [] b = refl
 fed-append (reply ∷ a) b = ap (λ l. brought reply ++ l) (fed-append a b) ∙ sym (append_assoc (brought reply) (fed a) (fed b))
 
-sent_front : (result : Result (Unit {0}) WireFault) (sent replies : List Reply) → IsSent result sent replies → IsPrefix sent replies
+pub sent_front : (result : Result (Unit {0}) WireFault) (sent replies : List Reply) → IsSent result sent replies → IsPrefix sent replies
 sent_front (Ok done) sent replies same = subst (λ l. IsPrefix l replies) (sym same) (prefix_refl replies)
 sent_front (Err fault) sent replies front = front
 
-sent_whole : (result : Result (Unit {0}) WireFault) (sent replies : List Reply) → result ≡ Ok tt → IsSent result sent replies → sent ≡ replies
+pub sent_whole : (result : Result (Unit {0}) WireFault) (sent replies : List Reply) → result ≡ Ok tt → IsSent result sent replies → sent ≡ replies
 sent_whole result sent replies well is = subst (λ r. IsSent r sent replies) well is
 
 fed_front : (a b : List Reply) → IsPrefix a b → IsPrefix (fed a) (fed b)

@@ -69,9 +69,9 @@ hears_key r is = by (is_connected r.from.voice) refl
   where
     reach : (reached : Option (List ℕ)) → ReachesBy reached r.from r.to r.before (acts_of r.from.voice r.text r.moment) r.done r.heard.fault → IsPrefix r.from.key.seen r.to.key.seen
     reach None away = key_behind (acts_of r.from.voice r.text r.moment) r.done r.heard.fault r.from.key r.to.key away.key
-    reach (Some name) reaches = elim reaches.key [
-      | inl handed ↦ keeps_on r.from.key r.to.key handed.1
-      | inr opens ↦ asks_on name (Ok tt) r.from.key r.to.key opens
+    reach (Some name) reaches = elim reaches.through [
+      | inl splits ↦ keeps_on r.from.key r.to.key splits.key
+      | inr door ↦ asks_on name (Ok tt) r.from.key r.to.key door.opens
     ]
 
     by : (b : Bool) → is_connected r.from.voice ≡ b → IsPrefix r.from.key.seen r.to.key.seen

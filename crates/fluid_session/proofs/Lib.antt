@@ -8,5 +8,7 @@ pub mod Counts
 pub mod Keys
 pub mod Doorways
 pub mod Leavings
+pub mod Nacking
+pub mod Serving
 pub mod Wholly
 pub mod Completed

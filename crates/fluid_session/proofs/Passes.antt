@@ -80,7 +80,7 @@ with_next-client to Used = refl
 goes_on-refl : (t : Talking) → is_connected t.voice ≡ true → GoesOn t t []
 goes_on-refl t joined = record { still = joined; document = refl; client = refl; goes = goes_refl t.pass; key = refl }
 
-brings_on : (c : Collection) → is_connected c.from.voice ≡ true → IsCollection c → GoesOn c.from c.to (brings c ∷ [])
+pub brings_on : (c : Collection) → is_connected c.from.voice ≡ true → IsCollection c → GoesOn c.from c.to (brings c ∷ [])
 brings_on c joined is =
     let feeds : Feeds c.from c.to c.given = is.collects.connected joined in
     record {
@@ -95,7 +95,7 @@ brings_on c joined is =
     is_some_name None = false
     is_some_name (Some name) = true
 
-hears_on : (r : Round) → is_connected r.from.voice ≡ true → IsRound r → GoesOn r.from r.to (hears r ∷ [])
+pub hears_on : (r : Round) → is_connected r.from.voice ≡ true → IsRound r → GoesOn r.from r.to (hears r ∷ [])
 hears_on r joined is =
     let heard : HearsConnected r.from r.to r.before r.done r.heard.fault = is.hears_it.does.connected joined in
     record {

@@ -30,6 +30,8 @@ use Rattle.fluid_session.specs.Lines.{MayBreakLast, GoesOn, Stretches, HasLeft, 
 use Rattle.fluid_session.specs.Whole.{Account, Serves, HasNumbers}
 use Rattle.fluid_session.proofs.Passes.{Connected, Apart, Went, went, stretches, slice-grows, order-prefix, found_prefix, read_between, answered_later, are_read, are_reached, sound_behind}
 use Rattle.fluid_session.proofs.Fronts.{sends_in_order}
+use Rattle.fluid_session.proofs.Nacking.{nacks_in_order}
+use Rattle.fluid_session.proofs.Serving.{served_behind}
 use Rattle.fluid_session.proofs.Filling.{submits, submits_later}
 use Rattle.fluid_session.proofs.Counts.{sum_in, IsSummed, IsCountOf, sum_most, sum_exact, unread_sum, sum_steps, sum_apart, sum-append, apart_counts, count_few, made_few}
 use Rattle.fluid_session.proofs.Keys.{key_on, all_beyond}
@@ -175,6 +177,7 @@ joins s u t moment report tally events end j may closes numbers counted few clos
       leave = subst (λ o. HasLeft o closes.left u.pass report.end) (leave_is (on.client)) closes.leave;
       unfed = j.unfed;
       feed = λ told. feed_later on sound closes (stretches j.later start t j.connected j.is.sound (sym told_is ∙ told) j.more) (sym closes.goes.same.told ∙ told) j.is.sound j.connected;
+      nacks = nacks_in_order j.later start t j.connected j.more later_may;
       reach = are_reached j.later start t j.more;
       closed = closed;
       first = j.reaches.first;
@@ -252,6 +255,7 @@ serves s u before now old new report account = record { account = account; lines
     lines_of apart = record {
       joins = λ joined. split (went account.runs.events from to apart account.runs.are) joined;
       apart = λ still. stay (went account.runs.events from to apart account.runs.are) still;
+      served = served_behind account.runs.events from to u account.runs.are closing.goes.same;
       key = prefix_trans s.key.seen account.runs.behind_them.key.seen u.key.seen (key_on account.runs.events from to account.runs.are) key;
       beyond = all_beyond account.runs.events from to u.key account.runs.are key account.ends.sound.key_few;
       doors = last_doors account.runs.events from to u account.runs.are (record { name = closing.goes.same.name; same = closing.same });

@@ -1,5 +1,5 @@
 -- What a session amounts to, read off its events.
-use Rattle.std.specs.Prelude.{◌≡◌, ◌⊎◌, ◌≤◌, ⊤, ℕ, ◌+◌, Bool, true, false, if◌then◌else◌, List, [], ◌∷◌, ◌++◌, length, Option, Some, None}
+use Rattle.std.specs.Prelude.{◌≡◌, ◌⊎◌, ◌≤◌, ⊤, ℕ, ◌+◌, Bool, true, false, if◌then◌else◌, List, [], ◌∷◌, ◌++◌, length, Option, Some, None, is_some}
 use Rattle.fluid_json.specs.Tree.{Tree}
 use Rattle.fluid_turn.specs.declared.view.Numbered.{Numbered}
 use Rattle.fluid_turn.specs.Entries.{IsPrefix}
@@ -7,8 +7,10 @@ use Rattle.fluid_types.specs.declared.entries.Raw.{Raw}
 use Rattle.fluid_types.specs.declared.entries.Raw.TheVariants.{Join}
 use Rattle.fluid_types.specs.declared.entries.Scopes.{Scopes}
 use Rattle.fluid_types.specs.declared.messages.Message.{Message}
+use Rattle.fluid_types.specs.declared.nacks.Nack.{Nack}
 use Rattle.fluid_types.specs.declared.verdicts.Verdict.{Verdict}
 use Rattle.fluid_types.specs.declared.verdicts.Verdict.TheVariants.{Sequenced}
+use Rattle.fluid_types.specs.declared.verdicts.Verdict.TheVariants as verdict
 use Rattle.fluid_rules.specs.Rules.{joined}
 use Rattle.fluid_rules.specs.Counted.{counted}
 use Rattle.fluid_document.specs.Entries.{most}
@@ -17,6 +19,7 @@ use Rattle.fluid_lane.specs.declared.steps.Side.TheVariants.{Failed}
 use Rattle.fluid_lane.specs.declared.steps.Step.{Step}
 use Rattle.fluid_lane.specs.declared.steps.Step.TheVariants.{Entered, Aside}
 use Rattle.fluid_codec.specs.declared.replies.Reply.{Reply}
+use Rattle.fluid_codec.specs.declared.replies.Reply.TheVariants.{Nacked}
 use Rattle.fluid_voice.specs.declared.states.VoiceState.{VoiceState}
 use Rattle.fluid_voice.specs.declared.states.VoiceState.TheVariants.{Reading, Writing}
 use Rattle.fluid_voice.specs.declared.actions.Act.{Act}
@@ -29,7 +32,7 @@ use Rattle.fluid_voice.specs.Laws.{entries_under}
 use Rattle.fluid_voice.specs.Feed.{fed}
 use Rattle.fluid_voice.specs.Replies.{has_front_nack, is_sequenced, is_dropped, is_nacked}
 use Rattle.fluid_voice.specs.Ends.{is_beyond}
-use Rattle.fluid_talk.specs.Talking.{Knowing, Keyed, Talking, IsSound, Goes, ledger_of, order_of, opened_by}
+use Rattle.fluid_talk.specs.Talking.{Knowing, Keyed, Talking, IsSound, MayBeServed, Goes, ledger_of, order_of, opened_by}
 use Rattle.fluid_talk.specs.Counting.{is_absorbed}
 use Rattle.fluid_talk.specs.Doing.{Did, acts_in, ends_in, steps_in, may_steps, AreAnswered}
 use Rattle.fluid_session.specs.declared.report.SessionEnd.{SessionEnd}
@@ -71,6 +74,27 @@ answered_in [] = []
 answered_in (brings c ∷ es) = answered_in es
 answered_in (hears r ∷ es) = r.sent ++ answered_in es
 
+-- a nack that says which operation it is about: the rules' nacks do, and a front's don't
+abbrev pub about : Nack → List Nack
+about nack = if is_some nack.operation then nack ∷ [] else []
+
+-- such nacks among replies, and among the verdicts of entries
+abbrev pub nacks_said : Reply → List Nack
+nacks_said (Nacked name nack) = about nack
+nacks_said reply = []
+
+abbrev pub nacks_in : List Reply → List Nack
+nacks_in [] = []
+nacks_in (reply ∷ replies) = nacks_said reply ++ nacks_in replies
+
+abbrev pub nacks_given : Step → List Nack
+nacks_given (Entered raw (verdict.Nacked nack)) = about nack
+nacks_given step = []
+
+abbrev pub nacks_of : List Step → List Nack
+nacks_of [] = []
+nacks_of (step ∷ steps) = nacks_given step ++ nacks_of steps
+
 -- the entries for the submissions that the texts spell under the connection's own id, and those of them that were tried
 abbrev pub subs_in : List Event → List Raw
 subs_in [] = []
@@ -85,7 +109,7 @@ tried_in (hears r ∷ es) = entries_in (acts_in r.done) ++ tried_in es
 -- the raw entries of the steps that entered one
 abbrev pub entered : List Step → List Raw
 entered [] = []
-entered (Entered raw verdict ∷ steps) = raw ∷ entered steps
+entered (Entered raw v ∷ steps) = raw ∷ entered steps
 entered (Aside side ∷ steps) = entered steps
 
 abbrev pub entered_in : List Event → List Raw
@@ -96,7 +120,7 @@ entered_in (hears r ∷ es) = entered (steps_in r.done) ++ entered_in es
 -- how many of the steps are entries with such a verdict
 abbrev pub count_steps : (Verdict → Bool) → List Step → ℕ
 count_steps kind [] = 0
-count_steps kind (Entered raw verdict ∷ steps) = (if kind verdict then 1 else 0) + count_steps kind steps
+count_steps kind (Entered raw v ∷ steps) = (if kind v then 1 else 0) + count_steps kind steps
 count_steps kind (Aside side ∷ steps) = count_steps kind steps
 
 -- how many texts were answered by a front's nack
@@ -264,6 +288,11 @@ pub record SendsInOrder (events : List Event) : Type 0 where
   pub all_fed : AreWhole events → fed_in events ≡ collected_in events
   pub all_answered : AreWhole events → answered_in events ≡ owed_in events
 
+-- the nacks of entries that are sent are those that the entries got, in their order; where something failed, a front of them
+pub record NacksInOrder (events : List Event) : Type 0 where
+  pub front : IsPrefix (nacks_in (answered_in events)) (nacks_of (steps_of events))
+  pub all : AreWhole events → nacks_in (answered_in events) ≡ nacks_of (steps_of events)
+
 -- no fault ended it, and memory wasn't wanting
 abbrev pub IsQuietEnd : SessionEnd → Type 0
 IsQuietEnd Closed = ⊤
@@ -295,6 +324,7 @@ pub record Joins (s m u : Talking) (moment : ℕ) (report : Report) (events : Li
   -- the feed is gapless from the number that was next behind the connect
   pub unfed : collected_in early ≡ []
   pub feed : u.pass.told ≡ true → collected_in later ≡ slice (order_of u.pass.seen) (next_number connect.to.voice) (next_number m.voice)
+  pub nacks : NacksInOrder later
   -- before each text behind the connect, and before the end where the wire's texts are at theirs, it has reached all that was seen
   pub reach : AreReached later
   pub closed : report.end ≡ Closed → IsReached m
@@ -318,6 +348,8 @@ pub record StaysApart (s m u : Talking) (report : Report) (events : List Event) 
 pub record Lines (s m u : Talking) (moment : ℕ) (report : Report) (events : List Event) : Type 0 where
   pub joins : is_connected m.voice ≡ true → Joins s m u moment report events
   pub apart : is_connected m.voice ≡ false → StaysApart s m u report events
+  -- the pass that comes back is one of the service's documents, where those are so that it had, and that was handed to it
+  pub served : MayBeServed s.key s.pass → MayBeServed s.key s.handed → MayBeServed s.key u.pass
   -- its key knows what it knew; too many documents were open where that was told
   pub key : IsPrefix s.key.seen u.key.seen
   pub beyond : AreBeyond u.key events

@@ -30,6 +30,7 @@ pub fn converse<R: Wait, T: Conversation, O: Objects, W: Wire, C: Clock>(
 ) -> Report
     requires service { T.belongs talk.old service.now }
     requires unused { is_used (T.seen talk.old).voice ≡ false }
+    ensures service { T.belongs talk.new service.now }
     ensures does { Serves (T.seen talk.old) (T.seen talk.new) (O.seen objects.old) (O.seen objects.new) (W.seen wire.old) (W.seen wire.new) result }
 {
     let mut tally = Tally::new();
@@ -67,6 +68,7 @@ fn run<R: Wait, T: Conversation, O: Objects, W: Wire, C: Clock>(
     requires service { T.belongs talk.old service.now }
     requires unused { is_used (T.seen talk.old).voice ≡ false }
     requires few { tally.old.unread < most_unread }
+    ensures service { T.belongs talk.new service.now }
     ensures does { Runs (record { talk = T.seen talk.old; store = O.seen objects.old }) (record { talk = T.seen talk.new; store = O.seen objects.new }) (W.seen wire.old) (W.seen wire.new) tally.old tally.new (Err result) }
 {
     'turns: for _ in rt.forever() {
@@ -87,7 +89,8 @@ fn leave<R: Wait, T: Conversation>(
     end: SessionEnd,
 ) -> SessionEnd
     requires { moment ≤ largest }
-    ensures { Ends (T.seen talk.old) (T.seen talk.new) moment end result }
+    ensures service { (x : T.Service) → T.belongs talk.old x → T.belongs talk.new x }
+    ensures ends { Ends (T.seen talk.old) (T.seen talk.new) moment end result }
 {
     let left = talk.leave(rt, alloc, moment);
     talk.know();

@@ -23,7 +23,7 @@ use Rattle.fluid_ends.specs.declared.fault.TalkFault.TheVariants.{Door, Store, N
 use Rattle.fluid_ends.specs.Asking.{is_asked_of_store}
 use Rattle.fluid_talk.specs.declared.heard.Heard.{Heard}
 use Rattle.fluid_talk.specs.Talking.{Keyed, Talking, Goes}
-use Rattle.fluid_talk.specs.Shelves.{KeepsKey, OpensFor, IsRefusedDoor}
+use Rattle.fluid_talk.specs.Shelves.{KeepsKey, IsRefusedDoor, IsReachedBy}
 use Rattle.fluid_talk.specs.Counting.{is_absorbed}
 use Rattle.fluid_talk.specs.Doing.{Did, acts_in, ends_in, ended, steps_in, may_steps, held_after, AreDone, AreFound, AreAnswered}
 use Rattle.fluid_talk.specs.Causes.{IsCauseAt}
@@ -58,7 +58,7 @@ pub record Reaches (name : List ℕ) (s t : Talking) (store : Storing) (acts : L
   pub mine : t.pass.mine ≡ steps_in done ++ may_steps failed
   pub nothing : is_connected t.voice ≡ false → steps_in done ≡ []
   pub handed : is_connected t.voice ≡ false → t.handed ≡ s.handed
-  pub key : ((s.handed.name ≡ Some name) × (t.key ≡ s.key)) ⊎ OpensFor name s.key t.key
+  pub through : IsReachedBy name s.handed t.pass s.key t.key
 
 -- the key behind a text that reached no door. A connect that was done was refused, since as many documents are open as may be; one that
 -- failed at the service was refused by this fault. Where memory was wanting it has no step more, and so where nothing is connected to

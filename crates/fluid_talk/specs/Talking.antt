@@ -1,5 +1,5 @@
 -- What is known of a connection.
-use Rattle.std.specs.Prelude.{◌≡◌, ◌<◌, ◌≤◌, ℕ, ◌+◌, Bool, true, List, ◌++◌, length, Option}
+use Rattle.std.specs.Prelude.{◌≡◌, ◌<◌, ◌≤◌, ℕ, ◌+◌, Bool, true, List, ◌++◌, length, Option, is_some}
 use Rattle.fluid_turn.specs.declared.view.Numbered.{Numbered}
 use Rattle.fluid_turn.specs.Entries.{IsPrefix, entries, made_by}
 use Rattle.fluid_types.specs.Ledger.{Ledger, order}
@@ -28,9 +28,10 @@ pub record Knowing : Type 0 where
   pub seen : List (Numbered Step)
   pub mine : List Step
 
--- a key of a service: whether its shelves tell their keepers, and the number of the key, which never change; the steps of the shelf
--- that it has seen, and those of them that it made
+-- a key of a service: the limits of its documents, whether its shelves tell their keepers, and the number of the key, which never
+-- change; the steps of the shelf that it has seen, and those of them that it made
 pub record Keyed : Type 0 where
+  pub limits : Limits
   pub told : Bool
   pub number : ℕ
   pub seen : List (Numbered ShelfStep)
@@ -62,6 +63,16 @@ number_behind_last seen = length (order_of seen) + 1
 -- the names of the documents that were opened, in order
 abbrev pub opened_by : Keyed → List (List ℕ)
 opened_by k = opened (entries k.seen)
+
+-- it is a pass of one of the service's documents: it has their limits, and its keeper tells its content where the shelves tell their
+-- keepers
+pub record IsServed (k : Keyed) (p : Knowing) : Type 0 where
+  pub limits : p.limits ≡ k.limits
+  pub told : k.told ≡ true → p.told ≡ true
+
+-- the same of a pass that may have no document yet
+abbrev pub MayBeServed : Keyed → Knowing → Type 0
+MayBeServed k p = is_some p.name ≡ true → IsServed k p
 
 -- ---- what holds of every connection
 
@@ -95,5 +106,6 @@ pub record Goes (p q : Knowing) (added : List Step) : Type 0 where
 
 -- it is a key of the same service with the same number
 pub record IsSameKey (k m : Keyed) : Type 0 where
+  pub limits : m.limits ≡ k.limits
   pub told : m.told ≡ k.told
   pub number : m.number ≡ k.number

@@ -4,6 +4,7 @@ use Rattle.fluid_session.proofs.running.converse.Goals as goal
 
 pub returns : goal.returns
 returns g c = record {
+  service = c.leave-end.ensures.service _ c.run-end.ensures.service;
   does = serves _ _ _ _ _ _ _ (record {
     last = g.T.Conversation.seen c.run-end.new.talk;
     end = c.run-end.result;
@@ -11,7 +12,7 @@ returns g c = record {
     runs = rw c.new-tally.ensures at c.run-end.ensures.does;
     moment = c.now-moment.result;
     timely = c.now-moment.ensures.bound;
-    ends = c.leave-end.ensures;
+    ends = c.leave-end.ensures.ends;
     numbers = record { sequenced = refl; dropped = refl; nacked = refl; absorbed = refl; unread = refl };
   });
 }

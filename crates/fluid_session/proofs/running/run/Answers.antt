@@ -9,4 +9,4 @@ pub turns-preserved : goal.turns-preserved
 turns-preserved g c = (tt, tt, c.in-Ok.ensures.unused, c.in-Ok.ensures.service, c.in-Ok.ensures.does.by.1.1.0, runs_then _ _ _ _ _ _ _ _ _ _ c.turns.invariant.5 c.in-Ok.ensures.does)
 
 pub returns-in-Err : goal.returns-in-Err
-returns-in-Err g c = record { does = runs_then _ _ _ _ _ _ _ _ _ _ c.turns.invariant.5 c.in-Err.ensures.does }
+returns-in-Err g c = record { service = c.in-Err.ensures.service; does = runs_then _ _ _ _ _ _ _ _ _ _ c.turns.invariant.5 c.in-Err.ensures.does }
