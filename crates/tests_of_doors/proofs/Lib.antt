@@ -1,0 +1,2 @@
+mod Both
+mod Sent
