@@ -20,7 +20,7 @@ class Refused(Exception):
 
 
 class Server:
-    """A program whose standard error begins with the line that says where it listens."""
+    """A program that says in a line of its standard error where it listens; other lines may stand before it."""
 
     def __init__(self, words, shell=None):
         command = [str(word) for word in words]
@@ -28,10 +28,13 @@ class Server:
             command = ["sh", "-c", f'{shell} && exec "$@"', "sh", *command]
         self.process = subprocess.Popen(command, stdin=subprocess.DEVNULL, stdout=subprocess.DEVNULL,
                                         stderr=subprocess.PIPE)
-        line = self.process.stderr.readline().decode()
-        found = re.match(r"listening on 127\.0\.0\.1:(\d+) ", line)
+        said, found = "", None
+        for line in map(bytes.decode, self.process.stderr):
+            said += line
+            if found := re.match(r"listening on 127\.0\.0\.1:(\d+) ", line):
+                break
         if not found:
-            sys.exit(f"the server says {line!r}")
+            sys.exit(f"the server says {said!r}")
         self.line = line.strip()
         self.port = int(found[1])
 
@@ -39,7 +42,7 @@ class Server:
         return self
 
     def __exit__(self, *_):
-        self.process.kill()
+        self.process.terminate()  # `bin/fluidd` ends what it started then
         self.process.wait()
 
 

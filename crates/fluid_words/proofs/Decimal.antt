@@ -1,5 +1,5 @@
 -- What `parse` answers for decimal digits.
-use Rattle.std.proofs.Common.{◌≡◌, ℕ, ◌<◌, ◌^◌, Bool, true, false, cond, ltb, ◌&&◌, List, [], ◌∷◌, length, Option, Some, None, Result, Ok, Err, refl, sym, ◌∙◌, ap, lt-ltb, ltb-true, arith}
+use Rattle.std.proofs.Common.{◌≡◌, ℕ, ◌<◌, ◌^◌, Bool, true, false, cond, ◌&&◌, List, length, Some, None, Result, Ok, Err, refl, sym, ◌∙◌, ap, lt-ltb, ltb-true, arith}
 use Rattle.std.specs.Prelude.{◌||◌, ◌==◌, nat_lt, not, slice_index}
 use Rattle.std.specs.List.{list_all}
 use Rattle.std.specs.Result.{result_ok}

@@ -1,6 +1,6 @@
 -- The values of a command that are found among words, as `clap` finds them: an option may stand before or behind what has
 -- to be given, as `--clients 3` or `--clients=3` and at most once, and behind `--` nothing is an option.
-use Rattle.std.specs.Prelude.{◌≡◌, true, List, [], ◌∷◌, Option, Some, None, Result, Ok, Err, if◌then◌else◌, ℕ}
+use Rattle.std.specs.Prelude.{◌≡◌, true, List, [], ◌∷◌, Option, Some, None, Result, Ok, Err, if◌then◌else◌}
 use Rattle.clap.specs.Walk.{Row, Rule, Text, is_empty, rows_of}
 use Rattle.clap.specs.Simple.{App, matches_of, new_app, new_rule}
 use Rattle.clap.specs.Faults.{fault_of}

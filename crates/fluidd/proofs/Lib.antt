@@ -2,3 +2,4 @@ mod Grown
 mod Clients
 mod Statuses
 mod Shown
+mod Served

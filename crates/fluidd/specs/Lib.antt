@@ -2,4 +2,5 @@ pub mod Input
 pub mod Refusals
 pub mod Output
 pub mod Documents
+pub mod Served
 pub mod Tasks

@@ -66,6 +66,8 @@ code_of status.Refused = 3
 code_of status.ReadFault = 4
 code_of status.WriteFault = 5
 code_of status.NoMemory = 6
+code_of status.FrontFault = 9
+code_of status.SpawnRefused = 10
 
 -- the count of faults of something didn't rise
 abbrev pub IsQuiet : ℕ → ℕ → Type 0

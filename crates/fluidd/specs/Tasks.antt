@@ -1,5 +1,5 @@
 -- What the words ask of the program as it is built.
-use Rattle.std.specs.Prelude.{◌≡◌, ◌⊎◌, ℕ, List, Option, Some, None, Result, Ok, Err, codes, if◌then◌else◌}
+use Rattle.std.specs.Prelude.{◌≡◌, ◌⊎◌, ⊤, ℕ, List, Option, Some, None, Result, Ok, Err, codes, if◌then◌else◌}
 use Rattle.fluid_words.specs.Pages.{is_built, page, version_page}
 use Rattle.fluid_words.specs.Words.{command_of}
 use Rattle.fluid_words.specs.declared.command.Command.{Command}
@@ -51,14 +51,21 @@ task_of words = task_for (command_of words)
 -- this text is shown, under this status
 abbrev pub IsShown : Status → List ℕ → Taken → Type 0
 IsShown status text taken.Sequence = ⊥
+IsShown status text (taken.Serve port connections lines) = ⊥
 IsShown status text (taken.Show its_status its_text) = (its_status ≡ status) × (its_text.now ≡ text)
 
--- what is done is what is asked for; of the commands only `sequence` is done, so no other may be built
+-- what is done is what is asked for; of the commands only `sequence` and `serve` are done, so no other may be built
 abbrev pub IsTask : Task → Taken → Type 0
 IsTask (Doing Sequence) done = done ≡ taken.Sequence
+IsTask (Doing (Serve port connections lines)) done = done ≡ taken.Serve port connections lines
 IsTask (Doing command) done = ⊥
 IsTask (Showing text) done = IsShown status.Done text done
 IsTask Usage done = IsShown status.Usage usage_line done
+
+-- the words ask for `serve`
+abbrev pub IsServing : Task → Type 0
+IsServing (Doing (Serve port connections lines)) = ⊤
+IsServing other = ⊥
 
 -- a text is shown under one of two statuses: that it was asked for, or that the words ask for nothing
 abbrev pub IsPage : (status : ℕ) → Type 0

@@ -1,7 +1,7 @@
 //! The ordering service of collaborative documents, as a program.
 //! `run` has the top call, `task` what the words ask for, `sequence` the command of that name, `document` what it keeps
 //! between two lines of its input, `refusal` why the text of a line is refused, `status` how a run ends, and `laws` what
-//! holds of the definitions.
+//! holds of the definitions. What `serve` does stands in `fluid_serve`.
 #![tactic(auto)]
 
 mod document;
@@ -9,13 +9,18 @@ pub mod laws;
 pub mod refusal;
 pub mod run;
 pub mod sequence;
+#[cfg(test)]
+mod serving_tests;
 pub mod status;
 mod task;
 #[cfg(test)]
 mod tests;
 
-use fluid_io::{StdSink, StdSource};
+use fluid_front::ThreadSpawner;
+use fluid_io::{StdClock, StdSink, StdSource};
 use fluid_json::Text;
+use fluid_serve::Desk;
+use fluid_socket::TcpFront;
 use run::run;
 use status::Status;
 use std::process::ExitCode;
@@ -33,7 +38,19 @@ fn main(rt: HostRuntime) -> ExitCode {
     };
     let mut input = StdSource::new(rt.stdin());
     let mut output = StdSink::new(rt.stdout());
-    let status = run(&rt, alloc, &words, &mut input, &mut output);
+    let Ok(front) = TcpFront::new(alloc, rt, StdSink::new(rt.stderr())) else {
+        return ExitCode::from(Status::NoMemory.code());
+    };
+    let (status, _desk, _front, _spawner) = run(
+        &rt,
+        alloc,
+        &words,
+        &mut input,
+        &mut output,
+        Desk::in_memory(alloc, StdClock::new(rt)),
+        front,
+        ThreadSpawner::new(),
+    );
     ExitCode::from(status)
 }
 

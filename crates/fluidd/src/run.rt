@@ -1,34 +1,63 @@
 //! The top call of the program.
-ghost use Rattle.std.specs.Prelude.{◌≡◌, ℕ, List};
+ghost use Rattle.std.specs.Prelude.{◌≡◌, ℕ, List, Bool};
+ghost use Rattle.fluid_serve.specs.Desks.{AreReady, ShelvesComeBack};
 ghost use Rattle.fluidd.specs.Input.{full};
 ghost use Rattle.fluidd.specs.Output.{Sequences, Shows, code_of};
-ghost use Rattle.fluid_words.specs.declared.command.Command.TheVariants.{Sequence};
-ghost use Rattle.fluidd.specs.Tasks.{Doing, IsPage, Showing, Usage, task_of, usage_line};
+ghost use Rattle.fluidd.specs.Served.{ServesConnections, served_status};
+ghost use Rattle.fluid_words.specs.declared.command.Command.TheVariants.{Sequence, Serve};
+ghost use Rattle.fluidd.specs.Tasks.{Doing, IsPage, IsServing, Showing, Usage, task_of, usage_line};
 
 use crate::sequence::sequence_within;
 use crate::status::Status;
 use crate::task::{Task, read_task};
-use fluid_io::{Failed, Sink, Source};
+use fluid_front::{Front, FrontEnd, Spawner};
+use fluid_io::{Clock, Failed, Sink, Source};
 use fluid_json::{NoMemory, Text};
+use fluid_log::Shelves;
 use fluid_pipe::write_out;
 use fluid_rules::Limits;
+use fluid_serve::{Desk, serve};
+use fluid_store::Objects;
 use std::alloc::Global;
+use std::net::Net;
+use std::sync::Wait;
+use std::thread::Threads;
 
 /// Runs the command that the words ask for, which are those behind the program's name, and gives the exit status. Words
-/// that ask for a page get it, and words that ask for nothing the usage line; the input isn't touched then.
-pub fn run<R, S: Source, K: Sink>(
+/// that ask for a page get it, and words that ask for nothing the usage line; the input isn't touched then. The desk, the front
+/// and the spawner come back, and `serve` alone uses them.
+pub fn run<R, S, K, B, O, C, F, P>(
     rt: &R,
     alloc: Global,
     words: &[Text],
     input: &mut S,
     output: &mut K,
-) -> u8
+    desk: Desk<B, O, C>,
+    front: F,
+    spawner: P,
+) -> (u8, Desk<B, O, C>, F, P)
+where
+    R: Threads + Wait + Net + Sync,
+    S: Source,
+    K: Sink,
+    B: Shelves + Send + Drop,
+    B::K: Send + Drop,
+    O: Objects + Send + Drop,
+    C: Clock + Sync + Drop,
+    F: Front + Send + Drop,
+    F::W: Send + Drop,
+    P: Spawner + Send + Drop,
+    requires ready { IsServing (task_of words.now) → AreReady B.K.seen (B.seen desk.shelves) }
     ensures sequence { task_of words.now ≡ Doing Sequence →
-        Sequences full (S.seen input.old) (K.seen output.old) (S.seen input.new) (K.seen output.new) result }
+        Sequences full (S.seen input.old) (K.seen output.old) (S.seen input.new) (K.seen output.new) result.0 }
+    ensures serve { (port connections : ℕ) (lines : Bool) → task_of words.now ≡ Doing (Serve port connections lines) →
+        ServesConnections connections (F.seen front) (P.refusals spawner) (F.seen result.2) (P.refusals result.3) result.0 ×
+        (ShelvesComeBack (B.seen desk.shelves) (B.seen result.1.shelves) × (K.seen output.new ≡ K.seen output.old)) }
     ensures page { (text : List ℕ) → task_of words.now ≡ Showing text →
-        Shows 0 text (K.seen output.old) (K.seen output.new) result }
-    ensures usage { task_of words.now ≡ Usage → Shows 2 usage_line (K.seen output.old) (K.seen output.new) result }
+        Shows 0 text (K.seen output.old) (K.seen output.new) result.0 }
+    ensures usage { task_of words.now ≡ Usage → Shows 2 usage_line (K.seen output.old) (K.seen output.new) result.0 }
     ensures untouched { (task_of words.now ≡ Doing Sequence → ⊥) → S.seen input.new ≡ S.seen input.old }
+    ensures kept { (IsServing (task_of words.now) → ⊥) → (B.seen result.1.shelves ≡ B.seen desk.shelves) × ((O.seen result.1.objects ≡ O.seen desk.objects) × ((F.seen result.2 ≡ F.seen front) × (P.refusals result.3 ≡ P.refusals spawner))) }
 {
     match read_task(alloc, words) {
         Ok(Task::Sequence) => {
@@ -37,10 +66,42 @@ pub fn run<R, S: Source, K: Sink>(
                 clients,
                 ..
             } = Limits::FULL;
-            sequence_within(rt, alloc, input, output, entries, clients)
+            let status = sequence_within(rt, alloc, input, output, entries, clients);
+            (status, desk, front, spawner)
         }
-        Ok(Task::Show(status, text)) => show(output, status, text),
-        Err(NoMemory) => Status::NoMemory.code(),
+        Ok(
+            Task::Serve {
+                port,
+                connections,
+                lines,
+            },
+        ) => {
+            let (end, desk, front, spawner) = serve(
+                rt,
+                alloc,
+                desk,
+                front,
+                spawner,
+                port,
+                connections,
+                lines,
+            );
+            (served_status(end).code(), desk, front, spawner)
+        }
+        Ok(Task::Show(status, text)) => (show(output, status, text), desk, front, spawner),
+        Err(NoMemory) => (Status::NoMemory.code(), desk, front, spawner),
+    }
+}
+
+// The status with which `serve` ends.
+fn served_status(end: FrontEnd) -> Status
+    ensures { result ≡ served_status end }
+{
+    match end {
+        FrontEnd::Done(_) => Status::Done,
+        FrontEnd::FrontFailed => Status::FrontFault,
+        FrontEnd::SpawnRefused(_) => Status::SpawnRefused,
+        FrontEnd::NoMemory => Status::NoMemory,
     }
 }
 

@@ -6,7 +6,8 @@ ghost use Rattle.fluidd.specs.Output.{code_of};
 #[derive(Clone, Copy, Debug, PartialEq, Eq)]
 pub enum Status {
     /// What the words ask for is done. Of a command: no line is refused, the source has nothing left, and the verdict line
-    /// of each record was written to the sink. Of a page or the version: its text was written.
+    /// of each record was written to the sink. Of `serve`: as many connections as were asked for were served, or all that
+    /// the front gave. Of a page or the version: its text was written.
     Done,
     /// The words are no command.
     Usage,
@@ -17,6 +18,10 @@ pub enum Status {
     /// The sink failed.
     WriteFault,
     NoMemory,
+    /// The front failed: it can't listen, or can't take any more connections.
+    FrontFault,
+    /// A thread was refused.
+    SpawnRefused,
 }
 
 impl Status {
@@ -31,6 +36,8 @@ impl Status {
             Status::ReadFault => 4,
             Status::WriteFault => 5,
             Status::NoMemory => 6,
+            Status::FrontFault => 9,
+            Status::SpawnRefused => 10,
         }
     }
 }

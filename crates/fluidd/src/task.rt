@@ -11,6 +11,12 @@ use std::alloc::Global;
 #[derive(Clone, Copy)]
 pub(crate) enum Task {
     Sequence,
+    /// Serves so many connections at this port, over WebSockets or over lines.
+    Serve {
+        port: u16,
+        connections: u32,
+        lines: bool,
+    },
     /// Writes this text and ends with this status.
     Show(Status, &'static str),
 }
@@ -31,6 +37,15 @@ fn task_by(command: &Command) -> Task
 {
     match command {
         Command::Sequence => Task::Sequence,
+        Command::Serve {
+            port,
+            connections,
+            lines,
+        } => Task::Serve {
+            port: *port,
+            connections: *connections,
+            lines: *lines,
+        },
         Command::Help(topic) => match page(*topic) {
             Some(text) => Task::Show(Status::Done, text),
             None => Task::Show(Status::Usage, USAGE),

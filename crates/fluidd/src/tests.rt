@@ -1,12 +1,15 @@
 //! The program over readers and writers in memory: what fails, what limits refuse, and what stays unread. What the program
 //! writes for an input and for words is among the examples, which are run outside the proofs.
 
-use crate::run::run;
 use crate::sequence::sequence_within;
+use crate::serving_tests::{front_of, run_on};
 use fluid_io::{MemorySink, MemorySource, Source};
 use fluid_json::Text;
 use std::alloc::Global;
+use std::net::Net;
 use std::process::Abort;
+use std::sync::Wait;
+use std::thread::Threads;
 
 // A join, and the line of its verdict in an empty document.
 const JOIN: &str =
@@ -317,11 +320,12 @@ fn has_written(rt: &impl Abort, sink: &MemorySink, length: usize, output: &str) 
     );
 }
 
-fn ends(rt: &impl Abort, alloc: Global, row: &Run) {
+fn ends<R: Threads + Wait + Net + Sync + Abort>(rt: &R, alloc: Global, row: &Run) {
     let words = texts(rt, alloc, row.words);
     let mut source = source(rt, alloc, row.input, row.most, row.reads);
     let mut sink = sink(rt, alloc, row.most, row.writes);
-    let status = run(rt, alloc, &words, &mut source, &mut sink);
+    let front = front_of(rt, alloc, 0, &[]);
+    let status = run_on(rt, alloc, &words, &mut source, &mut sink, front, 0);
     assert!(rt; status == row.status, "{status}");
     has_written(rt, &sink, row.length, row.output);
     drop(sink);
