@@ -1,0 +1,10 @@
+//! Tests of connections: what each hears and is answered, over documents in memory. They stand above `fluid_connection`, so that it isn't
+//! proved a second time for its tests. There is no code here beside tests.
+#![tactic(auto)]
+
+#[cfg(test)]
+mod lives;
+#[cfg(test)]
+mod rows;
+#[cfg(test)]
+mod telling;

@@ -1,0 +1,73 @@
+// Replies and faults as texts.
+use fluid_codec::{Reply, print_event};
+use fluid_deltas::DeltaFault;
+use fluid_ends::TalkFault;
+use fluid_json::NoMemory;
+use fluid_lane::LaneFault;
+use fluid_opening::DoorFault;
+use fluid_store::StoreFault;
+use fluid_talk::Heard;
+use std::alloc::Global;
+
+// A line behind others.
+fn add(out: &mut String, line: &str) -> Result<(), NoMemory> {
+    if !out.is_empty() {
+        out.push('\n')?;
+    }
+    out.push_str(line)?;
+    Ok(())
+}
+
+// A reply behind others. Of an op event with many messages their number.
+fn add_reply(alloc: Global, out: &mut String, reply: &Reply) -> Result<(), NoMemory> {
+    if let Reply::Ops { messages, .. } = reply {
+        if messages.as_slice().len() > 4 {
+            let text = format!(in alloc; "{} messages", messages.as_slice().len())?;
+            return add(out, text.as_str());
+        }
+    }
+    let text = print_event(alloc, reply)?;
+    add(out, text.as_str())
+}
+
+// The replies, each on a line of its own.
+pub fn told_replies(alloc: Global, replies: &[Reply]) -> Result<String, NoMemory> {
+    let mut out = String::new(alloc);
+    for reply in replies {
+        add_reply(alloc, &mut out, reply)?;
+    }
+    Ok(out)
+}
+
+// The replies, and behind them the fault, and how often each verdict was given, where one was.
+pub fn told_heard(alloc: Global, heard: &Heard) -> Result<String, NoMemory> {
+    let mut out = told_replies(alloc, heard.replies.as_slice())?;
+    if let Some(fault) = &heard.fault {
+        add(&mut out, told_fault(fault))?;
+    }
+    let numbers = (heard.sequenced, heard.dropped, heard.nacked, heard.absorbed);
+    if numbers != (0, 0, 0, 0) {
+        let (sequenced, dropped, nacked, absorbed) = numbers;
+        let text = format!(in alloc; "{sequenced} {dropped} {nacked} {absorbed}")?;
+        add(&mut out, text.as_str())?;
+    }
+    Ok(out)
+}
+
+// A fault in a word.
+pub fn told_fault(fault: &TalkFault) -> &'static str {
+    match fault {
+        TalkFault::Door(DoorFault::ShelfFailed(_)) => "the shelves failed",
+        TalkFault::Door(DoorFault::Lane(LaneFault::LogFailed(_))) => "the log failed at a start",
+        TalkFault::Door(_) => "no door",
+        TalkFault::Lane(LaneFault::LogFailed(_)) => "the log failed",
+        TalkFault::Lane(LaneFault::DeltaFailed(_)) => "the deltas failed at an entry",
+        TalkFault::Lane(_) => "the lane",
+        TalkFault::Delta(DeltaFault::DeltaFailed(_)) => "the deltas failed",
+        TalkFault::Delta(_) => "the deltas",
+        TalkFault::Store(StoreFault::StoreFailed(_)) => "the store failed",
+        TalkFault::Store(StoreFault::Clash { .. }) => "another object",
+        TalkFault::Store(_) => "the store",
+        TalkFault::NoMemory => "no memory",
+    }
+}
