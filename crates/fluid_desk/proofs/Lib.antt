@@ -1,10 +1,10 @@
-mod Laned
-mod Gates
-mod Steps
-mod Desks
-mod Running
-mod Opening
-mod Doing
+pub mod Laned
+pub mod Gates
+pub mod Steps
+pub mod Desks
+pub mod Running
+pub mod Opening
+pub mod Doing
 mod Reopening
 mod Handing
 mod Scribed

@@ -245,7 +245,7 @@ module _ (limits : Limits) (old new : Standing) (w : World) (d : Document) (name
 -- ---- ends
 
 -- the faults of a call that only enters
-entering_honest : (fault : LaneFault) → IsOutside fault → IsHonest (stop_of fault)
+pub entering_honest : (fault : LaneFault) → IsOutside fault → IsHonest (stop_of fault)
 entering_honest (lane.LogFailed note) may = tt
 entering_honest (lane.DeltaFailed note) may = tt
 entering_honest lane.NoMemory may = tt
@@ -259,7 +259,7 @@ entering_honest (lane.BadCheckpoint n f) may = absurd may
 entering_honest (lane.TooLarge n) may = absurd may
 
 -- a fault of a call whose keeper's counts tell of it
-entering_ends : (old new : Standing) (fault : LaneFault) → IsOutside fault → IsCausedBy old.keeping.faults new.keeping.faults fault → LaneEnds old new (stop_of fault)
+pub entering_ends : (old new : Standing) (fault : LaneFault) → IsOutside fault → IsCausedBy old.keeping.faults new.keeping.faults fault → LaneEnds old new (stop_of fault)
 entering_ends old new (lane.LogFailed note) may cause = cause
 entering_ends old new (lane.DeltaFailed note) may cause = cause
 entering_ends old new lane.NoMemory may cause = tt
@@ -273,7 +273,7 @@ entering_ends old new (lane.BadCheckpoint n f) may cause = absurd may
 entering_ends old new (lane.TooLarge n) may cause = absurd may
 
 -- a worn lane stays so
-worn_ends : (old new : Standing) → (is_worn old ≡ true) × (new ≡ old) → LaneEnds old new (stop_of lane.Worn)
+pub worn_ends : (old new : Standing) → (is_worn old ≡ true) × (new ≡ old) → LaneEnds old new (stop_of lane.Worn)
 worn_ends old new is = ap is_worn is.1 ∙ is.0
 
 pub unruled_honest : {A : Type 0} (old new : Standing) (fault : LaneFault) → IsGated {A = A} old new [] IsOutside (Err fault) → IsHonest (stop_of fault)

@@ -10,8 +10,8 @@ ghost use Rattle.fluid_desk.specs.Stopping.{HasRun, RunsOn};
 ghost use Rattle.fluid_desk.specs.Acting.{DeskDoes};
 ghost use Rattle.fluid_desk.specs.Scribing.{DeskDoesWith, RunsWith};
 
+use crate::first_use::{ready, turned_away};
 use crate::lines::{reopened_line, told, turned_away_line};
-use crate::ready::{ready, turned_away};
 use crate::stop::Stop;
 use crate::{on_lane, scribing};
 use fluid_json::Text;

@@ -19,8 +19,8 @@ pub(crate) struct Numbers {
     pub minimum: u64,
 }
 
-// A line that was made, or the want of memory for it.
-pub(crate) fn told(line: Result<Text, NoMemory>) -> Result<Text, Stop>
+/// A line that was made, or the want of memory for it.
+pub fn told(line: Result<Text, NoMemory>) -> Result<Text, Stop>
     ensures { (made : List ℕ) → IfOk line (λ text. text ≡ made) → IsLine made result }
 {
     match line {

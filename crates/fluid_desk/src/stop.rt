@@ -40,7 +40,7 @@ impl From<NoMemory> for Stop {
 }
 
 /// A fault of a lane that a step doesn't write.
-pub(crate) fn stop_of(fault: LaneFault) -> Stop
+pub fn stop_of(fault: LaneFault) -> Stop
     ensures { result ≡ stop_of fault }
 {
     match fault {

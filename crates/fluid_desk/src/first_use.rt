@@ -14,7 +14,7 @@ use fluid_types::DocName;
 use std::alloc::Global;
 
 /// Opens a document that isn't open yet. False where as many are open as may be, and it isn't one.
-pub(crate) fn ready<B: Shelves>(
+pub fn ready<B: Shelves>(
     alloc: Global,
     lanes: &mut Lanes<B>,
     name: &DocName,

@@ -1,6 +1,6 @@
 use Rattle.fluid_desk.proofs.Opening.{ready_honest}
 use Rattle.fluid_desk.proofs.Running.{use_run, ready_runs}
-use Rattle.fluid_desk.proofs.ready.ready.Goals as goal
+use Rattle.fluid_desk.proofs.first_use.ready.Goals as goal
 
 pub returns-in-Ok-clause-runs : goal.returns-in-Ok-clause-runs
 returns-in-Ok-clause-runs g c = λ before run. use_run before c.args.lanes.now c.open.new.self c.args.name.now c.args.moment run c.in-Ok.ensures.does

@@ -1,0 +1,9 @@
+mod Bytes
+mod Acted
+mod Acts
+mod Apart
+mod Feeds
+mod Ends
+mod Sent
+mod Collected
+mod Departing

@@ -1,0 +1,31 @@
+use Rattle.fluid_desk.proofs.Doing.{used_of, many_of, used_there}
+use Rattle.fluid_callers.proofs.Collected.{name_of_next, gathers_on, gathers_never}
+use Rattle.fluid_callers.proofs.Ends.{reads_desk, stops_reading}
+use Rattle.fluid_callers.proofs.collecting.gather_of.Goals as goal
+
+pub lent-requires : goal.lent-requires
+lent-requires g c = used_there c.args.lanes.now c.ready.new.lanes c.args.document.now c.args.moment c.in-Ok-true.field-0 c.in-Ok-true.field-0-test c.in-Ok-true.ensures.readied
+
+pub returns-in-Ok-true-clause-does : goal.returns-in-Ok-true-clause-does
+returns-in-Ok-true-clause-does g c = λ w next desk sound is at.
+    let r = c.in-Ok-true in
+    gathers_on c.args.lanes.now c.ready.new.lanes w c.args.name.now c.args.document.now c.args.moment c.args.voice.now c.lent.result.now c.gather_lane.new.lane c.gather_lane.result desk sound is at
+    (name_of_next c.args.document.now c.args.next c.args.voice.now next)
+    (used_of c.args.lanes.now c.ready.new.lanes c.args.document.now c.args.moment r.field-0 r.field-0-test r.ensures.readied) r.ensures.limits c.lent.ensures.value
+    (λ limits d of. c.gather_lane.ensures.does limits d c.args.document.now next of)
+
+pub returns-in-Ok-true-clause-runs : goal.returns-in-Ok-true-clause-runs
+returns-in-Ok-true-clause-runs g c = λ first run.
+    reads_desk first c.ready.new.lanes c.args.document.now c.lent.result.now c.gather_lane.new.lane c.gather_lane.result (c.in-Ok-true.ensures.runs first run) c.lent.ensures.value c.lent.ensures.out c.gather_lane.ensures.runs
+
+pub returns-in-Ok-false-clause-does : goal.returns-in-Ok-false-clause-does
+returns-in-Ok-false-clause-does g c = λ w next desk sound is at.
+    let r = c.in-Ok-false in
+    let many = many_of c.args.lanes.now c.ready.new.lanes c.args.document.now c.args.moment r.field-0 r.field-0-test r.ensures.readied in
+    absurd (gathers_never c.args.lanes.now c.ready.new.lanes w c.args.document.now c.args.voice.now many.0 desk sound (name_of_next c.args.document.now c.args.next c.args.voice.now next) many.1)
+
+pub returns-in-Err-clause-does : goal.returns-in-Err-clause-does
+returns-in-Err-clause-does g c = λ w next desk sound is at. c.in-Err.ensures.honest w desk
+
+pub returns-in-Err-clause-runs : goal.returns-in-Err-clause-runs
+returns-in-Err-clause-runs g c = λ first run. stops_reading first c.ready.new.lanes c.in-Err.stop (c.in-Err.ensures.runs first run)

@@ -1,0 +1,24 @@
+use Rattle.std.proofs.Common.{arith}
+use Rattle.fluid_callers.proofs.Collected.{fetched_none, range_reads, range_honest, range_fetched}
+use Rattle.fluid_callers.proofs.collecting.messages_from.Goals as goal
+
+pub returns-then-behind-from-clause-does : goal.returns-then-behind-from-clause-does
+returns-then-behind-from-clause-does g c = λ limits d of. fetched_none limits c.args.lane.now d c.args.from c.args.behind _ of c.requires.last (omega (arith, c.if-behind-from.true)) c.new.ensures.items
+
+pub returns-in-Ok-clause-does : goal.returns-in-Ok-clause-does
+returns-in-Ok-clause-does g c = λ limits d of.
+    let e = c.in-Ok.ensures in
+    range_fetched (λ v. v.items) c.args.from c.args.behind c.args.lane.now c.range.new.self limits d of c.in-Ok.messages e.goes e.worn e.ranges e.slice c.requires.last c.requires.first
+
+pub returns-in-Err-clause-does : goal.returns-in-Err-clause-does
+returns-in-Err-clause-does g c = λ limits d of.
+    let e = c.in-Err.ensures in
+    rw c.delta_stop.ensures (range_honest (λ v. v.items) c.args.from c.args.behind c.args.lane.now c.range.new.self limits d of c.in-Err.fault e.worn e.slice)
+
+pub returns-in-Err-clause-runs : goal.returns-in-Err-clause-runs
+returns-in-Err-clause-runs g c =
+    let e = c.in-Err.ensures in
+    record {
+      later = e.goes.later;
+      ends = rw c.delta_stop.ensures (range_reads (λ v. v.items) c.args.from c.args.behind c.args.lane.now c.range.new.self c.in-Err.fault e.goes e.worn e.ranges e.slice);
+    }

@@ -1,0 +1,4 @@
+pub mod Reaching
+pub mod Ending
+pub mod Hearing
+pub mod Calling
