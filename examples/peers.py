@@ -35,7 +35,7 @@ class Server:
                 break
         if not found:
             sys.exit(f"the server says {said!r}")
-        self.line = line.strip()
+        self.said, self.line = said, line.strip()
         self.port = int(found[1])
 
     def __enter__(self):
@@ -43,7 +43,10 @@ class Server:
 
     def __exit__(self, *_):
         self.process.terminate()  # `bin/fluidd` ends what it started then
-        self.process.wait()
+        try:
+            self.process.wait(10)
+        except subprocess.TimeoutExpired:
+            self.process.kill()
 
 
 def built(crate, words):

@@ -131,20 +131,21 @@ const SUCCESS: &str = r#"["connect_document_success","#;
 // How often a wire looks whether the other was answered.
 const LOOKS: u64 = 10_000_000;
 
-// What two wires know of one another, and whether their front listens for lines.
+// What two wires know of one another, and where their front listens: twice the port, and one more for lines.
 #[derive(Drop)]
 struct Pair {
     connected: [AtomicU64; 2],
     given_up: AtomicU64,
-    lines: AtomicU64,
+    listened: AtomicU64,
 }
 
-// A wire that connects, and ends when the other one was sent its success.
+// A wire that connects, and ends when the other one was sent its success. It counts what it is sent.
 #[derive(Drop)]
 struct Patient<'a> {
     pair: &'a Pair,
     is_first: bool,
     has_connected: bool,
+    sent: u64,
 }
 
 impl<'a> Patient<'a> {
@@ -187,6 +188,7 @@ impl<'a> Wire for Patient<'a> {
     }
 
     fn send<R: Wait>(&mut self, _rt: &R, _alloc: Global, text: &str) -> Result<(), WireFault> {
+        self.sent = self.sent.saturating_add(1);
         if text.starts_with(SUCCESS) {
             self.own().store(1, Ordering::SeqCst);
         }
@@ -216,8 +218,9 @@ impl<'a> Front for TwoPatient<'a> {
 
     ghost seen = { λ f. f };
 
-    fn listen<R: Wait>(&mut self, _rt: &R, _port: u16, lines: bool) -> Result<(), Failed> {
-        self.pair.lines.store(u64::from(lines), Ordering::SeqCst);
+    fn listen<R: Wait>(&mut self, _rt: &R, port: u16, lines: bool) -> Result<(), Failed> {
+        let place = u64::from(port) * 2 + u64::from(lines);
+        self.pair.listened.store(place, Ordering::SeqCst);
         Ok(())
     }
 
@@ -236,25 +239,45 @@ impl<'a> Front for TwoPatient<'a> {
             pair: self.pair,
             is_first,
             has_connected: false,
+            sent: 0,
         }))
     }
 }
 
+// Words, and where the front has to listen for them.
+const PLACES: [(&str, u64); 2] = [
+    ("serve 0 --connections 2 --lines", 1),
+    ("serve 7070 --connections 2", 14_140),
+];
+
 #[test]
 fn connections_run_beside_one_another(rt: HostRuntime) {
-    let alloc = rt.alloc();
+    for (words, place) in PLACES {
+        runs_beside(&rt, rt.alloc(), words, place);
+    }
+}
+
+fn runs_beside<R: Threads + Wait + Net + Sync + Abort>(
+    rt: &R,
+    alloc: Global,
+    words: &str,
+    place: u64,
+) {
     let pair = Pair {
         connected: [AtomicU64::new(0), AtomicU64::new(0)],
         given_up: AtomicU64::new(0),
-        lines: AtomicU64::new(0),
+        listened: AtomicU64::new(0),
     };
     let front = TwoPatient {
         pair: &pair,
         given: 0,
         nones: 0,
     };
-    let status = serves(&rt, alloc, "serve 0 --connections 2 --lines", front, 2);
+    let status = serves(rt, alloc, words, front, 2);
     assert!(rt; status == 0, "{status}");
+    for connected in &pair.connected {
+        assert!(rt; connected.load(Ordering::SeqCst) == 1);
+    }
     assert!(rt; pair.given_up.load(Ordering::SeqCst) == 0);
-    assert!(rt; pair.lines.load(Ordering::SeqCst) == 1);
+    assert!(rt; pair.listened.load(Ordering::SeqCst) == place);
 }
