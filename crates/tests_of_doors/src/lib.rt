@@ -1,8 +1,7 @@
 //! Tests of doors over keepers in memory: each call of the keeper failing once, and two callers in two threads, who then meet. `callers`
-//! makes the calls. There is no code here beside tests.
+//! makes the calls, and stands outside the tests, since a file of `proofs/` names its type.
 #![tactic(auto)]
 
-#[cfg(test)]
 mod callers;
 #[cfg(test)]
 mod failing;
