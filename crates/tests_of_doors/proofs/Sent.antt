@@ -5,8 +5,8 @@ use Rattle.std.proofs.Crossing.{crosses}
 use Rattle.fluid_types.specs.contracts.entries.Raw as Raw
 use Rattle.fluid_log.specs.contracts.memory.MemoryKeeper as MemoryKeeper
 use Rattle.fluid_crossing.proofs.Values.{json-send, client-send}
-use Rattle.tests_of_doors.specs.contracts.callers.Operation as Operation
-use Rattle.tests_of_doors.specs.contracts.callers.Operation.TheInside as Inside
+use Rattle.tests_of_doors.specs.contracts.operation.Operation as Operation
+use Rattle.tests_of_doors.specs.contracts.operation.Operation.TheInside as Inside
 
 pub keeper-send : IsSend MemoryKeeper.the_row
 keeper-send = search (crosses, sendable) depth 40 fits 20000

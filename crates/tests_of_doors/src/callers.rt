@@ -6,6 +6,7 @@ ghost use Rattle.fluid_types.specs.Fits.{Fits};
 ghost use Rattle.fluid_types.specs.declared.entries.Raw.TheVariants.{Join};
 ghost use Rattle.fluid_lane.specs.Standing.{IsLeaveOrSubmission};
 
+use crate::operation::Operation;
 use fluid_codec::{Event, read_event, read_raw};
 use fluid_doors::{Door, Pass, new_keepers_are_kept};
 use fluid_json::Json;
@@ -14,7 +15,6 @@ use fluid_log::MemoryKeeper;
 use fluid_readback::read_entries_fit;
 use fluid_types::{DocName, Raw, Scopes, Verdict};
 use std::alloc::Global;
-use std::marker::Model;
 use std::process::Abort;
 use std::sync::Wait;
 
@@ -71,27 +71,6 @@ pub fn join<R: Wait + Abort>(
     (pass, answer.is_ok())
 }
 
-// An operation of a client, which fits a log.
-#[derive(Drop)]
-pub struct Operation {
-    raw: Raw,
-}
-
-impl Model for Operation {
-    ghost use Rattle.fluid_types.specs.declared.entries.Raw.{Raw as ARaw};
-    ghost use Rattle.fluid_types.specs.contracts.entries.Raw as entry;
-    ghost use Rattle.fluid_types.specs.Fits.{Fits};
-    ghost use Rattle.fluid_lane.specs.Standing.{IsLeaveOrSubmission};
-
-    ghost Value = { ARaw };
-
-    ghost coded = { entry.the_row.coded };
-
-    ghost view = { λ o. o.raw };
-
-    ghost invariant = { λ o. Fits o.raw × IsLeaveOrSubmission o.raw };
-}
-
 impl Operation {
     // The operation of this client number.
     pub fn read(rt: &impl Abort, alloc: Global, client: &str, number: u64) -> Operation {
@@ -101,18 +80,9 @@ impl Operation {
         read_entries_fit();
         assert!(rt; text.len() <= 1_048_576);
         match read_raw(alloc, text.as_str()) {
-            Ok(raw) if matches!(raw, Raw::Leave { .. } | Raw::Submit { .. }) => Operation { raw },
+            Ok(raw) if matches!(raw, Raw::Leave { .. } | Raw::Submit { .. }) => Operation::of(raw),
             _ => panic!(rt; "no submission"),
         }
-    }
-
-    pub fn into_raw(self) -> Raw
-        ensures is { result ≡ self }
-        ensures fits { Fits result }
-        ensures kind { IsLeaveOrSubmission result }
-    {
-        let Operation { raw } = self;
-        raw
     }
 }
 

@@ -1,7 +1,8 @@
 // A document whose keeper fails once: the next submission is sequenced all the same.
 ghost use Rattle.std.specs.Prelude.{◌≡◌};
 
-use crate::callers::{Operation, is_sequenced, join, open};
+use crate::callers::{is_sequenced, join, open};
+use crate::operation::Operation;
 use fluid_cast::Cursor;
 use fluid_doors::{Door, Pass};
 use fluid_log::MemoryKeeper;

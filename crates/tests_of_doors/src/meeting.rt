@@ -2,7 +2,8 @@
 ghost use Rattle.std.specs.Prelude.{◌≡◌, true, [], ◌∷◌};
 ghost use Rattle.tests_of_doors.specs.Meeting.{HasEntered, HasBoth};
 
-use crate::callers::{Operation, join, open};
+use crate::callers::{join, open};
+use crate::operation::Operation;
 use fluid_cast::Cursor;
 use fluid_doors::{Door, Pass, know};
 use fluid_log::MemoryKeeper;
