@@ -1,0 +1,3 @@
+pub mod Working
+pub mod Summary
+pub mod Examples
