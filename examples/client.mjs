@@ -2,7 +2,7 @@
 // A client of the service over Node's own WebSocket or `ws`: shows each message of a document and sends what is typed:
 // `title = hello` sets a key of the map `board`, `+3` or `-2` goes to the counter `count`.
 //
-//     examples/client.mjs DOCUMENT [PORT]        # 7070 where none is given
+//     examples/client.mjs DOCUMENT [PORT or URL]      # 7070 where none is given
 import { createInterface } from "node:readline";
 import { createRequire } from "node:module";
 import { isDeepStrictEqual } from "node:util";
@@ -10,7 +10,8 @@ import { isDeepStrictEqual } from "node:util";
 const require = createRequire(import.meta.url);
 const load = (...places) => { try { return require(places[0]); } catch { return require(places[1]); } };
 const Socket = globalThis.WebSocket ?? load("ws", "/usr/share/nodejs/ws");
-const [name, port = "7070"] = process.argv.slice(2);
+const [name, place = "7070"] = process.argv.slice(2);
+const url = place.includes("://") ? place : `ws://127.0.0.1:${place}`;
 const CHANNELS = [{ type: "attach", address: "board", kind: "map" }, { type: "attach", address: "count", kind: "counter" }];
 
 let socket, id = null, last, reach, isReady = false; // of the line: its client, the last number sent, what lies before its feed
@@ -71,8 +72,8 @@ function hear([event, ...rest]) {
 }
 
 function come() {
-  console.log(`-- calling ws://127.0.0.1:${port}`);
-  socket = new Socket(`ws://127.0.0.1:${port}`);
+  console.log(`-- calling ${url}`);
+  socket = new Socket(url);
   socket.onopen = () => say("connect_document", { id: name, scopes: ["doc:read", "doc:write"], client: "client.mjs" });
   socket.onmessage = (message) => hear(JSON.parse(message.data));
   socket.onerror = () => {};

@@ -1,6 +1,6 @@
 #!/usr/bin/env python3
-"""A client of the service over the library `websockets`: examples/client.py DOCUMENT [PORT], else 7070. It shows each message of
-the document and sends what is typed: `title = hello` sets a key of the map `board`, `+3` or `-2` goes to the counter `count`."""
+"""A client of the service over the library `websockets`: examples/client.py DOCUMENT [PORT or URL], else 7070. It shows each message
+of the document and sends what is typed: `title = hello` sets a key of the map `board`, `+3` or `-2` goes to the counter `count`."""
 import asyncio
 import contextlib
 import json
@@ -85,11 +85,11 @@ class Client:
         await self.send_waiting()
 
 
-async def main(document, port="7070"):
+async def main(document, place="7070"):
     client, loop = Client(document), asyncio.get_running_loop()
     typed = (asyncio.run_coroutine_threadsafe(client.type(line), loop).result() for line in sys.stdin if line.strip())
     threading.Thread(target=list, args=[typed], daemon=True).start()
-    staying = asyncio.create_task(client.stay(f"ws://127.0.0.1:{port}"))
+    staying = asyncio.create_task(client.stay(place if "://" in place else f"ws://127.0.0.1:{place}"))
     while not (await asyncio.wait([staying], timeout=60))[0]:
         if client.id and client.is_ready:  # who says nothing for five minutes is taken for gone
             await client.submit("noop", None)

@@ -1,16 +1,19 @@
 // Lives of connections: steps, and what comes of them.
 ghost use Rattle.std.specs.Prelude.{◌≡◌, ◌≤◌, false};
 ghost use Rattle.fluid_log.specs.declared.keeper.TheConstants.{LONGEST_KEPT};
+ghost use Rattle.fluid_log.specs.Places.{shelves_seen};
+ghost use Rattle.fluid_log.specs.Shelving.{AreWhole};
 ghost use Rattle.fluid_service.specs.Keys.{Serving};
 ghost use Rattle.fluid_voice.specs.States.{is_used};
 ghost use Rattle.fluid_connection.specs.Talked.{belongs};
 
+use crate::quiet::{Quiet, QuietShelves};
 use crate::telling::{told_fault, told_heard, told_replies};
 use fluid_connection::Talk;
-use fluid_doors::{Door, new_keepers_are_kept};
+use fluid_doors::Door;
 use fluid_lane::{Lane, Limits};
-use fluid_log::{MemoryKeeper, MemoryShelves};
-use fluid_service::{Service, Visit, new_shelves_are_kept};
+use fluid_log::{Keeper, MemoryKeeper, MemoryShelves};
+use fluid_service::{Service, Visit};
 use fluid_store::Objects;
 use fluid_talk::Conversation;
 use fluid_types::DocName;
@@ -46,27 +49,46 @@ pub fn numbers(rt: &impl Abort, alloc: Global, of: &[u64]) -> Vec<u64> {
     Vec::from_slice(alloc, of).expect(rt, "memory")
 }
 
-// A service over shelves of which these calls fail.
+// Shelves of which these calls fail.
+pub fn shelves(rt: &impl Abort, alloc: Global, failing: &[u64]) -> MemoryShelves
+    ensures { AreWhole (shelves_seen result) }
+{
+    MemoryShelves::new(alloc, numbers(rt, alloc, failing))
+}
+
+// Shelves on which the keeper of `d` has this record. These calls of that keeper fail, whose first call puts the record.
+pub fn shelves_with(rt: &impl Abort, alloc: Global, record: &str, failing: &[u64]) -> MemoryShelves
+    ensures { AreWhole (shelves_seen result) }
+{
+    let mut shelves = MemoryShelves::new(alloc, Vec::new(alloc));
+    let mut keeper = MemoryKeeper::new(alloc, numbers(rt, alloc, failing), Vec::new(alloc));
+    assert!(rt; record.len() <= LONGEST);
+    assert!(rt; keeper.append(alloc, record.as_bytes()).is_ok(), "{record}");
+    let name = DocName::read(alloc, "d").expect(rt, "a name");
+    shelves.add(name, keeper).expect(rt, "memory");
+    shelves
+}
+
+// A service over these shelves.
 pub fn serve(
     rt: &impl Abort,
     alloc: Global,
-    failing: &[u64],
+    shelves: MemoryShelves,
     limits: Limits,
-) -> Service<MemoryShelves>
-    requires { limits.bytes ≤ LONGEST_KEPT }
+) -> Service<QuietShelves>
+    requires whole { AreWhole (shelves_seen shelves) }
+    requires small { limits.bytes ≤ LONGEST_KEPT }
 {
-    let shelves = MemoryShelves::new(alloc, numbers(rt, alloc, failing));
-    new_shelves_are_kept(&shelves);
-    match Service::new(alloc, shelves, limits) {
+    match Service::new(alloc, QuietShelves { shelves }, limits) {
         Ok(service) => service,
         Err(_) => panic!(rt; "memory"),
     }
 }
 
 // A visit of a document over a new keeper of which these calls fail.
-pub fn visited(rt: &impl Abort, alloc: Global, failing: &[u64]) -> Visit<MemoryKeeper> {
-    new_keepers_are_kept();
+pub fn visited(rt: &impl Abort, alloc: Global, failing: &[u64]) -> Visit<Quiet> {
     let keeper = MemoryKeeper::new(alloc, numbers(rt, alloc, failing), Vec::new(alloc));
+    let keeper = Quiet { keeper };
     let Ok(lane) = Lane::start(alloc, keeper, Limits::FULL, MOMENT) else {
         panic!(rt; "a lane")
     };
@@ -82,7 +104,7 @@ pub fn visited(rt: &impl Abort, alloc: Global, failing: &[u64]) -> Visit<MemoryK
     Visit::new(door, pass)
 }
 
-fn forked(rt: &impl Abort, visit: &mut Option<Visit<MemoryKeeper>>) -> Option<Visit<MemoryKeeper>> {
+fn forked(rt: &impl Abort, visit: &mut Option<Visit<Quiet>>) -> Option<Visit<Quiet>> {
     match visit {
         Some(visit) => Some(visit.fork().expect(rt, "memory")),
         None => None,
@@ -103,9 +125,9 @@ fn is_used(state: &VoiceState) -> bool
 fn hear<R: Abort + Wait, O: Objects>(
     rt: &R,
     alloc: Global,
-    service: &Service<MemoryShelves>,
+    service: &Service<QuietShelves>,
     objects: &mut O,
-    talk: &mut Talk<MemoryShelves>,
+    talk: &mut Talk<QuietShelves>,
     text: &str,
     wanted: &str,
 )
@@ -125,9 +147,9 @@ fn hear<R: Abort + Wait, O: Objects>(
 fn open<R: Abort + Wait, O: Objects>(
     rt: &R,
     alloc: Global,
-    service: &Service<MemoryShelves>,
+    service: &Service<QuietShelves>,
     objects: &mut O,
-    talk: &mut Talk<MemoryShelves>,
+    talk: &mut Talk<QuietShelves>,
     count: u64,
     wanted: &str,
 )
@@ -160,7 +182,7 @@ fn submissions(rt: &impl Abort, alloc: Global, count: u64) -> String {
     text
 }
 
-fn collect<R: Abort + Wait>(rt: &R, alloc: Global, talk: &mut Talk<MemoryShelves>, wanted: &str)
+fn collect<R: Abort + Wait>(rt: &R, alloc: Global, talk: &mut Talk<QuietShelves>, wanted: &str)
     ensures { (x : Serving) → belongs talk.old x → belongs talk.new x }
 {
     match &talk.collect(rt, alloc) {
@@ -173,7 +195,7 @@ fn collect<R: Abort + Wait>(rt: &R, alloc: Global, talk: &mut Talk<MemoryShelves
     }
 }
 
-fn leave<R: Abort + Wait>(rt: &R, alloc: Global, talk: &mut Talk<MemoryShelves>, wanted: &str)
+fn leave<R: Abort + Wait>(rt: &R, alloc: Global, talk: &mut Talk<QuietShelves>, wanted: &str)
     ensures { (x : Serving) → belongs talk.old x → belongs talk.new x }
 {
     match &talk.leave(rt, alloc, MOMENT) {
@@ -182,7 +204,7 @@ fn leave<R: Abort + Wait>(rt: &R, alloc: Global, talk: &mut Talk<MemoryShelves>,
     }
 }
 
-fn again(service: &Service<MemoryShelves>, talk: &mut Talk<MemoryShelves>)
+fn again(service: &Service<QuietShelves>, talk: &mut Talk<QuietShelves>)
     requires { belongs talk.old service.now }
     ensures { belongs talk.new service.now }
 {
@@ -195,7 +217,7 @@ fn work<R: Abort + Wait, O: Objects>(
     rt: &R,
     alloc: Global,
     objects: &mut O,
-    visit: &mut Option<Visit<MemoryKeeper>>,
+    visit: &mut Option<Visit<Quiet>>,
 ) {
     let (door, pass) = visit.take().expect(rt, "a visit").into_parts();
     let (pass, answered) = door.scribe(rt, alloc, pass, objects, MOMENT);
@@ -214,10 +236,10 @@ fn work<R: Abort + Wait, O: Objects>(
 fn live<R: Abort + Wait, O: Objects>(
     rt: &R,
     alloc: Global,
-    service: &Service<MemoryShelves>,
+    service: &Service<QuietShelves>,
     objects: &mut O,
-    talk: &mut Talk<MemoryShelves>,
-    visit: &mut Option<Visit<MemoryKeeper>>,
+    talk: &mut Talk<QuietShelves>,
+    visit: &mut Option<Visit<Quiet>>,
     step: Step,
 )
     requires { belongs talk.old service.now }
@@ -242,9 +264,9 @@ fn live<R: Abort + Wait, O: Objects>(
 pub fn life<R: Abort + Wait, O: Objects>(
     rt: &R,
     alloc: Global,
-    service: &Service<MemoryShelves>,
+    service: &Service<QuietShelves>,
     objects: &mut O,
-    visit: Option<Visit<MemoryKeeper>>,
+    visit: Option<Visit<Quiet>>,
     rows: &[(u8, Step)],
 ) {
     let mut visit = visit;

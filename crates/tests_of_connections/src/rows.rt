@@ -1,7 +1,7 @@
 // The lives.
 ghost use Rattle.std.specs.Prelude.{◌≡◌};
 
-use crate::lives::{Step, life, numbers, serve, visited};
+use crate::lives::{Step, life, numbers, serve, shelves, shelves_with, visited};
 use fluid_json::Bytes;
 use fluid_lane::Limits;
 use fluid_locked::LockedObjects;
@@ -28,6 +28,10 @@ const JOINED: &str =
 
 const OP: &str =
     r#"["submitOp","c0",[{"clientSequenceNumber":1,"contents":null,"referenceSequenceNumber":1,"type":"op"}]]"#;
+
+// A record of a log.
+const JOIN: &str =
+    r#"{"clientId":"c0","detail":null,"moment":4,"raw":"join","scopes":["doc:read","doc:write"]}"#;
 
 // Who isn't connected is answered by nacks, and who only reads may not write.
 const FRESH: [(u8, Step); 12] = [
@@ -567,6 +571,58 @@ const ROOM: [(u8, Step); 3] = [
     ),
 ];
 
+// The log of `d` has c0's join at 4. The call at which that is read fails, and then the one that is to append c0's leave: nobody is
+// connected, and the next start finds the log as it was. What is entered behind it all is the join, one leave, and the join of who connects.
+const STARTS: [(u8, Step); 9] = [
+    (1, Step::Hears(CONNECT, "the log failed at a start")),
+    (1, Step::Collects("")),
+    (1, Step::Hears(OP, NOT_CONNECTED)),
+    (1, Step::Hears(CONNECT, "the log failed at a start")),
+    (
+        2,
+        Step::Hears(
+            r#"["connect_document",{"id":"e","scopes":["doc:read","doc:write"]}]"#,
+            CONNECTED,
+        ),
+    ),
+    (
+        1,
+        Step::Hears(
+            CONNECT,
+            r#"["connect_document_success",{"checkpointSequenceNumber":2,"clientId":"c2","maxMessageSize":1048576,"mode":"write","version":"1"}]"#,
+        ),
+    ),
+    (
+        1,
+        Step::Collects(
+            r#"["op","d",[{"clientId":null,"clientSequenceNumber":-1,"contents":null,"data":"{\"clientId\":\"c2\",\"detail\":null}","minimumSequenceNumber":2,"referenceSequenceNumber":-1,"sequenceNumber":3,"timestamp":5,"type":"join"}]]"#,
+        ),
+    ),
+    (
+        1,
+        Step::Hears(
+            r#"["getDeltas",1,4]"#,
+            r#"["deltas",1,[{"clientId":null,"clientSequenceNumber":-1,"contents":null,"data":"{\"clientId\":\"c0\",\"detail\":null}","minimumSequenceNumber":0,"referenceSequenceNumber":-1,"sequenceNumber":1,"timestamp":4,"type":"join"},{"clientId":null,"clientSequenceNumber":-1,"contents":null,"data":"\"c0\"","minimumSequenceNumber":2,"referenceSequenceNumber":-1,"sequenceNumber":2,"timestamp":5,"type":"leave"},{"clientId":null,"clientSequenceNumber":-1,"contents":null,"data":"{\"clientId\":\"c2\",\"detail\":null}","minimumSequenceNumber":2,"referenceSequenceNumber":-1,"sequenceNumber":3,"timestamp":5,"type":"join"}]]"#,
+        ),
+    ),
+    (1, Step::Leaves("left")),
+];
+
+// The log of `d` has a record that isn't one. Who asked for `d` isn't connected, and may connect to another document.
+const SPOILT: [(u8, Step); 5] = [
+    (1, Step::Hears(CONNECT, "a record is bad at a start")),
+    (1, Step::Hears(CONNECT, "a record is bad at a start")),
+    (1, Step::Hears(OP, NOT_CONNECTED)),
+    (
+        1,
+        Step::Hears(
+            r#"["connect_document",{"id":"e","scopes":["doc:read","doc:write"]}]"#,
+            CONNECTED,
+        ),
+    ),
+    (2, Step::Hears(CONNECT, "a record is bad at a start")),
+];
+
 // As many entries as three, and one client.
 const FEW: Limits = Limits {
     entries: 3,
@@ -588,14 +644,14 @@ fn texts_are_answered(rt: HostRuntime) -> Result<(), Fail> {
     let alloc = rt.alloc();
     let store = Mutex::new(MemoryObjects::new(alloc, Vec::new(alloc)));
     let mut objects = LockedObjects::new(&rt, &store);
-    let first = serve(&rt, alloc, &[], Limits::FULL);
+    let first = serve(&rt, alloc, shelves(&rt, alloc, &[]), Limits::FULL);
     life(&rt, alloc, &first, &mut objects, None, &FRESH);
     life(&rt, alloc, &first, &mut objects, None, &WRITES);
-    let second = serve(&rt, alloc, &[], Limits::FULL);
+    let second = serve(&rt, alloc, shelves(&rt, alloc, &[]), Limits::FULL);
     life(&rt, alloc, &second, &mut objects, None, &TURNS);
-    let third = serve(&rt, alloc, &[], Limits::FULL);
+    let third = serve(&rt, alloc, shelves(&rt, alloc, &[]), Limits::FULL);
     life(&rt, alloc, &third, &mut objects, None, &MANY);
-    let fourth = serve(&rt, alloc, &[], Limits::FULL);
+    let fourth = serve(&rt, alloc, shelves(&rt, alloc, &[]), Limits::FULL);
     life(&rt, alloc, &fourth, &mut objects, None, &PUTS);
     let visit = visited(&rt, alloc, &[]);
     life(&rt, alloc, &fourth, &mut objects, Some(visit), &SUMMARY);
@@ -606,11 +662,11 @@ fn texts_are_answered(rt: HostRuntime) -> Result<(), Fail> {
 fn limits_are_reached(rt: HostRuntime) -> Result<(), Fail> {
     let alloc = rt.alloc();
     let mut objects = MemoryObjects::new(alloc, Vec::new(alloc));
-    let full = serve(&rt, alloc, &[], FEW);
+    let full = serve(&rt, alloc, shelves(&rt, alloc, &[]), FEW);
     life(&rt, alloc, &full, &mut objects, None, &FILLS);
-    let crowded = serve(&rt, alloc, &[], FEW);
+    let crowded = serve(&rt, alloc, shelves(&rt, alloc, &[]), FEW);
     life(&rt, alloc, &crowded, &mut objects, None, &CROWDS);
-    let many = serve(&rt, alloc, &[], NONE);
+    let many = serve(&rt, alloc, shelves(&rt, alloc, &[]), NONE);
     life(&rt, alloc, &many, &mut objects, None, &OPENS);
     Ok(())
 }
@@ -644,17 +700,17 @@ impl Objects for Poor {
 fn services_and_stores_fail(rt: HostRuntime) -> Result<(), Fail> {
     let alloc = rt.alloc();
     let mut sound = MemoryObjects::new(alloc, Vec::new(alloc));
-    let first = serve(&rt, alloc, &[1], Limits::FULL);
+    let first = serve(&rt, alloc, shelves(&rt, alloc, &[1]), Limits::FULL);
     life(&rt, alloc, &first, &mut sound, None, &SHELVES);
     let store = Mutex::new(MemoryObjects::new(alloc, numbers(&rt, alloc, &[1, 3, 6])));
     let mut failing = LockedObjects::new(&rt, &store);
-    let second = serve(&rt, alloc, &[], Limits::FULL);
+    let second = serve(&rt, alloc, shelves(&rt, alloc, &[]), Limits::FULL);
     life(&rt, alloc, &second, &mut failing, None, &STORES);
     let id = Id::of(b"blob 6\0hello\n");
     assert!(rt; sound.put(alloc, &id, &[0]).is_ok());
-    let third = serve(&rt, alloc, &[], Limits::FULL);
+    let third = serve(&rt, alloc, shelves(&rt, alloc, &[]), Limits::FULL);
     life(&rt, alloc, &third, &mut sound, None, &CLASH);
-    let fourth = serve(&rt, alloc, &[], Limits::FULL);
+    let fourth = serve(&rt, alloc, shelves(&rt, alloc, &[]), Limits::FULL);
     life(&rt, alloc, &fourth, &mut Poor { gets: 0 }, None, &POOR);
     Ok(())
 }
@@ -663,11 +719,20 @@ fn services_and_stores_fail(rt: HostRuntime) -> Result<(), Fail> {
 fn keepers_fail(rt: HostRuntime) -> Result<(), Fail> {
     let alloc = rt.alloc();
     let mut objects = MemoryObjects::new(alloc, Vec::new(alloc));
-    let service = serve(&rt, alloc, &[], Limits::FULL);
+    let service = serve(&rt, alloc, shelves(&rt, alloc, &[]), Limits::FULL);
     let log = visited(&rt, alloc, &[1, 4, 7]);
     life(&rt, alloc, &service, &mut objects, Some(log), &LOG);
     let deltas = visited(&rt, alloc, &[7, 10]);
     life(&rt, alloc, &service, &mut objects, Some(deltas), &DELTAS);
+    let joined = serve(
+        &rt,
+        alloc,
+        shelves_with(&rt, alloc, JOIN, &[2, 4]),
+        Limits::FULL,
+    );
+    life(&rt, alloc, &joined, &mut objects, None, &STARTS);
+    let spoilt = serve(&rt, alloc, shelves_with(&rt, alloc, "{", &[]), Limits::FULL);
+    life(&rt, alloc, &spoilt, &mut objects, None, &SPOILT);
     Ok(())
 }
 
@@ -675,7 +740,7 @@ fn keepers_fail(rt: HostRuntime) -> Result<(), Fail> {
 fn a_document_needs_room(rt: HostRuntime) -> Result<(), Fail> {
     let alloc = rt.alloc();
     let mut objects = MemoryObjects::new(alloc, Vec::new(alloc));
-    let service = serve(&rt, alloc, &[], Limits::FULL);
+    let service = serve(&rt, alloc, shelves(&rt, alloc, &[]), Limits::FULL);
     let room = visited(&rt, alloc, &[4097]);
     life(&rt, alloc, &service, &mut objects, Some(room), &ROOM);
     Ok(())

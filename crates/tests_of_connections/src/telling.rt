@@ -59,6 +59,7 @@ pub fn told_fault(fault: &TalkFault) -> &'static str {
     match fault {
         TalkFault::Door(DoorFault::ShelfFailed(_)) => "the shelves failed",
         TalkFault::Door(DoorFault::Lane(LaneFault::LogFailed(_))) => "the log failed at a start",
+        TalkFault::Door(DoorFault::Lane(LaneFault::BadRecord(0))) => "a record is bad at a start",
         TalkFault::Door(_) => "no door",
         TalkFault::Lane(LaneFault::LogFailed(_)) => "the log failed",
         TalkFault::Lane(LaneFault::DeltaFailed(_)) => "the deltas failed at an entry",

@@ -15,13 +15,15 @@ use std::marker::Model;
 use std::sync::Wait;
 use std::test::Fail;
 
-// The wire of a reader. Before its second text comes, a writer's whole session goes by on another one.
+// The wire of a reader. Before its second text comes, a writer's whole session goes by on another one. It counts how often it is told to
+// follow `d`.
 #[derive(Drop)]
 struct Beside<'a> {
     wire: MemoryWire,
     service: &'a Service<MemoryShelves>,
     other: MemoryWire,
     calls: u64,
+    follows: u64,
     report: Option<Report>,
 }
 
@@ -65,6 +67,12 @@ impl<'a> Wire for Beside<'a> {
     fn send<R: Wait>(&mut self, rt: &R, alloc: Global, text: &str) -> Result<(), WireFault> {
         self.wire.send(rt, alloc, text)
     }
+
+    fn follow<R: Wait>(&mut self, _rt: &R, name: &str) {
+        if name == "d" {
+            self.follows = self.follows.saturating_add(1);
+        }
+    }
 }
 
 const SEEN: &str =
@@ -83,6 +91,7 @@ fn a_reader_gets_what_is_written_beside_it(rt: HostRuntime) -> Result<(), Fail> 
         service: &service,
         other: lines(&rt, alloc, WRITE, 0, 0),
         calls: 0,
+        follows: 0,
         report: None,
     };
     let visit = sit(
@@ -97,6 +106,7 @@ fn a_reader_gets_what_is_written_beside_it(rt: HostRuntime) -> Result<(), Fail> 
     drop(visit);
     says(&rt, alloc, &wire.wire, SEEN);
     says(&rt, alloc, &wire.other, WHOLE);
+    assert!(rt; wire.follows == 1, "it follows at its connect alone");
     let report = wire.report.take().expect(&rt, "a report");
     let told = told_report(alloc, &report).expect(&rt, "memory");
     assert!(rt; told.as_str() == "closed 2 1 0 0 0", "{told}");

@@ -38,6 +38,11 @@ const TORN: &str =
 ["op","d",[{"clientId":null,"clientSequenceNumber":-1,"contents":null,"data":"{\"clientId\":\"c0\",\"detail\":null}","minimumSequenceNumber":0,"referenceSequenceNumber":-1,"sequenceNumber":1,"timestamp":7,"type":"join"}]]
 "#;
 
+// The answer to a text that isn't JSON.
+const UNREAD: &str =
+    r#"["nack","d",[{"content":{"code":400,"message":"bad event: not JSON","type":"BadRequestError"},"operation":null,"sequenceNumber":-1}]]
+"#;
+
 const RANGE: &str = r#"["connect_document",{"id":"d","mode":"read","scopes":["doc:read"]}]
 ["getDeltas",1,4]"#;
 
@@ -341,15 +346,17 @@ fn hostile_wires_end(rt: HostRuntime) -> Result<(), Fail> {
         None,
         2,
     );
+    let nacks = long(&rt, alloc, TORN, UNREAD, 1_000, "");
     run(
         &rt,
         alloc,
         full,
         often(&rt, alloc, "hello", 1001),
         "abused 1000 0 0 0 0 1000",
-        None,
+        Some(nacks.as_str()),
         2,
     );
+    drop(nacks);
     run(
         &rt,
         alloc,
