@@ -1,7 +1,7 @@
 -- The text of an op event, out of those of its messages.
 use Rattle.std.proofs.Common.{◌≡◌, ℕ, List, ◌++◌, map, append_assoc, append-nil, refl}
 use Rattle.std.specs.Prelude.{codes}
-use Rattle.json.specs.Print.{quoted, escape_byte}
+use Rattle.json.specs.Print.{escape_byte}
 use Rattle.fluid_json.specs.Tree.{text, trees}
 use Rattle.fluid_json.specs.Printed.{printed, printed_items}
 use Rattle.fluid_types.specs.declared.messages.Message.{Message}

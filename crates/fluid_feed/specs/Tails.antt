@@ -1,5 +1,5 @@
 -- The last messages of an order.
-use Rattle.std.specs.Prelude.{◌≡◌, ℕ, ◌+◌, ◌-◌, ◌≤◌, List, ◌++◌, length, take, drop, refl}
+use Rattle.std.specs.Prelude.{◌≡◌, ℕ, ◌+◌, ◌-◌, ◌<◌, ◌≤◌, List, ◌++◌, length, take, drop, refl}
 use Rattle.std.specs.Coded.{Coded, code_by, coded×, coded_ℕ, coded_list}
 use Rattle.fluid_types.specs.declared.messages.Message.{Message}
 use Rattle.fluid_types.specs.contracts.messages.Message as message
@@ -17,8 +17,13 @@ stretch t from to = take (to - from) (drop (from - t.from) t.messages)
 abbrev pub with_more : List Message → ATail → ATail
 with_more more t = record t { messages = t.messages ++ more }
 
--- some of the first ones were let go
+-- more than a trimmed one has
+abbrev pub too_many : ℕ
+too_many = 128
+
+-- some of the first ones were let go, so that there aren't too many
 pub record IsTrimmed (old new : ATail) : Type 0 where
+  pub short : length new.messages < too_many
   pub count : ℕ
   pub few : count ≤ length old.messages
   pub from : new.from ≡ old.from + count

@@ -12,4 +12,4 @@ mod tail;
 
 pub use events::{EventText, Feed};
 pub use messages::MessageText;
-pub use tail::{MOST_KEPT, Tail};
+pub use tail::{KEPT, Tail};

@@ -8,10 +8,11 @@ use fluid_types::Message;
 use std::alloc::Global;
 use std::marker::Model;
 
-/// So many messages a tail keeps at least, once it has had as many; it has less than twice as many when it is trimmed.
-pub const MOST_KEPT: usize = 64;
+/// So many messages are left of a tail that had twice as many or more, when it is trimmed.
+pub const KEPT: usize = 64;
 
-/// The last messages of an order, printed, numbered one by one from a first number. Contracts see that number and the messages.
+/// The last messages of an order, printed, numbered one by one from a first number. Contracts see that number and the messages. One
+/// that is trimmed has less than twice `KEPT` messages.
 #[derive(Drop)]
 pub struct Tail {
     from: u64,
@@ -93,13 +94,16 @@ impl Tail {
         &self.texts[low..high]
     }
 
-    /// Lets go of the first messages, where it has twice as many as it keeps.
+    /// Lets go of the first messages of a tail that has twice as many as are kept, or more. Takes no memory.
     pub fn trim(&mut self)
         ensures { IsTrimmed self.old self.new }
     {
-        if self.texts.len() >= 2 * MOST_KEPT {
-            self.from += MOST_KEPT as u64;
-            self.texts.drain(..MOST_KEPT);
+        let count = self.texts.len();
+        if count < 2 * KEPT {
+            return;
         }
+        let extra = count - KEPT;
+        self.from += extra as u64;
+        self.texts.drain(..extra);
     }
 }
