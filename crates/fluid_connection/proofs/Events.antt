@@ -1,18 +1,18 @@
 -- How the messages of a slice become an event.
-use Rattle.std.proofs.Common.{◌≡◌, ◌∙◌, ℕ, zero, suc, ◌+◌, ◌^◌, ◌<◌, ◌≤◌, nat_lt, true, List, [], ◌∷◌, ◌++◌, length, Option, Some, option_map, Result, Ok, Err, IfOk, append-nil, refl, sym, ap, subst, arith}
+use Rattle.std.proofs.Common.{◌≡◌, ◌∙◌, ℕ, zero, suc, ◌+◌, ◌^◌, ◌<◌, ◌≤◌, nat_lt, true, List, [], ◌∷◌, ◌++◌, length, Option, Some, Result, Ok, Err, IfOk, append-nil, refl, sym, ap, subst, arith}
 use Rattle.std.proofs.lemmas.Bool.Decides.{nat_tests}
 use Rattle.fluid_types.specs.declared.messages.Message.{Message}
 use Rattle.fluid_document.specs.Entries.{most}
 use Rattle.fluid_deltas.specs.declared.fault.DeltaFault.{DeltaFault}
-use Rattle.fluid_doors.specs.Collecting.{AreNext}
+use Rattle.fluid_doors.specs.Collecting.{AreNext, IsEventUnder, gathered}
 use Rattle.fluid_codec.specs.declared.replies.Reply.{Reply}
-use Rattle.fluid_codec.specs.declared.replies.Reply.TheVariants.{Ops}
-use Rattle.fluid_voice.specs.Feed.{most_in_event}
+use Rattle.fluid_codec.specs.declared.replies.Reply.TheVariants.{Connected, ConnectError, Ops, Nacked, Deltas, Summary, Object, Stored}
+use Rattle.fluid_voice.specs.Feed.{brought, most_in_event}
 use Rattle.fluid_ends.specs.declared.fault.TalkFault.{TalkFault}
 use Rattle.fluid_ends.specs.declared.fault.TalkFault.TheVariants as talk
 use Rattle.fluid_ends.specs.Faults.{of_delta}
 use Rattle.fluid_connection.specs.declared.collecting.Slice.{Slice}
-use Rattle.fluid_connection.specs.Slices.{event_of, in_list, PutsEvent, PutsAnswer}
+use Rattle.fluid_connection.specs.Slices.{event_of, PutsEvent, PutsAnswer}
 
 nil_of : (ms : List Message) → length ms ≡ 0 → ms ≡ []
 nil_of [] none = refl
@@ -29,22 +29,21 @@ event_some : (name : List ℕ) (ms : List Message) → 0 < length ms → Ops nam
 event_some name [] some = absurd (omega arith)
 event_some name (m ∷ ms) some = refl
 
-pub put_one : (name : List ℕ) (next : ℕ) (ms : List Message) (old new : List Reply) (s : Slice) (event : Option Reply) (document : Option (List ℕ)) → 0 < length ms → document ≡ Some name → event ≡ option_map (λ (n : List ℕ). Ops n ms) document
-    → new ≡ old ++ in_list event → s.next ≡ next + length ms → (s.is_last ≡ true → length ms < most_in_event) → PutsEvent name next ms old new s
-put_one name next ms old new s event document some named is said next_is last = record {
-  put = said ∙ ap (λ e. old ++ in_list e) (is ∙ ap (option_map (λ (n : List ℕ). Ops n ms)) named) ∙ ap (λ rs. old ++ rs) (event_some name ms some);
-  next = next_is;
-  last = last;
-}
+-- what an event of the document is
+event_is : (name : List ℕ) (event : Reply) → IsEventUnder name (Some event) → (event ≡ Ops name (brought event)) × (0 < length (brought event))
+event_is name (Ops of_name ms) is = (ap (λ (n : List ℕ). Ops n ms) is.0, is.1)
+event_is name (Connected checkpoint id write) is = absurd is
+event_is name (ConnectError code reason) is = absurd is
+event_is name (Nacked of_name nack) is = absurd is
+event_is name (Deltas from ms) is = absurd is
+event_is name (Summary found) is = absurd is
+event_is name (Object id bytes) is = absurd is
+event_is name (Stored id) is = absurd is
 
 pub is_few : (n : ℕ) → nat_lt n 64 ≡ true → n < 64
 is_few n test = grind (arith, nat_tests)
 
 -- ---- what is given fits
-
-pub few_given : {V : Type 0} (messages : V → List Message) (next atmost : ℕ) (answer : Result V DeltaFault) → IfOk answer (λ v. AreNext next atmost (messages v)) → IfOk answer (λ v. length (messages v) ≤ atmost)
-few_given messages next atmost (Ok v) given = given.few
-few_given messages next atmost (Err fault) given = tt
 
 fits_by : (next count : ℕ) → next < 2 ^ 64 → (0 < count → next + count ≤ most + 1) → next + count < 2 ^ 64
 fits_by next zero fits last = omega arith
@@ -70,9 +69,12 @@ pub ok_none : {V : Type 0} (messages : V → List Message) (name : List ℕ) (ne
 ok_none messages name next old answer v was none =
     subst (λ a. PutsAnswer messages name next old old a (Ok (record { next = next; is_last = true }))) (sym was) (put_none name next (messages v) old none)
 
-pub ok_one : {V : Type 0} (messages : V → List Message) (name : List ℕ) (next count : ℕ) (old new : List Reply) (answer : Result V DeltaFault) (v : V) (event : Option Reply) (document : Option (List ℕ)) → answer ≡ Ok v
-    → count ≡ length (messages v) → (count ≡ 0 → ⊥) → document ≡ Some name → event ≡ option_map (λ (n : List ℕ). Ops n (messages v)) document → new ≡ old ++ in_list event
-    → PutsAnswer messages name next old new answer (Ok (record { next = next + count; is_last = nat_lt count 64 }))
-ok_one messages name next count old new answer v event document was counted some named is said =
-    subst (λ a. PutsAnswer messages name next old new a (Ok (record { next = next + count; is_last = nat_lt count 64 }))) (sym was)
-    (put_one name next (messages v) old new (record { next = next + count; is_last = nat_lt count 64 }) event document (omega arith) named is said (omega arith) (λ last. let few = is_few count last in omega arith))
+pub ok_one : (name : List ℕ) (next count : ℕ) (old new : List Reply) (answer : Result (Option Reply) DeltaFault) (event : Reply) → answer ≡ Ok (Some event) → IfOk answer (IsEventUnder name)
+    → count ≡ length (brought event) → new ≡ old ++ event ∷ [] → PutsAnswer gathered name next old new answer (Ok (record { next = next + count; is_last = nat_lt count 64 }))
+ok_one name next count old new answer event was under counted said =
+    let is = event_is name event (subst (λ a. IfOk a (IsEventUnder name)) was under) in
+    subst (λ a. PutsAnswer gathered name next old new a (Ok (record { next = next + count; is_last = nat_lt count 64 }))) (sym was) (record {
+      put = said ∙ ap (λ e. old ++ e ∷ []) is.0 ∙ ap (λ rs. old ++ rs) (event_some name (brought event) is.1);
+      next = ap (λ n. next + n) counted;
+      last = λ last. subst (λ n. n < 64) counted (is_few count last);
+    })

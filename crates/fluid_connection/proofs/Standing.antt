@@ -140,13 +140,13 @@ module _ (v : VoiceState) (k : AKey) (h : Option Visiting) (old new : Visiting) 
     number_is : next_number (with_next c.next v) ≡ c.next
     number_is = with_next-number c.next v joined later
 
-    pub feeds : Feeds (talking (standing v k old h)) (talking (standing (with_next c.next v) k new h)) c.replies.items
+    pub feeds : Feeds (talking (standing v k old h)) (talking (standing (with_next c.next v) k new h)) c.events
     feeds = record {
       goes = all.brings.goes;
       key = refl;
       events = λ name named.
           let same : old.door.name ≡ name = some_same old.door.name name (is.named joined ∙ named) in
-          subst (λ n. All (IsEventOf n) c.replies.items) same all.brings.events;
+          subst (λ n. All (IsEventOf n) c.events) same all.brings.events;
       to = c.next;
       voice = refl;
       numbers = all.brings.numbers;
@@ -212,11 +212,11 @@ module _ (t : Talked) (old new : Visiting) (is : IsTalk t) (some : t.visit ≡ S
     pub behind_delivered : (steps : ℕ) → HasDelivered (standing w t.key new t.handed) (Some steps)
     behind_delivered steps = subst (λ v. HasDelivered (standing v t.key new t.handed) (Some steps)) (sym next) (collected_settled t.voice t.key t.handed old new before back joined c all steps)
 
-    pub behind_feeds : (replies : List Reply) → replies ≡ c.replies.items → Feeds (talking t) (talking (standing w t.key new t.handed)) replies
+    pub behind_feeds : (replies : List Reply) → replies ≡ c.events → Feeds (talking t) (talking (standing w t.key new t.handed)) replies
     behind_feeds replies same =
         subst (λ rs. Feeds (talking t) (talking (standing w t.key new t.handed)) rs) (sym same)
-        (subst (λ s. Feeds (talking s) (talking (standing w t.key new t.handed)) c.replies.items) was
-        (subst (λ v. Feeds (talking (standing t.voice t.key old t.handed)) (talking (standing v t.key new t.handed)) c.replies.items) (sym next) (feeds t.voice t.key t.handed old new before back joined c all)))
+        (subst (λ s. Feeds (talking s) (talking (standing w t.key new t.handed)) c.events) was
+        (subst (λ v. Feeds (talking (standing t.voice t.key old t.handed)) (talking (standing v t.key new t.handed)) c.events) (sym next) (feeds t.voice t.key t.handed old new before back joined c all)))
 
 -- one that has left is connected to no document
 pub left_talk : (t : Talked) → t.voice ≡ Used → IsTalk t

@@ -26,10 +26,6 @@ abbrev pub event_of : List ℕ → List Message → List Reply
 event_of name [] = []
 event_of name (m ∷ ms) = Ops name (m ∷ ms) ∷ []
 
-abbrev pub in_list : Option Reply → List Reply
-in_list None = []
-in_list (Some reply) = reply ∷ []
-
 -- the messages of a slice were put into an event behind the others. There may be more only where it has as many as may be
 pub record PutsEvent (name : List ℕ) (from : ℕ) (messages : List Message) (old new : List Reply) (slice_is : Slice) : Type 0 where
   pub put : new ≡ old ++ event_of name messages
@@ -78,7 +74,7 @@ pub record Brings (name : List ℕ) (p q : Knowing) (from to : ℕ) (replies : L
 
 -- up to the last of all that is seen then
 pub record BringsAll (name : List ℕ) (p q : Knowing) (from : ℕ) (collected : Collected) : Type 0 where
-  pub brings : Brings name p q from collected.next collected.replies.items
+  pub brings : Brings name p q from collected.next collected.events
   pub last : p.told ≡ true → collected.next ≡ number_behind_last q.seen
 
 abbrev pub CollectsAll : (name : List ℕ) (p q : Knowing) (from : ℕ) → Result Collected TalkFault → Type 0

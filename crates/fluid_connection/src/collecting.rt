@@ -1,29 +1,28 @@
 // What a connection collects: the messages that it hasn't delivered.
-ghost use Rattle.std.specs.Prelude.{◌≡◌, ◌<◌, ◌≤◌, ◌+◌, ◌^◌, ◌++◌, List, ℕ, true, false, length, Some, None, is_some, IfOk};
+ghost use Rattle.std.specs.Prelude.{◌≡◌, ◌<◌, ◌≤◌, ◌+◌, ◌^◌, List, ℕ, true, false, length, Some, None, is_some, IfOk};
 ghost use Rattle.fluid_document.specs.Entries.{most};
-ghost use Rattle.fluid_voice.specs.States.{document_name, is_connected, next_number};
-ghost use Rattle.fluid_voice.specs.Feed.{most_in_event};
+ghost use Rattle.fluid_voice.specs.States.{is_connected, next_number};
+ghost use Rattle.fluid_doors.specs.Collecting.{IsEventUnder, gathered};
 ghost use Rattle.fluid_talk.specs.Talking.{number_behind_last};
 ghost use Rattle.fluid_connection.specs.Talked.{visited};
 ghost use Rattle.fluid_connection.specs.Knowing.{knowing};
-ghost use Rattle.fluid_connection.specs.Slices.{in_list, PutsAnswer, TakesNext, CollectsAll, ComesBack};
+ghost use Rattle.fluid_connection.specs.Slices.{PutsAnswer, TakesNext, CollectsAll, ComesBack};
 
 use fluid_cast::Cursor;
 use fluid_deltas::DeltaFault;
 use fluid_doors::{Door, Pass};
 use fluid_ends::TalkFault;
-use fluid_json::NoMemory;
+use fluid_feed::{EventText, Feed};
 use fluid_log::Keeper;
 use fluid_service::Visit;
-use fluid_types::{Message, Messages};
-use fluid_voice::{MOST_IN_EVENT, Reply, Voice, VoiceState};
+use fluid_voice::{MOST_IN_EVENT, VoiceState};
 use std::alloc::Global;
 use std::sync::Wait;
 
 /// What was collected: the op events, the number of the message behind theirs, and how many steps the document had before that.
 #[derive(Drop)]
 pub(crate) struct Collected {
-    pub(crate) replies: Vec<Reply>,
+    pub(crate) events: Feed,
     pub(crate) next: u64,
     pub(crate) steps: u64,
 }
@@ -61,23 +60,20 @@ pub(crate) fn is_quiet<K: Keeper>(visit: &Option<Visit<K>>, settled: Option<u64>
     }
 }
 
-/// Collects what a visit's document has from this number on, in slices, each in a turn of its own. The events are made outside the
-/// turn, and each once.
+/// Collects what a visit's document has from this number on, in slices, each in a turn of its own.
 pub(crate) fn collect_all<R: Wait, K: Keeper>(
     rt: &R,
     alloc: Global,
-    voice: &Voice,
     visit: Visit<K>,
     next: u64,
 ) -> (Visit<K>, Result<Collected, TalkFault>)
-    requires named { document_name voice.now ≡ Some visit.door.name }
     requires first { 0 < next }
     requires within { visit.pass.turn.fixed.told ≡ true → next ≤ number_behind_last visit.pass.seen }
     ensures back { ComesBack visit result.0 }
     ensures does { CollectsAll visit.door.name (visited visit) (visited result.0) next result.1 }
 {
     let (door, pass) = visit.into_parts();
-    let (pass, answer) = collect_slices(rt, alloc, &door, voice, pass, next);
+    let (pass, answer) = collect_slices(rt, alloc, &door, pass, next);
     (Visit::new(door, pass), answer)
 }
 
@@ -85,12 +81,10 @@ fn collect_slices<R: Wait, K: Keeper>(
     rt: &R,
     alloc: Global,
     door: &Door<K>,
-    voice: &Voice,
     pass: Pass<K>,
     next: u64,
 ) -> (Pass<K>, Result<Collected, TalkFault>)
     requires pass { pass.turn ≡ door.now.turn }
-    requires named { document_name voice.now ≡ Some door.now.name }
     requires first { 0 < next }
     requires within { pass.turn.fixed.told ≡ true → next ≤ number_behind_last pass.seen }
     ensures turn { result.0.turn ≡ door.now.turn }
@@ -99,10 +93,10 @@ fn collect_slices<R: Wait, K: Keeper>(
 {
     let steps = door.hint();
     let mut pass = pass;
-    let mut replies = Vec::new(alloc);
+    let mut events = Feed::new(alloc);
     let mut next = next;
     'slices: for _ in rt.forever() {
-        let (back, answer) = collect_next(rt, alloc, door, voice, pass, next, &mut replies);
+        let (back, answer) = collect_next(rt, alloc, door, pass, next, &mut events);
         pass = back;
         match answer {
             Ok(slice) => {
@@ -111,7 +105,7 @@ fn collect_slices<R: Wait, K: Keeper>(
                     return (
                         pass,
                         Ok(Collected {
-                            replies,
+                            events,
                             next,
                             steps,
                         }),
@@ -129,61 +123,41 @@ fn collect_next<R: Wait, K: Keeper>(
     rt: &R,
     alloc: Global,
     door: &Door<K>,
-    voice: &Voice,
     pass: Pass<K>,
     next: u64,
-    replies: &mut Vec<Reply>,
+    events: &mut Feed,
 ) -> (Pass<K>, Result<Slice, TalkFault>)
     requires pass { pass.turn ≡ door.now.turn }
-    requires named { document_name voice.now ≡ Some door.now.name }
     requires first { 0 < next }
     ensures turn { result.0.turn ≡ door.now.turn }
     ensures few { length result.0.seen ≤ most }
-    ensures does { TakesNext door.now.name (knowing door.now.name pass) (knowing door.now.name result.0) next replies.old.items replies.new.items result.1 }
+    ensures does { TakesNext door.now.name (knowing door.now.name pass) (knowing door.now.name result.0) next events.old events.new result.1 }
 {
     let cursor = Cursor { next };
     let (pass, answer) = door.collect(rt, alloc, pass, &cursor, MOST_IN_EVENT);
-    let slice = put_event(alloc, voice, next, answer, replies);
+    let slice = put_event(next, answer, events);
     (pass, slice)
 }
 
-// The event that brings the messages of a slice, behind the others.
+// The event of a slice, behind the others.
 fn put_event(
-    alloc: Global,
-    voice: &Voice,
     next: u64,
-    answer: Result<Vec<Message>, DeltaFault>,
-    replies: &mut Vec<Reply>,
+    answer: Result<Option<EventText>, DeltaFault>,
+    events: &mut Feed,
 ) -> Result<Slice, TalkFault>
-    requires few { IfOk answer (λ v. length v.items ≤ most_in_event) }
-    requires fits { IfOk answer (λ v. next + length v.items < 2 ^ 64) }
-    ensures { (name : List ℕ) → document_name voice.now ≡ Some name → PutsAnswer (λ v. v.items) name next replies.old.items replies.new.items answer result }
+    requires fits { IfOk answer (λ v. next + length (gathered v) < 2 ^ 64) }
+    ensures { (name : List ℕ) → IfOk answer (IsEventUnder name) → PutsAnswer gathered name next events.old events.new answer result }
 {
-    let messages = answer?;
-    let count = messages.len() as u64;
-    if count == 0 {
+    let Some(event) = answer? else {
         return Ok(Slice {
             next,
             is_last: true,
         });
-    }
-    let event = voice.event(alloc, Messages::new(messages))?;
-    push(replies, event)?;
+    };
+    let count = event.count();
+    events.push(event)?;
     Ok(Slice {
         next: next + count,
         is_last: count < MOST_IN_EVENT,
     })
-}
-
-// An event behind the others, where there is one.
-fn push(replies: &mut Vec<Reply>, event: Option<Reply>) -> Result<(), NoMemory>
-    ensures { IfOk result (λ _. replies.new.items ≡ replies.old.items ++ in_list event) }
-{
-    match event {
-        Some(event) => {
-            replies.push(event)?;
-            Ok(())
-        }
-        None => Ok(()),
-    }
 }

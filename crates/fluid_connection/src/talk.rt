@@ -18,11 +18,12 @@ use crate::collecting::{Collected, collect_all, is_quiet, next_of};
 use crate::leaving::{enter_leave, take_leave};
 use fluid_doors::know;
 use fluid_ends::TalkFault;
+use fluid_feed::Feed;
 use fluid_log::{Keeper, Shelves};
 use fluid_service::{Key, Service, Visit, know_key};
 use fluid_store::Objects;
 use fluid_talk::{Conversation, Heard};
-use fluid_voice::{Replies, Voice, VoiceState};
+use fluid_voice::{Voice, VoiceState};
 use std::alloc::Global;
 use std::marker::Model;
 use std::sync::Wait;
@@ -95,7 +96,7 @@ where
         rt: &R,
         alloc: Global,
         next: u64,
-    ) -> Result<Replies, TalkFault>
+    ) -> Result<Feed, TalkFault>
         requires connected { is_connected self.old.voice ≡ true }
         requires next { next ≡ next_number self.old.voice }
         ensures key { self.new.key ≡ self.old.key }
@@ -104,17 +105,17 @@ where
         let Some(visit) = self.visit.take() else {
             unreachable!();
         };
-        let (visit, answer) = collect_all(rt, alloc, &self.voice, visit, next);
+        let (visit, answer) = collect_all(rt, alloc, visit, next);
         self.visit = Some(visit);
         self.settled = None;
         let Collected {
-            replies,
+            events,
             next,
             steps,
         } = answer?;
         self.voice.advance(next);
         self.settled = Some(steps);
-        Ok(Replies::new(replies))
+        Ok(events)
     }
 
     // Enters the leave of a client.
@@ -174,12 +175,12 @@ where
         self.hear_text(rt, alloc, service, objects, text, moment)
     }
 
-    fn collect<R: Wait>(&mut self, rt: &R, alloc: Global) -> Result<Replies, TalkFault> {
+    fn collect<R: Wait>(&mut self, rt: &R, alloc: Global) -> Result<Feed, TalkFault> {
         let Some(next) = next_of(self.voice.state()) else {
-            return Ok(Replies::new(Vec::new(alloc)));
+            return Ok(Feed::new(alloc));
         };
         if is_quiet(&self.visit, self.settled) {
-            return Ok(Replies::new(Vec::new(alloc)));
+            return Ok(Feed::new(alloc));
         }
         self.collect_new(rt, alloc, next)
     }

@@ -8,11 +8,15 @@ use Rattle.fluid_log.specs.declared.keeper.Keeper.{Ghosts}
 use Rattle.fluid_document.specs.contracts.document.Document as Document
 use Rattle.fluid_lane.specs.contracts.lane.Lane as Lane
 use Rattle.fluid_lane.specs.contracts.lane.Lane.TheInside as Inside
+use Rattle.fluid_feed.specs.contracts.tail.Tail as Tail
 use Rattle.fluid_doors.specs.contracts.bench.Bench as Bench
-use Rattle.fluid_crossing.proofs.Values.{core-send, deltas-send}
+use Rattle.fluid_crossing.proofs.Values.{text-send, core-send, deltas-send}
 
 pub document-send : IsSend Document.the_row
 document-send = search (crosses, core-send, deltas-send, sendable) depth 60 fits 20000
+
+tail-send : IsSend Tail.the_row
+tail-send = search (crosses, text-send, sendable) depth 60 fits 20000
 
 module _ (K : RattleType) (k : Ghosts K.Denot) (s : IsSend K) where
   inside-send : IsSend (Inside.the_row K k)
@@ -31,4 +35,4 @@ module _ (K : RattleType) (k : Ghosts K.Denot) (s : IsSend K) where
   lane-send = view_send _ _ _ _ _ inside-send
 
   pub bench-send : IsSend (Bench.the_row K k)
-  bench-send = declared_send (Bench.the_type K k) (as_row_send (Lane.the_field K k) lane-send, tt)
+  bench-send = declared_send (Bench.the_type K k) (as_row_send (Lane.the_field K k) lane-send, (as_row_send Tail.the_field tail-send, tt))

@@ -1,5 +1,6 @@
 pub mod Answering
 pub mod Passes
 pub mod Reading
+pub mod Tails
 pub mod Lookings
 pub mod Reporting

@@ -21,7 +21,7 @@ use Rattle.fluid_doors.specs.Answers.{is_worn_behind}
 use Rattle.fluid_doors.specs.Collecting.{IsReadFault, IsWornDelta, AreNext, IsFaultIn, Collects, CollectsTold}
 use Rattle.fluid_doors.proofs.Answering.{worn_same, told_is}
 
-seq_is : (l : Ledger) → seq l ≡ length (order l)
+pub seq_is : (l : Ledger) → seq l ≡ length (order l)
 unfolding seq order
 seq_is l = refl
 
@@ -40,7 +40,7 @@ next_given next atmost len from to messages bound at ends given =
       last = λ some. omega (arith, at, ends, count, high, bound, some);
     }
 
-fault_in : (first end before a b : ℕ) (f : DeltaFault) → IsBadIn first end before f → IsFaultOf a b f → IsFaultIn first end f
+pub fault_in : (first end before a b : ℕ) (f : DeltaFault) → IsBadIn first end before f → IsFaultOf a b f → IsFaultIn first end f
 fault_in first end before a b (DeltaFailed note) bad cause = cause.rose
 fault_in first end before a b NoMemory bad cause = tt
 fault_in first end before a b (BadDelta number) bad cause = (bad.0, bad.1.0)
@@ -71,7 +71,7 @@ module _ {V : Type 0} (messages : V → List Message) where
   }
 
   -- a range of the lane
-  fault_worn : (s t : Standing) (from to : ℕ) (l : List Step) (result : Result V DeltaFault) → LaneStands s l → (is_worn s ≡ false → Ranges messages from to s t result) → IfErr result (λ fault. IsWornDelta fault → is_worn_behind l ≡ true)
+  pub fault_worn : (s t : Standing) (from to : ℕ) (l : List Step) (result : Result V DeltaFault) → LaneStands s l → (is_worn s ≡ false → Ranges messages from to s t result) → IfErr result (λ fault. IsWornDelta fault → is_worn_behind l ≡ true)
   fault_worn s t from to l (Ok v) stands ranges = tt
   fault_worn s t from to l (Err (DeltaFailed note)) stands ranges = λ w. absurd w
   fault_worn s t from to l (Err NoMemory) stands ranges = λ w. absurd w
@@ -82,11 +82,11 @@ module _ {V : Type 0} (messages : V → List Message) where
       by true is = is
       by false is = absurd ((ranges (worn_same s l stands ∙ is)).reads.cause)
 
-  sliced_right : (slice : List Message) (result : Result V DeltaFault) → IsSlice messages slice result → IfOk result (λ v. messages v ≡ slice)
+  pub sliced_right : (slice : List Message) (result : Result V DeltaFault) → IsSlice messages slice result → IfOk result (λ v. messages v ≡ slice)
   sliced_right slice (Ok v) is = is
   sliced_right slice (Err fault) is = tt
 
-  sliced_faults : (slice : List Message) (result : Result V DeltaFault) → IsSlice messages slice result → IfErr result IsReadFault
+  pub sliced_faults : (slice : List Message) (result : Result V DeltaFault) → IsSlice messages slice result → IfErr result IsReadFault
   sliced_faults slice (Ok v) is = tt
   sliced_faults slice (Err (DeltaFailed note)) is = tt
   sliced_faults slice (Err NoMemory) is = tt

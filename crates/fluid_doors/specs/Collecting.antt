@@ -1,5 +1,5 @@
 -- Messages that a reader gets.
-use Rattle.std.specs.Prelude.{◌≡◌, ⊤, ℕ, ◌+◌, ◌-◌, ◌<◌, ◌≤◌, min, true, List, length, Result, IfOk, IfErr}
+use Rattle.std.specs.Prelude.{◌≡◌, ⊤, ℕ, ◌+◌, ◌-◌, ◌<◌, ◌≤◌, min, true, List, [], length, Option, Some, None, Result, IfOk, IfErr}
 use Rattle.fluid_io.specs.Causes.{Rose}
 use Rattle.fluid_types.specs.Ledger.{order}
 use Rattle.fluid_types.specs.Order.{AreNumberedFrom}
@@ -8,11 +8,25 @@ use Rattle.fluid_rules.specs.Rules.{IsLegal}
 use Rattle.fluid_deltas.specs.Pushed.{slice}
 use Rattle.fluid_deltas.specs.declared.fault.DeltaFault.{DeltaFault}
 use Rattle.fluid_deltas.specs.declared.fault.DeltaFault.TheVariants.{DeltaFailed, NoMemory, BadDelta, Worn}
+use Rattle.fluid_codec.specs.declared.replies.Reply.{Reply}
+use Rattle.fluid_codec.specs.declared.replies.Reply.TheVariants.{Ops}
+use Rattle.fluid_voice.specs.Feed.{brought}
 use Rattle.fluid_document.specs.Entries.{most}
 use Rattle.fluid_lane.specs.declared.steps.Step.{Step}
 use Rattle.fluid_lane.specs.Steps.{ledger}
 use Rattle.fluid_doors.specs.declared.bench.Terms.{Terms}
 use Rattle.fluid_doors.specs.Answers.{is_worn_behind}
+
+-- the messages that a collection gives: those of its event, if there is one
+abbrev pub gathered : Option Reply → List Message
+gathered None = []
+gathered (Some reply) = brought reply
+
+-- an event of the document of this name, with a message
+abbrev pub IsEventUnder : List ℕ → Option Reply → Type 0
+IsEventUnder name None = ⊤
+IsEventUnder name (Some (Ops of_name messages)) = (of_name ≡ name) × (0 < length messages)
+IsEventUnder name (Some reply) = ⊥
 
 -- the messages from the number `next` on, at most so many; none where the order ends before it
 abbrev pub batch : (next atmost : ℕ) → List Message → List Message

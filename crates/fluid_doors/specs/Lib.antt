@@ -4,6 +4,7 @@ pub mod Answers
 pub mod Entering
 pub mod Storing
 pub mod Collecting
+pub mod Tailed
 pub mod Looking
 pub mod Scribing
 pub mod Closing

@@ -8,10 +8,10 @@ ghost use Rattle.fluid_types.specs.declared.verdicts.Verdict.{Verdict as AVerdic
 ghost use Rattle.fluid_rules.specs.Past.{is_sequenced};
 ghost use Rattle.fluid_document.specs.Entries.{most};
 ghost use Rattle.fluid_lane.specs.declared.steps.Step.{Step as AStep};
-ghost use Rattle.fluid_lane.specs.Standing.{LaneStands};
 ghost use Rattle.fluid_lane.specs.Steps.{steps_of, fault_steps, delta_steps, range_steps, entered_by, joined_by, swept_by, stored_by, restarted_by};
 ghost use Rattle.fluid_doors.specs.Terms.{terms_of};
 ghost use Rattle.fluid_doors.specs.Passing.{adding};
+ghost use Rattle.fluid_doors.specs.Tailed.{BenchStands};
 ghost use Rattle.fluid_doors.specs.Entering.{id_in, left_id, with_id, with_left};
 ghost use Rattle.fluid_doors.specs.Closing.{note_steps, IsEntry, IsJoin, IsLeave, IsJoinEntered, IsLeaveEntered};
 
@@ -27,7 +27,7 @@ use fluid_types::{ClientId, Message, Raw, Verdict};
 // Enters a step and gives the turn back.
 pub(crate) fn close_with<K: Keeper>(held: Held<'_, Bench<K>>, step: &Step) -> Pass<K>
     requires noted { HasNoted held.place }
-    requires stands { LaneStands held.value.lane (entries held.place.list ++ step.now ∷ []) }
+    requires stands { BenchStands held.value.lane held.value.tail (entries held.place.list ++ step.now ∷ []) }
     requires fixed { terms_of held.value.lane ≡ held.place.seat.turn.fixed }
     ensures pass { result ≡ entering step.now held.entry.place.seat }
     ensures few { length result.seen ≤ most }
@@ -41,7 +41,7 @@ pub(crate) fn close_with<K: Keeper>(held: Held<'_, Bench<K>>, step: &Step) -> Pa
 // Gives the turn back with nothing entered.
 pub(crate) fn close<K: Keeper>(held: Held<'_, Bench<K>>) -> Pass<K>
     requires noted { HasNoted held.place }
-    requires stands { LaneStands held.value.lane (entries held.place.list) }
+    requires stands { BenchStands held.value.lane held.value.tail (entries held.place.list) }
     requires fixed { terms_of held.value.lane ≡ held.place.seat.turn.fixed }
     ensures pass { result ≡ held.entry.place.seat }
     ensures few { length result.seen ≤ most }
@@ -53,7 +53,7 @@ pub(crate) fn close<K: Keeper>(held: Held<'_, Bench<K>>) -> Pass<K>
 // Enters that the keeper failed, where it did.
 pub(crate) fn close_noted<K: Keeper>(held: Held<'_, Bench<K>>, note: Option<FaultNote>) -> Pass<K>
     requires noted { HasNoted held.place }
-    requires stands { LaneStands held.value.lane (entries held.place.list ++ note_steps note) }
+    requires stands { BenchStands held.value.lane held.value.tail (entries held.place.list ++ note_steps note) }
     requires fixed { terms_of held.value.lane ≡ held.place.seat.turn.fixed }
     ensures pass { result ≡ adding (note_steps note) held.entry.place.seat }
     ensures few { length result.seen ≤ most }
@@ -93,7 +93,7 @@ pub(crate) fn close_entered<K: Keeper>(
     answer: Result<Verdict, LaneFault>,
 ) -> (Pass<K>, Result<Verdict, LaneFault>)
     requires noted { HasNoted held.place }
-    requires stands { LaneStands held.value.lane (entries held.place.list ++ steps_of (entered_by raw) answer) }
+    requires stands { BenchStands held.value.lane held.value.tail (entries held.place.list ++ steps_of (entered_by raw) answer) }
     requires fixed { terms_of held.value.lane ≡ held.place.seat.turn.fixed }
     ensures same { result.1 ≡ answer }
     ensures pass { result.0 ≡ adding (steps_of (entered_by raw) answer) held.entry.place.seat }
@@ -129,7 +129,7 @@ pub(crate) fn close_joined<K: Keeper>(
     answer: Result<(Raw, Message), LaneFault>,
 ) -> (Pass<K>, Result<(ClientId, Message), LaneFault>)
     requires noted { HasNoted held.place }
-    requires stands { LaneStands held.value.lane (entries held.place.list ++ steps_of joined_by answer) }
+    requires stands { BenchStands held.value.lane held.value.tail (entries held.place.list ++ steps_of joined_by answer) }
     requires fixed { terms_of held.value.lane ≡ held.place.seat.turn.fixed }
     requires join { IfOk answer (λ a. IsJoin a.0) }
     ensures same { result.1 ≡ with_id answer }
@@ -202,7 +202,7 @@ pub(crate) fn close_swept<K: Keeper>(
     answer: Result<Option<(Raw, Message)>, LaneFault>,
 ) -> (Pass<K>, Result<Option<ClientId>, LaneFault>)
     requires noted { HasNoted held.place }
-    requires stands { LaneStands held.value.lane (entries held.place.list ++ steps_of swept_by answer) }
+    requires stands { BenchStands held.value.lane held.value.tail (entries held.place.list ++ steps_of swept_by answer) }
     requires fixed { terms_of held.value.lane ≡ held.place.seat.turn.fixed }
     requires leave { IfOk answer (λ given. IfSome given (λ a. IsLeave a.0)) }
     ensures same { result.1 ≡ with_left answer }
@@ -240,7 +240,7 @@ pub(crate) fn close_stored<K: Keeper>(
     answer: Result<u64, LaneFault>,
 ) -> (Pass<K>, Result<u64, LaneFault>)
     requires noted { HasNoted held.place }
-    requires stands { LaneStands held.value.lane (entries held.place.list ++ steps_of stored_by answer) }
+    requires stands { BenchStands held.value.lane held.value.tail (entries held.place.list ++ steps_of stored_by answer) }
     requires fixed { terms_of held.value.lane ≡ held.place.seat.turn.fixed }
     ensures same { result.1 ≡ answer }
     ensures pass { result.0 ≡ adding (steps_of stored_by answer) held.entry.place.seat }
@@ -265,7 +265,7 @@ pub(crate) fn close_restarted<K: Keeper>(
     answer: Result<(), LaneFault>,
 ) -> (Pass<K>, Result<(), LaneFault>)
     requires noted { HasNoted held.place }
-    requires stands { LaneStands held.value.lane (entries held.place.list ++ steps_of (restarted_by number) answer) }
+    requires stands { BenchStands held.value.lane held.value.tail (entries held.place.list ++ steps_of (restarted_by number) answer) }
     requires fixed { terms_of held.value.lane ≡ held.place.seat.turn.fixed }
     ensures same { result.1 ≡ answer }
     ensures pass { result.0 ≡ adding (steps_of (restarted_by number) answer) held.entry.place.seat }
@@ -289,7 +289,7 @@ pub(crate) fn close_read<K: Keeper, A>(
     answer: Result<A, DeltaFault>,
 ) -> (Pass<K>, Result<A, DeltaFault>)
     requires noted { HasNoted held.place }
-    requires stands { LaneStands held.value.lane (entries held.place.list ++ range_steps answer) }
+    requires stands { BenchStands held.value.lane held.value.tail (entries held.place.list ++ range_steps answer) }
     requires fixed { terms_of held.value.lane ≡ held.place.seat.turn.fixed }
     ensures same { result.1 ≡ answer }
     ensures pass { result.0 ≡ adding (range_steps answer) held.entry.place.seat }

@@ -15,7 +15,7 @@ ghost use Rattle.fluid_doors.specs.Terms.{terms_of};
 ghost use Rattle.fluid_doors.specs.Passing.{Grows};
 ghost use Rattle.fluid_doors.specs.Entering.{Submits, Joins, Sweeps, joined_as, swept_as};
 ghost use Rattle.fluid_doors.specs.Storing.{Checkpoints, Restarts};
-ghost use Rattle.fluid_doors.specs.Collecting.{Collects};
+ghost use Rattle.fluid_doors.specs.Collecting.{Collects, IsEventUnder, gathered};
 ghost use Rattle.fluid_doors.specs.Looking.{IsLook, Looks};
 
 use crate::bench::Bench;
@@ -24,6 +24,7 @@ use crate::closing::{
 };
 use fluid_cast::Cursor;
 use fluid_deltas::DeltaFault;
+use fluid_feed::{EventText, Tail};
 use fluid_json::{Json, NoMemory};
 use fluid_lane::{Lane, LaneFault, Limits};
 use fluid_log::Keeper;
@@ -77,7 +78,8 @@ impl<K: Keeper> Door<K> {
     {
         let limits = lane.limits();
         let opened = lane.opened();
-        match Turn::new(alloc, Bench { lane }) {
+        let tail = Tail::new(alloc, 1);
+        match Turn::new(alloc, Bench { lane, tail }) {
             Ok((turn, pass)) => Ok((
                 Door {
                     name,
@@ -88,7 +90,7 @@ impl<K: Keeper> Door<K> {
                 pass,
             )),
             Err((bench, refused)) => {
-                let Bench { lane } = bench;
+                let Bench { lane, tail: _ } = bench;
                 Err((lane, refused))
             }
         }
@@ -208,7 +210,8 @@ impl<K: Keeper> Door<K> {
         close_swept(held, answer)
     }
 
-    /// The next messages of a cursor, at most so many. A cursor beyond the last number gets none.
+    /// The next messages of a cursor, at most so many, in an event of this document; none where there are none. A cursor beyond
+    /// the last number gets none. Each message is printed once for all who collect it, as long as it is one of the last.
     pub fn collect<R: Wait>(
         &self,
         rt: &R,
@@ -216,13 +219,14 @@ impl<K: Keeper> Door<K> {
         pass: Pass<K>,
         cursor: &Cursor,
         most: u64,
-    ) -> (Pass<K>, Result<Vec<Message>, DeltaFault>)
+    ) -> (Pass<K>, Result<Option<EventText>, DeltaFault>)
         requires pass { pass.turn ≡ self.now.turn }
         requires first { 0 < cursor.now.next }
-        ensures { Grows pass result.0 (range_steps result.1) (Collects (λ v. v.items) self.now.turn.fixed cursor.now.next most result.1) }
+        ensures event { IfOk result.1 (IsEventUnder self.now.name) }
+        ensures does { Grows pass result.0 (range_steps result.1) (Collects gathered self.now.turn.fixed cursor.now.next most result.1) }
     {
         let mut held = self.turn.take_noted(rt, pass);
-        let answer = held.value.collect(alloc, cursor, most);
+        let answer = held.value.collect(alloc, &self.name, cursor, most);
         close_read(held, answer)
     }
 
@@ -297,7 +301,7 @@ impl<K: Keeper> Door<K> {
         ensures seen { (l : List (ANumbered AStep)) × (IsPrefix pass.seen l × LaneStands result (entries l)) }
         ensures terms { terms_of result ≡ self.turn.fixed }
     {
-        let Bench { lane } = self.turn.take(rt, pass).end();
+        let Bench { lane, tail: _ } = self.turn.take(rt, pass).end();
         lane
     }
 }

@@ -1,5 +1,5 @@
 //! What is done to a document by whoever has its lane in hand. Each clause speaks of every list of steps for which the lane stands.
-ghost use Rattle.std.specs.Prelude.{◌≡◌, ℕ, ◌<◌, ◌≤◌, List, IfOk, IfErr, IfSome};
+ghost use Rattle.std.specs.Prelude.{◌≡◌, ℕ, ◌<◌, ◌≤◌, List, length, IfOk, IfErr, IfSome};
 ghost use Rattle.fluid_types.specs.Fits.{Fits};
 ghost use Rattle.fluid_types.specs.Names.{entry_name};
 ghost use Rattle.fluid_document.specs.Entries.{most};
@@ -8,23 +8,27 @@ ghost use Rattle.fluid_lane.specs.declared.steps.Step.{Step as AStep};
 ghost use Rattle.fluid_lane.specs.Faults.{IsCausedBy};
 ghost use Rattle.fluid_lane.specs.Steps.{steps_of, range_steps, entered_by, joined_by, stored_by, restarted_by, swept_by};
 ghost use Rattle.fluid_lane.specs.Standing.{LaneStands, IsLeaveOrSubmission};
+ghost use Rattle.fluid_feed.specs.Tails.{too_many};
 ghost use Rattle.fluid_doors.specs.Terms.{terms_of};
 ghost use Rattle.fluid_doors.specs.Passing.{Continues};
 ghost use Rattle.fluid_doors.specs.Entering.{Submits, Joins, Reports, Sweeps, IsJoinOf, IsLeaveAt, with_id, with_left, verdict_left};
 ghost use Rattle.fluid_doors.specs.Storing.{Checkpoints, Restarts};
-ghost use Rattle.fluid_doors.specs.Collecting.{Collects};
+ghost use Rattle.fluid_doors.specs.Collecting.{Collects, IsEventUnder, gathered};
+ghost use Rattle.fluid_doors.specs.Tailed.{BenchStands, IsTailOf};
 ghost use Rattle.fluid_doors.specs.Looking.{IsLook, Looks};
 ghost use Rattle.fluid_doors.specs.Scribing.{IsJobOf};
 
 use crate::bench::Bench;
+use crate::gathering::gather;
 use crate::looking::{messages_asked, summary};
 use fluid_cast::Cursor;
 use fluid_deltas::DeltaFault;
+use fluid_feed::{EventText, Tail};
 use fluid_json::{Json, NoMemory};
 use fluid_lane::{LaneFault, lanes_say_their_ledgers};
 use fluid_log::Keeper;
 use fluid_scribe::Job;
-use fluid_types::{Message, Raw, Scopes, Verdict};
+use fluid_types::{DocName, Message, Raw, Scopes, Verdict};
 use fluid_voice::{Act, ActEnd};
 use std::alloc::Global;
 
@@ -34,6 +38,7 @@ impl<K: Keeper> Bench<K> {
         requires fits { Fits raw.now }
         requires kind { IsLeaveOrSubmission raw.now }
         ensures goes { Continues self.old.lane self.new.lane (steps_of (entered_by raw.now) result) }
+        ensures tail { self.new.tail ≡ self.old.tail }
         ensures cause { IfErr result (IsCausedBy self.old.lane.keeping.faults self.new.lane.keeping.faults) }
         ensures says { (l : List AStep) → LaneStands self.old.lane l → Submits (terms_of self.old.lane) raw.now result l }
     {
@@ -52,6 +57,7 @@ impl<K: Keeper> Bench<K> {
         requires fits { (n : ℕ) → n ≤ most → Fits (Raw.Join (entry_name n) scopes detail moment) }
         ensures goes { Continues self.old.lane self.new.lane (steps_of joined_by result) }
         ensures raw { IfOk result (IsJoinOf scopes detail moment) }
+        ensures tail { self.new.tail ≡ self.old.tail }
         ensures cause { IfErr result (IsCausedBy self.old.lane.keeping.faults self.new.lane.keeping.faults) }
         ensures says { (l : List AStep) → LaneStands self.old.lane l → Joins (terms_of self.old.lane) scopes detail moment (with_id result) l }
     {
@@ -71,6 +77,7 @@ impl<K: Keeper> Bench<K> {
     ) -> Result<Verdict, LaneFault>
         requires fits { Fits (Raw.Report summary found moment) }
         ensures goes { Continues self.old.lane self.new.lane (steps_of (entered_by (Raw.Report summary found moment)) result) }
+        ensures tail { self.new.tail ≡ self.old.tail }
         ensures cause { IfErr result (IsCausedBy self.old.lane.keeping.faults self.new.lane.keeping.faults) }
         ensures says { (l : List AStep) → LaneStands self.old.lane l → Reports (terms_of self.old.lane) (Raw.Report summary found moment) result l }
     {
@@ -88,6 +95,7 @@ impl<K: Keeper> Bench<K> {
         requires moment { moment ≤ most }
         ensures goes { Continues self.old.lane self.new.lane (steps_of swept_by result) }
         ensures raw { IfOk result (IsLeaveAt moment) }
+        ensures tail { self.new.tail ≡ self.old.tail }
         ensures cause { IfErr result (IsCausedBy self.old.lane.keeping.faults self.new.lane.keeping.faults) }
         ensures says { (l : List AStep) → LaneStands self.old.lane l → Sweeps (terms_of self.old.lane) moment silence (verdict_left result) (with_left result) l }
     {
@@ -98,6 +106,7 @@ impl<K: Keeper> Bench<K> {
     /// What is to be done about the pending summarize. Nothing is entered.
     pub fn job(&mut self, alloc: Global) -> Result<Option<Job>, NoMemory>
         ensures same { self.new.lane ≡ self.old.lane }
+        ensures tail { self.new.tail ≡ self.old.tail }
         ensures number { IfOk result (λ given. IfSome given (λ job. IsUpTo most job.summary)) }
         ensures says { (l : List AStep) → LaneStands self.old.lane l → IfOk result (λ given. IsJobOf (terms_of self.old.lane) given l) }
     {
@@ -105,29 +114,52 @@ impl<K: Keeper> Bench<K> {
         self.lane.job(alloc)
     }
 
-    /// The next messages of a cursor, at most so many.
+    /// The next messages of a cursor, at most so many, in an event of the document of this name; none where there are none.
     pub fn collect(
         &mut self,
         alloc: Global,
+        name: &DocName,
         cursor: &Cursor,
         most: u64,
-    ) -> Result<Vec<Message>, DeltaFault>
+    ) -> Result<Option<EventText>, DeltaFault>
         requires first { 0 < cursor.now.next }
         ensures goes { Continues self.old.lane self.new.lane (range_steps result) }
-        ensures says { (l : List AStep) → LaneStands self.old.lane l → Collects (λ v. v.items) (terms_of self.old.lane) cursor.now.next most result l }
+        ensures tail { (l : List AStep) → BenchStands self.old.lane self.old.tail l → IsTailOf (terms_of self.old.lane).told self.new.tail l }
+        ensures short { length self.old.tail.messages < too_many → length self.new.tail.messages < too_many }
+        ensures event { IfOk result (IsEventUnder name.now) }
+        ensures says { (l : List AStep) → BenchStands self.old.lane self.old.tail l → Collects gathered (terms_of self.old.lane) cursor.now.next most result l }
     {
         lanes_say_their_ledgers();
         let range = cursor.batch(self.lane.seq(), most);
         if range.start >= range.end {
-            return Ok(Vec::new(alloc));
+            return Ok(None);
         }
-        self.lane.range(alloc, range.start, range.end)
+        if range.start < self.tail.from() {
+            let mut apart = Tail::new(alloc, range.start);
+            return gather(
+                alloc,
+                &mut self.lane,
+                &mut apart,
+                name,
+                range.start,
+                range.end,
+            );
+        }
+        gather(
+            alloc,
+            &mut self.lane,
+            &mut self.tail,
+            name,
+            range.start,
+            range.end,
+        )
     }
 
     /// How an act ends that enters nothing: a range of messages, a summary, or a connect that only reads.
     pub fn look(&mut self, alloc: Global, act: &Act) -> Result<ActEnd, DeltaFault>
         requires { IsLook act.now }
         ensures goes { Continues self.old.lane self.new.lane (range_steps result) }
+        ensures tail { self.new.tail ≡ self.old.tail }
         ensures says { (l : List AStep) → LaneStands self.old.lane l → Looks (terms_of self.old.lane) act.now result l }
     {
         match act {
@@ -144,6 +176,7 @@ impl<K: Keeper> Bench<K> {
     /// Stores a checkpoint, whose number it gives.
     pub fn checkpoint(&mut self, alloc: Global) -> Result<u64, LaneFault>
         ensures goes { Continues self.old.lane self.new.lane (steps_of stored_by result) }
+        ensures tail { self.new.tail ≡ self.old.tail }
         ensures cause { IfErr result (IsCausedBy self.old.lane.keeping.faults self.new.lane.keeping.faults) }
         ensures says { (l : List AStep) → LaneStands self.old.lane l → Checkpoints (terms_of self.old.lane) result l }
     {
@@ -154,6 +187,7 @@ impl<K: Keeper> Bench<K> {
     /// Builds the lane's state anew from the checkpoint of this number.
     pub fn restart(&mut self, alloc: Global, number: u64) -> Result<(), LaneFault>
         ensures goes { Continues self.old.lane self.new.lane (steps_of (restarted_by number) result) }
+        ensures tail { self.new.tail ≡ self.old.tail }
         ensures cause { IfErr result (IsCausedBy self.old.lane.keeping.faults self.new.lane.keeping.faults) }
         ensures says { (l : List AStep) → LaneStands self.old.lane l → Restarts (terms_of self.old.lane) number result l }
     {

@@ -3,6 +3,7 @@
 //! - `bench`: the lane as a value of a turn, and what never changes of a document.
 //! - `lent`: the calls on a document by whoever has its lane in hand, by the list of steps for which it stands.
 //! - `door`: the same calls for many users, each of whom has a pass.
+//! - `gathering`: how an event is put together out of what is printed already.
 //! - `looking`: what a lane answers to an act that enters nothing.
 //! - `scribing`: what a door does about a summary that is pending; `ends`: how that ends.
 //! - `laws`: what holds of passes and of new keepers.
@@ -13,6 +14,7 @@ mod bench;
 mod closing;
 mod door;
 mod ends;
+mod gathering;
 mod laws;
 mod lent;
 mod looking;

@@ -12,7 +12,7 @@ ghost use Rattle.fluid_session.specs.Events.{IsReached};
 ghost use Rattle.fluid_session.specs.Running.{Runs};
 
 use crate::report::SessionEnd;
-use crate::sending::send_all;
+use crate::sending::{send_all, send_feed};
 use crate::tally::{MOST_UNREAD, Tally};
 use fluid_codec::Reply;
 use fluid_deltas::DeltaFault;
@@ -84,12 +84,12 @@ fn feed<R: Wait, T: Conversation, W: Wire>(
     ensures reached { OnOk result (IsReached (T.seen talk.new)) }
     ensures does { (store : Storing) (tally : Counts) → tally.unread < most_unread → Runs (record { talk = T.seen talk.old; store = store }) (record { talk = T.seen talk.new; store = store }) (W.seen wire.old) (W.seen wire.new) tally tally result }
 {
-    let replies = match talk.collect(rt, alloc) {
-        Ok(replies) => replies,
+    let events = match talk.collect(rt, alloc) {
+        Ok(events) => events,
         Err(fault) => return Err(end_of(fault)),
     };
     talk.know();
-    match send_all(rt, alloc, wire, replies.as_slice()) {
+    match send_feed(rt, alloc, wire, events.as_slice()) {
         Ok(()) => Ok(()),
         Err(fault) => Err(wire_end(fault)),
     }

@@ -10,8 +10,9 @@ ghost use Rattle.fluid_talk.specs.Leaving.{Leaves};
 
 use crate::Heard;
 use fluid_ends::TalkFault;
+use fluid_feed::Feed;
 use fluid_store::Objects;
-use fluid_voice::{Replies, VoiceState};
+use fluid_voice::VoiceState;
 use std::alloc::Global;
 use std::sync::Wait;
 
@@ -51,8 +52,8 @@ pub trait Conversation {
         ensures service { (x : Self.Service) → belongs self.old x → belongs self.new x }
         ensures does { Hears (seen self.old) (seen self.new) (O.seen objects.old) (O.seen objects.new) text.now moment result };
 
-    /// The messages that weren't delivered, in op events, up to the last number.
-    fn collect<R: Wait>(&mut self, rt: &R, alloc: Global) -> Result<Replies, TalkFault>
+    /// The messages that weren't delivered, in op events that are printed, up to the last number.
+    fn collect<R: Wait>(&mut self, rt: &R, alloc: Global) -> Result<Feed, TalkFault>
         ensures service { (x : Self.Service) → belongs self.old x → belongs self.new x }
         ensures does { Collects (seen self.old) (seen self.new) result };
 

@@ -8,7 +8,7 @@ ghost use Rattle.fluid_voice.specs.States.{is_used};
 ghost use Rattle.fluid_connection.specs.Talked.{belongs};
 
 use crate::quiet::{Quiet, QuietShelves};
-use crate::telling::{told_fault, told_heard, told_replies};
+use crate::telling::{told_events, told_fault, told_heard};
 use fluid_connection::Talk;
 use fluid_doors::Door;
 use fluid_lane::{Lane, Limits};
@@ -186,8 +186,8 @@ fn collect<R: Abort + Wait>(rt: &R, alloc: Global, talk: &mut Talk<QuietShelves>
     ensures { (x : Serving) → belongs talk.old x → belongs talk.new x }
 {
     match &talk.collect(rt, alloc) {
-        Ok(replies) => {
-            let told = told_replies(alloc, replies.as_slice()).expect(rt, "memory");
+        Ok(events) => {
+            let told = told_events(alloc, events.as_slice()).expect(rt, "memory");
             assert!(rt; told.as_str() == wanted, "collected: {told}");
             drop(told);
         }

@@ -2,6 +2,7 @@
 use fluid_codec::{Reply, print_event};
 use fluid_deltas::DeltaFault;
 use fluid_ends::TalkFault;
+use fluid_feed::EventText;
 use fluid_json::NoMemory;
 use fluid_lane::LaneFault;
 use fluid_opening::DoorFault;
@@ -18,23 +19,26 @@ fn add(out: &mut String, line: &str) -> Result<(), NoMemory> {
     Ok(())
 }
 
-// A reply behind others. Of an op event with many messages their number.
-fn add_reply(alloc: Global, out: &mut String, reply: &Reply) -> Result<(), NoMemory> {
-    if let Reply::Ops { messages, .. } = reply {
-        if messages.as_slice().len() > 4 {
-            let text = format!(in alloc; "{} messages", messages.as_slice().len())?;
-            return add(out, text.as_str());
-        }
-    }
-    let text = print_event(alloc, reply)?;
-    add(out, text.as_str())
-}
-
 // The replies, each on a line of its own.
 pub fn told_replies(alloc: Global, replies: &[Reply]) -> Result<String, NoMemory> {
     let mut out = String::new(alloc);
     for reply in replies {
-        add_reply(alloc, &mut out, reply)?;
+        let text = print_event(alloc, reply)?;
+        add(&mut out, text.as_str())?;
+    }
+    Ok(out)
+}
+
+// The op events, each on a line of its own. Of one with many messages their number.
+pub fn told_events(alloc: Global, events: &[EventText]) -> Result<String, NoMemory> {
+    let mut out = String::new(alloc);
+    for event in events {
+        if event.count() > 4 {
+            let text = format!(in alloc; "{} messages", event.count())?;
+            add(&mut out, text.as_str())?;
+        } else {
+            add(&mut out, event.as_str())?;
+        }
     }
     Ok(out)
 }

@@ -145,17 +145,19 @@ fn two_callers_meet_in_one_order(rt: HostRuntime) {
     let (second, answer) = door.collect(&rt, alloc, second, &Cursor { next: 1 }, 4 * EACH);
     drop(second);
     match &answer {
-        Ok(messages) => {
-            assert!(rt; messages.len() as u64 == 2 + 2 * EACH, "each once");
-            assert!(rt;
-                has_all_of(messages, "c0") && has_all_of(messages, "c1"),
-                "all of both"
-            );
-        }
-        Err(_) => panic!(rt; "not collected"),
+        Ok(Some(event)) => assert!(rt; event.count() == 2 + 2 * EACH, "each once"),
+        _ => panic!(rt; "not collected"),
     }
     drop(answer);
-    let lane = door.end(&rt, first);
+    let mut lane = door.end(&rt, first);
     assert!(rt; lane.entered() == 2 + 2 * EACH, "nothing else");
+    let last = lane.seq();
+    match &lane.range(alloc, 1, last + 1) {
+        Ok(messages) => assert!(rt;
+            has_all_of(messages, "c0") && has_all_of(messages, "c1"),
+            "all of both"
+        ),
+        Err(_) => panic!(rt; "not read"),
+    }
     drop(lane);
 }

@@ -1,4 +1,4 @@
-use Rattle.std.proofs.Common.{◌≡◌, ◌∙◌, ◌≤◌, true, Some, sym, ap, subst}
+use Rattle.std.proofs.Common.{◌≡◌, ◌∙◌, ◌≤◌, true, sym, ap, subst}
 use Rattle.std.specs.Arc.{arc_value}
 use Rattle.fluid_doors.specs.Terms.{Doorway}
 use Rattle.fluid_doors.specs.Passing.{APass}
@@ -8,9 +8,6 @@ use Rattle.fluid_connection.proofs.collecting.collect_all.Goals as goal
 
 pub collect_slices-pass-requires-clause-pass : goal.collect_slices-pass-requires-clause-pass
 collect_slices-pass-requires-clause-pass g c = c.into_parts-door.ensures.together ∙ ap (λ (d : Doorway). d.turn) (sym c.deref.ensures)
-
-pub collect_slices-pass-requires-clause-named : goal.collect_slices-pass-requires-clause-named
-collect_slices-pass-requires-clause-named g c = c.requires.named ∙ ap (λ (d : Doorway). Some d.name) (sym c.into_parts-door.ensures.parts.0 ∙ sym c.deref.ensures)
 
 pub collect_slices-pass-requires-clause-within : goal.collect_slices-pass-requires-clause-within
 collect_slices-pass-requires-clause-within g c =

@@ -7,7 +7,7 @@ use Rattle.fluid_connection.proofs.collecting.collect_slices.Goals as goal
 pub slices-init : goal.slices-init
 slices-init g c =
     let p = knowing c.args.door.now.name c.args.pass in
-    (tt, tt, c.requires.pass, c.requires.first, subst (λ rs. Brings c.args.door.now.name p p c.args.next c.args.next rs) (sym c.new-replies.ensures.items) (brings_none c.args.door.now.name p c.args.next c.requires.within))
+    (tt, tt, c.requires.pass, c.requires.first, subst (λ rs. Brings c.args.door.now.name p p c.args.next c.args.next rs) (sym c.new-events.ensures) (brings_none c.args.door.now.name p c.args.next c.requires.within))
 
 pub returns-then-slice-clause-does : goal.returns-then-slice-clause-does
 returns-then-slice-clause-does g c =
@@ -15,10 +15,10 @@ returns-then-slice-clause-does g c =
     let p = knowing name c.args.pass in
     let m = knowing name c.slices.pass in
     let q = knowing name c.collect_next-back.result.0 in
-    let takes = subst (λ r. TakesNext name m q c.slices.next c.slices.replies.items c.collect_next-back.new.replies.items r) c.in-Ok.is c.collect_next-back.ensures.does in
+    let takes = subst (λ r. TakesNext name m q c.slices.next c.slices.events c.collect_next-back.new.events r) c.in-Ok.is c.collect_next-back.ensures.does in
     record {
-      brings = brings_more name p m q c.args.next c.slices.next c.slices.replies.items c.collect_next-back.new.replies.items c.in-Ok.slice c.requires.first c.slices.invariant.4 takes;
-      last = last_number name p m q c.args.next c.slices.next c.slices.replies.items c.collect_next-back.new.replies.items c.in-Ok.slice c.requires.first c.slices.invariant.4 takes c.if-slice.true;
+      brings = brings_more name p m q c.args.next c.slices.next c.slices.events c.collect_next-back.new.events c.in-Ok.slice c.requires.first c.slices.invariant.4 takes;
+      last = last_number name p m q c.args.next c.slices.next c.slices.events c.collect_next-back.new.events c.in-Ok.slice c.requires.first c.slices.invariant.4 takes c.if-slice.true;
     }
 
 pub slices-preserved : goal.slices-preserved
@@ -27,12 +27,12 @@ slices-preserved g c =
     let p = knowing name c.args.pass in
     let m = knowing name c.slices.pass in
     let q = knowing name c.collect_next-back.result.0 in
-    let takes = subst (λ r. TakesNext name m q c.slices.next c.slices.replies.items c.collect_next-back.new.replies.items r) c.in-Ok.is c.collect_next-back.ensures.does in (
+    let takes = subst (λ r. TakesNext name m q c.slices.next c.slices.events c.collect_next-back.new.events r) c.in-Ok.is c.collect_next-back.ensures.does in (
       tt,
       tt,
       c.collect_next-back.ensures.turn,
-      ahead name p m q c.args.next c.slices.next c.slices.replies.items c.collect_next-back.new.replies.items c.in-Ok.slice c.requires.first c.slices.invariant.4 takes,
-      brings_more name p m q c.args.next c.slices.next c.slices.replies.items c.collect_next-back.new.replies.items c.in-Ok.slice c.requires.first c.slices.invariant.4 takes,
+      ahead name p m q c.args.next c.slices.next c.slices.events c.collect_next-back.new.events c.in-Ok.slice c.requires.first c.slices.invariant.4 takes,
+      brings_more name p m q c.args.next c.slices.next c.slices.events c.collect_next-back.new.events c.in-Ok.slice c.requires.first c.slices.invariant.4 takes,
     )
 
 pub returns-in-Err-clause-does : goal.returns-in-Err-clause-does
@@ -41,5 +41,5 @@ returns-in-Err-clause-does g c =
     let p = knowing name c.args.pass in
     let m = knowing name c.slices.pass in
     let q = knowing name c.collect_next-back.result.0 in
-    fails_then name p m q c.args.next c.slices.next c.slices.replies.items c.in-Err.fault c.slices.invariant.4
-    (subst (λ r. TakesNext name m q c.slices.next c.slices.replies.items c.collect_next-back.new.replies.items r) c.in-Err.is c.collect_next-back.ensures.does)
+    fails_then name p m q c.args.next c.slices.next c.slices.events c.in-Err.fault c.slices.invariant.4
+    (subst (λ r. TakesNext name m q c.slices.next c.slices.events c.collect_next-back.new.events r) c.in-Err.is c.collect_next-back.ensures.does)

@@ -9,4 +9,4 @@ invariant-slices g l =
     (goal.iterator-slices g).can_next l.iterator' × (goal.iterator-slices g).is_finite l.iterator'
     × (l.pass.turn ≡ l.fn.door.turn)
     × (0 < l.next)
-    × Brings l.fn.door.name (knowing l.fn.door.name l.fn.pass) (knowing l.fn.door.name l.pass) l.fn.next l.next l.replies.items
+    × Brings l.fn.door.name (knowing l.fn.door.name l.fn.pass) (knowing l.fn.door.name l.pass) l.fn.next l.next l.events

@@ -10,13 +10,13 @@ pub returns-in_default-clause-does : goal.returns-in_default-clause-does
 returns-in_default-clause-does g c =
     let t = talking c.args.self.now in
     let apart : is_connected c.args.self.now.voice ≡ false = sym (ap is_connected (c.state.ensures ∙ ap (λ (s : Talked). s.voice) c.self.view_is)) ∙ c.next_of.ensures.none c.in_default.is in
-    subst (λ replies. Collects t t (Ok replies)) (sym (c.new-in_default.ensures ∙ c.new.ensures.items)) (apart_gives t apart)
+    subst (λ replies. Collects t t (Ok replies)) (sym c.new.ensures) (apart_gives t apart)
 
 pub returns-then-is_quiet-clause-does : goal.returns-then-is_quiet-clause-does
 returns-then-is_quiet-clause-does g c =
     let t : Talked = record { voice = c.self.inside.voice; key = c.self.inside.key; visit = c.self.inside.visit; handed = c.self.inside.handed } in
     let joined : is_connected c.self.inside.voice ≡ true = sym (ap is_connected c.state.ensures) ∙ (c.next_of.ensures.some c.in-Some.next c.in-Some.is).0 in
-    subst (λ replies. Collects (talking c.args.self.now) (talking c.args.self.now) (Ok replies)) (sym (c.new-then-is_quiet-2.ensures ∙ c.new-then-is_quiet.ensures.items))
+    subst (λ replies. Collects (talking c.args.self.now) (talking c.args.self.now) (Ok replies)) (sym c.new-then-is_quiet.ensures)
     (subst (λ (s : Talked). Collects (talking s) (talking s) (Ok [])) c.self.view_is (quiet_gives t c.self.inside.settled (c.is_quiet.ensures c.if-is_quiet.true) c.self.invariant.1 joined))
 
 pub collect_new-requires-clause-connected : goal.collect_new-requires-clause-connected

@@ -11,7 +11,7 @@ returns-clause-job g c =
     if_ok _ _ _ (λ given is.
     grows_by c.args.pass _ _ h.result.place.list [] _ h.ensures.seat (e.pass ∙ adding_none h.result.place.seat) e.few h.ensures.list
     (subst (λ t. IsJobOf t given (entries h.result.place.list)) (h.ensures.fixed ∙ ap (λ t. t.fixed) c.turn.ensures) is))
-    (c.job-asked.ensures.says _ h.ensures.stands)
+    (c.job-asked.ensures.says _ h.ensures.stands.lane)
 
 pub returns-clause-same : goal.returns-clause-same
 returns-clause-same g c =
