@@ -1,0 +1,197 @@
+//! A link over a lane and a store of objects that are lent.
+ghost use Rattle.std.specs.Prelude.{◌≡◌, ◌++◌, ◌∷◌, [], ◌<◌, ◌^◌, None, List, map, OnOk, OnErr, IfOk};
+ghost use Rattle.std.specs.Coded.{Coded-set};
+ghost use Rattle.fluid_types.specs.declared.messages.Message.{Message};
+ghost use Rattle.fluid_tree.specs.Summary.{children};
+ghost use Rattle.fluid_lane.specs.Standing.{Standing};
+ghost use Rattle.fluid_store.specs.Storing.{Storing};
+ghost use Rattle.fluid_door_link.specs.Coursing.{Along, along_code, IsAlong};
+ghost use Rattle.fluid_door_link.specs.Failing.{IsAfterUpload};
+
+use crate::answers::{answered, counted, few, note, picked};
+use crate::calling::{enter, get, put, read};
+use crate::course::{Begun, Course};
+use crate::handles::{handles_in, keep};
+use crate::told_objects::ToldObjects;
+use fluid_json::{Bytes, NoMemory};
+use fluid_lane::Lane;
+use fluid_loader::laws::picked_numbers_are_within;
+use fluid_loader::{Given, Link, LinkFault, Pick};
+use fluid_log::Keeper;
+use fluid_orders::orders_are_told;
+use fluid_store::Objects;
+use fluid_tree::{Id, Node, SummaryRef};
+use fluid_types::{ClientId, Messages, NackRule, Raw, Submission};
+use fluid_voice::front_nack;
+use std::alloc::Global;
+
+/// One client's way to a document whose lane is lent, at one moment, in milliseconds. It counts each fault of the lane and of the store
+/// but want of memory; the course keeps it, and no call is made behind it.
+#[derive(Drop)]
+pub struct DoorLink<'a, K: Keeper, O: Objects, W: Begun> {
+    pub client: ClientId,
+    pub moment: u64,
+    pub lane: &'a mut Lane<K>,
+    pub objects: &'a mut ToldObjects<O>,
+    pub course: &'a mut Course<K, O, W>,
+    pub faults: u64,
+    pub refusals: u64,
+    /// The numbers of the messages that were fetched.
+    pub messages: Vec<u64>,
+    /// The ids of the objects that were fetched.
+    pub fetched: Vec<Id>,
+    /// How many nodes of each tree that was to be put were handles.
+    pub handles: Vec<u64>,
+    /// The submissions that were taken.
+    pub taken: Vec<Submission>,
+    pub ghost in_time: { moment < 2 ^ 53 },
+    pub ghost at: { course.now ≡ record { lane = lane.now; store = objects.now; stop = course.now.stop } } by { Coded-set along_code course.now (record { lane = lane.now; store = objects.now; stop = course.now.stop }) },
+    pub ghost uploads: { IsAfterUpload course.now.stop handles.items },
+}
+
+impl<'a, K: Keeper, O: Objects, W: Begun> DoorLink<'a, K, O, W> {
+    /// A link by which nothing was done yet. Takes no memory.
+    pub fn new(
+        alloc: Global,
+        client: ClientId,
+        moment: u64,
+        lane: &'a mut Lane<K>,
+        objects: &'a mut ToldObjects<O>,
+        course: &'a mut Course<K, O, W>,
+    ) -> DoorLink<'a, K, O, W>
+        requires moment { moment < 2 ^ 53 }
+        requires at { course.old ≡ record { lane = lane.old; store = objects.old; stop = None } }
+        ensures client { result.client ≡ client }
+        ensures moment { result.moment ≡ moment }
+        ensures lane { (result.lane.ghost_name ≡ lane.entry.ghost_name) × (result.lane.now ≡ lane.old) }
+        ensures objects { (result.objects.ghost_name ≡ objects.entry.ghost_name) × (result.objects.now ≡ objects.old) }
+        ensures course { (result.course.ghost_name ≡ course.entry.ghost_name) × (result.course.now ≡ course.old) }
+        ensures counts { (result.faults ≡ 0) × (result.refusals ≡ 0) }
+        ensures lists { (result.messages.items ≡ []) × ((result.fetched.items ≡ []) × ((result.handles.items ≡ []) × (result.taken.items ≡ []))) }
+    {
+        DoorLink {
+            client,
+            moment,
+            lane,
+            objects,
+            course,
+            faults: 0,
+            refusals: 0,
+            messages: Vec::new(alloc),
+            fetched: Vec::new(alloc),
+            handles: Vec::new(alloc),
+            taken: Vec::new(alloc),
+        }
+    }
+
+    /// What became of the lane and of the store.
+    pub fn know(&self)
+        ensures at { self.now.course.now ≡ record { lane = self.now.lane.now; store = self.now.objects.now; stop = self.now.course.now.stop } }
+        ensures along { IsAlong W.good W.began W.before self.now.course.now }
+        ensures uploads { IsAfterUpload self.now.course.now.stop self.now.handles.items }
+    {
+        self.course.know();
+    }
+}
+
+impl<'a, K: Keeper, O: Objects, W: Begun> Link for DoorLink<'a, K, O, W> {
+    ghost use Rattle.std.specs.Prelude.{[], ◌∷◌};
+    ghost use Rattle.fluid_door_link.specs.Telling.{told_by};
+
+    ghost seen = { λ l. record {
+      client = l.client;
+      moment = l.moment;
+      told = told_by W.good l.lane.now l.objects.now;
+      faults = l.faults;
+      refusals = l.refusals;
+      messages = l.messages.items;
+      objects = l.fetched.items;
+      handles = l.handles.items;
+      taken = l.taken.items;
+    } };
+
+    ghost lent = { λ l. l.lane.ghost_name ∷ l.objects.ghost_name ∷ l.course.ghost_name ∷ [] };
+
+    fn id(&self) -> &ClientId {
+        orders_are_told();
+        self.course.know();
+        self.objects.know();
+        &self.client
+    }
+
+    fn summary(&mut self, _alloc: Global, pick: &Pick) -> Result<Option<SummaryRef>, LinkFault> {
+        if self.course.is_stopped() {
+            return Err(LinkFault::NoMemory);
+        }
+        picked_numbers_are_within();
+        orders_are_told();
+        self.course.know();
+        Ok(few(picked(self.lane.acks(), pick)))
+    }
+
+    fn object(&mut self, alloc: Global, id: &Id) -> Result<Option<Bytes>, LinkFault> {
+        if self.course.is_stopped() {
+            return Err(LinkFault::NoMemory);
+        }
+        match get(alloc, self.lane, self.objects, self.course, id) {
+            Ok(bytes) => match self.fetched.push(*id) {
+                Ok(()) => Ok(bytes),
+                Err(_) => Err(LinkFault::NoMemory),
+            },
+            Err(fault) => Err(counted(&mut self.faults, &mut self.refusals, fault)),
+        }
+    }
+
+    fn deltas(&mut self, alloc: Global, from: u64) -> Result<Messages, LinkFault> {
+        if self.course.is_stopped() {
+            return Err(LinkFault::NoMemory);
+        }
+        match read(alloc, self.lane, self.objects, self.course, from) {
+            Ok(messages) => match note(alloc, &mut self.messages, messages.as_slice()) {
+                Ok(()) => Ok(messages),
+                Err(NoMemory) => Err(LinkFault::NoMemory),
+            },
+            Err(fault) => Err(counted(&mut self.faults, &mut self.refusals, fault)),
+        }
+    }
+
+    fn submit(&mut self, alloc: Global, submission: Submission) -> Result<Given, LinkFault> {
+        if self.course.is_stopped() {
+            return Err(LinkFault::NoMemory);
+        }
+        let id = match self.client.copy(alloc) {
+            Ok(id) => id,
+            Err(NoMemory) => return Err(LinkFault::NoMemory),
+        };
+        let raw = Raw::Submit {
+            id,
+            submission,
+            moment: self.moment,
+        };
+        match enter(alloc, self.lane, self.objects, self.course, &raw) {
+            Ok(Some(verdict)) => answered(&mut self.refusals, &mut self.taken, raw, verdict),
+            Ok(None) => {
+                self.refusals = self.refusals.saturating_add(1);
+                Ok(Given::Nacked(front_nack(NackRule::Full)))
+            }
+            Err(fault) => Err(counted(&mut self.faults, &mut self.refusals, fault)),
+        }
+    }
+
+    fn upload(&mut self, alloc: Global, tree: &Node, base: Option<&Id>) -> Result<Id, LinkFault> {
+        if self.course.is_stopped() {
+            return Err(LinkFault::NoMemory);
+        }
+        if !keep(&mut self.handles, handles_in(tree)) {
+            return Err(LinkFault::NoMemory);
+        }
+        match put(alloc, self.lane, self.objects, self.course, tree, base) {
+            Ok(id) => Ok(id),
+            Err(fault) => Err(counted(&mut self.faults, &mut self.refusals, fault)),
+        }
+    }
+
+    fn faults(&self) -> u64 {
+        self.faults
+    }
+}

@@ -1,0 +1,3 @@
+pub mod Referring
+pub mod Wording
+pub mod Telling

@@ -1,0 +1,6 @@
+//! A value for the proofs alone.
+#![tactic(auto)]
+
+mod tale;
+
+pub use tale::{Tale, tell};
