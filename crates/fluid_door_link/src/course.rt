@@ -53,7 +53,7 @@ impl<K: Keeper, O: Objects, W: Begun> Model for Course<K, O, W> {
 
 impl<K: Keeper, O: Objects, W: Begun> Course<K, O, W> {
     /// They are as they were lent.
-    pub(crate) fn begin(lane: &Lane<K>, objects: &ToldObjects<O>) -> Course<K, O, W>
+    pub fn begin(lane: &Lane<K>, objects: &ToldObjects<O>) -> Course<K, O, W>
         requires lane { lane.now ≡ W.began }
         requires store { objects.now ≡ W.before }
         requires stood { W.good ≡ true → HasStood W.began }
@@ -68,7 +68,7 @@ impl<K: Keeper, O: Objects, W: Begun> Course<K, O, W> {
     }
 
     /// What became of them.
-    pub(crate) fn know(&self)
+    pub fn know(&self)
         ensures { IsAlong W.good W.began W.before self.now }
     {
         let _ = &self.stop;
@@ -102,7 +102,7 @@ impl<K: Keeper, O: Objects, W: Begun> Course<K, O, W> {
     }
 
     /// Why a call failed, if one did.
-    pub(crate) fn into_stop(self) -> Option<LentFault>
+    pub fn into_stop(self) -> Option<LentFault>
         ensures { result ≡ self.stop }
     {
         let Course { stop, .. } = self;
