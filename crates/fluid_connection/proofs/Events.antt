@@ -7,7 +7,7 @@ use Rattle.fluid_deltas.specs.declared.fault.DeltaFault.{DeltaFault}
 use Rattle.fluid_doors.specs.Collecting.{AreNext, IsEventUnder, gathered}
 use Rattle.fluid_codec.specs.declared.replies.Reply.{Reply}
 use Rattle.fluid_codec.specs.declared.replies.Reply.TheVariants.{Connected, ConnectError, Ops, Nacked, Deltas, Summary, Object, Stored}
-use Rattle.fluid_voice.specs.Feed.{brought, most_in_event}
+use Rattle.fluid_voice.specs.Feed.{brought}
 use Rattle.fluid_ends.specs.declared.fault.TalkFault.{TalkFault}
 use Rattle.fluid_ends.specs.declared.fault.TalkFault.TheVariants as talk
 use Rattle.fluid_ends.specs.Faults.{of_delta}

@@ -91,12 +91,7 @@ where
     }
 
     // Collects what the document that was reached has from this number on.
-    fn collect_new<R: Wait>(
-        &mut self,
-        rt: &R,
-        alloc: Global,
-        next: u64,
-    ) -> Result<Feed, TalkFault>
+    fn collect_new<R: Wait>(&mut self, rt: &R, alloc: Global, next: u64) -> Result<Feed, TalkFault>
         requires connected { is_connected self.old.voice ≡ true }
         requires next { next ≡ next_number self.old.voice }
         ensures key { self.new.key ≡ self.old.key }

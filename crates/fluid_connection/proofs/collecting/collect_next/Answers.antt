@@ -8,7 +8,7 @@ use Rattle.fluid_connection.proofs.Events.{fits_given}
 use Rattle.fluid_connection.proofs.collecting.collect_next.Goals as goal
 
 pub put_event-slice-requires : goal.put_event-slice-requires
-put_event-slice-requires g c = fits_given gathered c.args.next most_in_event c.collect-pass.result.1 c.ranges.next.fits c.collect-pass.ensures.does.says.given
+put_event-slice-requires g c = record { fits = fits_given gathered c.args.next most_in_event c.collect-pass.result.1 c.ranges.next.fits c.collect-pass.ensures.does.says.given }
 
 pub returns-clause-turn : goal.returns-clause-turn
 returns-clause-turn g c = c.collect-pass.ensures.does.turn ∙ c.requires.pass
