@@ -3,6 +3,8 @@ mod Approvals
 mod Pushed
 mod Due
 mod Taken
+mod Placed
+mod Filled
 pub mod Advanced
 mod Objects
 mod Sorted

@@ -2,6 +2,7 @@ pub mod Order
 pub mod After
 pub mod Noops
 pub mod Lists
+pub mod Places
 pub mod Codes
 pub mod Rows
 pub mod Node

@@ -12,6 +12,7 @@
 mod accepting;
 pub mod laws;
 mod members;
+mod places;
 mod quorum;
 mod reading;
 mod saying;

@@ -1,18 +1,22 @@
 // The quorum, and how it takes a message.
-ghost use Rattle.std.specs.Prelude.{◌≡◌, ◌+◌, [], ◌∷◌, ◌++◌, List, Some, IfOk, OnOk, OnErr, option_map, option_copied};
+ghost use Rattle.std.specs.Prelude.{◌≡◌, ◌+◌, [], ◌∷◌, ◌++◌, List, ℕ, Some, IfOk, OnOk, OnErr, option_map, option_copied};
 ghost use Rattle.std.specs.FinMap.{empty, get, values};
+ghost use Rattle.std.specs.BTreeMap.{get_by_text};
 ghost use Rattle.fluid_types.specs.declared.messages.Message.{Message as AMessage};
 ghost use Rattle.fluid_quorum.specs.After.{after};
 ghost use Rattle.fluid_quorum.specs.Noops.{noops_to, advanced};
 ghost use Rattle.fluid_quorum.specs.Order.{StandsFor};
+ghost use Rattle.fluid_quorum.specs.Places.{AreOrdered};
 
-use crate::accepting::{KeyValue, accept, due, enter};
+use crate::accepting::{accept, due, enter, make_room};
 use crate::members::Members;
+use crate::places::{look_up, put};
 use crate::saying::hear;
 use fluid_json::NoMemory;
 use fluid_table::find;
 use fluid_types::{Accepted, Member, Message, Proposal};
 use std::alloc::Global;
+use std::collections::{BTreeMap, VecDeque};
 use std::marker::Model;
 
 /// The quorum of the first messages of an order.
@@ -21,22 +25,24 @@ pub struct Quorum {
     pub(crate) number: u64,
     pub(crate) minimum: u64,
     pub(crate) members: Members,
-    pub(crate) pending: Vec<Proposal>,
-    pub(crate) values: Vec<KeyValue>,
+    pub(crate) pending: VecDeque<Proposal>,
+    // The key of each pending proposal has a place.
+    pub(crate) values: BTreeMap<String, Option<Accepted>>,
 }
 
 impl Model for Quorum {
     ghost use Rattle.fluid_types.specs.Quorum.{Quorum as AQuorum};
     ghost use Rattle.fluid_quorum.specs.Codes.{quorum_code};
-    ghost use Rattle.fluid_quorum.specs.Lists.{members_of, values_of, IsInIdOrder, IsInKeyOrder, AreRising, AreUpTo};
+    ghost use Rattle.fluid_quorum.specs.Lists.{members_of, IsInIdOrder, AreRising, AreUpTo};
+    ghost use Rattle.fluid_quorum.specs.Places.{table_at, AreOrdered, HavePlaces};
 
     ghost Value = { AQuorum };
 
     ghost coded = { quorum_code };
 
-    ghost view = { λ q. record { number = q.number; minimum = q.minimum; members = members_of q.members; pending = q.pending.items; values = values_of q.values.items } };
+    ghost view = { λ q. record { number = q.number; minimum = q.minimum; members = members_of q.members; pending = q.pending.items; values = table_at q.values } };
 
-    ghost invariant = { λ q. IsInIdOrder q.members × (IsInKeyOrder q.values.items × (AreRising q.pending.items × AreUpTo q.number q.pending.items)) };
+    ghost invariant = { λ q. IsInIdOrder q.members × (AreOrdered q.values × (HavePlaces q.values q.pending.items × (AreRising q.pending.items × AreUpTo q.number q.pending.items))) };
 }
 
 impl Quorum {
@@ -48,8 +54,8 @@ impl Quorum {
             number: 0,
             minimum: 0,
             members: Members::from_vec(Vec::new(alloc)),
-            pending: Vec::new(alloc),
-            values: Vec::new(alloc),
+            pending: VecDeque::new(alloc),
+            values: BTreeMap::new(alloc),
         }
     }
 
@@ -60,11 +66,10 @@ impl Quorum {
         ensures after { OnOk result (self.new ≡ after self.old message.now) }
         ensures unchanged { OnErr result (self.new ≡ self.old) }
     {
-        let accepted = due(&self.pending, message.minimum);
+        let said = hear(alloc, message)?;
         self.members.list.reserve(1)?;
         self.pending.reserve(1)?;
-        self.values.reserve(accepted + 1)?;
-        let said = hear(alloc, message)?;
+        make_room(alloc, &mut self.values, &said.proposal)?;
         enter(&mut self.members.list, &mut self.pending, said);
         let accepted = due(&self.pending, message.minimum);
         accept(
@@ -93,8 +98,6 @@ impl Quorum {
         if minimum < self.minimum {
             return Ok(());
         }
-        let accepted = due(&self.pending, minimum);
-        self.values.reserve(accepted)?;
         // What is due already is accepted by the next message, and what only this minimum reaches by the last.
         let first = due(&self.pending, self.minimum);
         accept(&mut self.values, &mut self.pending, first, self.number + 1);
@@ -134,18 +137,17 @@ impl Quorum {
     }
 
     /// The proposals that aren't accepted yet, in the order of their numbers.
-    pub fn pending(&self) -> &[Proposal]
-        ensures { result.now ≡ self.now.pending }
+    pub fn pending(&self) -> &VecDeque<Proposal>
+        ensures { result.now.items ≡ self.now.pending }
     {
-        self.pending.as_slice()
+        &self.pending
     }
 
     /// The value of a key; none where no proposal of it was accepted.
     pub fn value(&self, key: &str) -> Option<&Accepted>
         ensures { option_copied result ≡ get self.now.values key.now }
     {
-        let entry = find(&self.values, key)?;
-        Some(&entry.accepted)
+        look_up(&self.values, key)
     }
 
     /// The same quorum once more, with its own memory.
@@ -165,25 +167,44 @@ impl Quorum {
     }
 }
 
-fn copy_proposals(alloc: Global, proposals: &[Proposal]) -> Result<Vec<Proposal>, NoMemory>
-    ensures { IfOk result (λ copies. copies.items ≡ proposals.now) }
+fn copy_proposals(
+    alloc: Global,
+    proposals: &VecDeque<Proposal>,
+) -> Result<VecDeque<Proposal>, NoMemory>
+    ensures { IfOk result (λ copies. copies.items ≡ proposals.now.items) }
 {
-    let mut copies = Vec::with_capacity(alloc, proposals.len())?;
-    for proposal in proposals {
-        let copy = proposal.copy(alloc)?;
-        copies.push(copy)?;
+    let mut copies = VecDeque::new(alloc);
+    for index in 0..proposals.len() {
+        let copy = proposals[index].copy(alloc)?;
+        copies.push_back(copy)?;
     }
     Ok(copies)
 }
 
-fn copy_values(alloc: Global, values: &[KeyValue]) -> Result<Vec<KeyValue>, NoMemory>
-    ensures { IfOk result (λ copies. copies.items ≡ values.now) }
+fn copy_values(
+    alloc: Global,
+    values: &BTreeMap<String, Option<Accepted>>,
+) -> Result<BTreeMap<String, Option<Accepted>>, NoMemory>
+    ensures order { IfOk result AreOrdered }
+    ensures copied { IfOk result (λ copies. (q : List ℕ) → get_by_text copies q ≡ get_by_text values.now q) }
 {
-    let mut copies = Vec::with_capacity(alloc, values.len())?;
-    for value in values {
-        let key = value.key.copy(alloc)?;
-        let accepted = value.accepted.copy(alloc)?;
-        copies.push(KeyValue { key, accepted })?;
+    let mut copies = BTreeMap::new(alloc);
+    for (key, place) in values {
+        let key = String::from_str(alloc, key.as_str())?;
+        let place = copy_place(alloc, place)?;
+        put(&mut copies, key, place)?;
     }
     Ok(copies)
+}
+
+fn copy_place(alloc: Global, place: &Option<Accepted>) -> Result<Option<Accepted>, NoMemory>
+    ensures { IfOk result (λ copy. copy ≡ place.now) }
+{
+    match place {
+        Some(accepted) => {
+            let copy = accepted.copy(alloc)?;
+            Ok(Some(copy))
+        }
+        None => Ok(None),
+    }
 }

@@ -8,11 +8,13 @@ ghost use Rattle.fluid_json.specs.Tree.{Tree, trees};
 ghost use Rattle.fluid_json.specs.Spelled.{answer_stored};
 ghost use Rattle.fluid_tree.specs.Summary.{children};
 ghost use Rattle.fluid_types.specs.declared.fault.BlobFault.TheVariants.{NoMemory as no_memory};
-ghost use Rattle.fluid_quorum.specs.Lists.{IsInIdOrder, IsInKeyOrder, AreRising, AreUpTo};
+ghost use Rattle.fluid_quorum.specs.Lists.{IsInIdOrder, IsInKeyOrder, AreRising, AreUpTo, values_of};
+ghost use Rattle.fluid_quorum.specs.Places.{table_at, AreOrdered, HavePlaces};
 ghost use Rattle.fluid_quorum.specs.Reading.{as_utf8, find_child, text_in, within, count_at, text_at, attributes_form, member_form, proposal_form, value_form, each, members_form, proposals_form, values_form, attributes_in, number_in, members_in, proposals_in, values_in, bad, answer};
 
 use crate::accepting::KeyValue;
 use crate::members::Members;
+use crate::places::{make_place, put};
 use crate::quorum::Quorum;
 use crate::saying::{id_in, key_in};
 use crate::writing::{print_attributes, print_members, print_proposals, print_values};
@@ -21,6 +23,7 @@ use fluid_table::is_in_order;
 use fluid_tree::Node;
 use fluid_types::{Accepted, BlobFault, Field, Member, Proposal, QuorumBlob, Word};
 use std::alloc::Global;
+use std::collections::{BTreeMap, VecDeque};
 
 impl Quorum {
     /// The quorum that the blobs of a tree say.
@@ -40,6 +43,7 @@ impl Quorum {
         let Some(values) = read_values(alloc, tree, number)? else {
             return Err(bad_blob(alloc, QuorumBlob::Values));
         };
+        let values = placed(alloc, values, &pending)?;
         Ok(Quorum {
             number,
             minimum,
@@ -282,7 +286,7 @@ fn members_of(alloc: Global, last: u64, value: Json) -> Result<Option<Vec<Member
     }
 }
 
-fn proposals_of(alloc: Global, last: u64, value: Json) -> Result<Option<Vec<Proposal>>, NoMemory>
+fn proposals_of(alloc: Global, last: u64, value: Json) -> Result<Option<VecDeque<Proposal>>, NoMemory>
     ensures form { IfOk result (λ ps. option_map (λ v. v.items) ps ≡ proposals_form last value) }
     ensures kept { IfOk result (λ ps. IfSome ps (λ v. AreRising v.items × AreUpTo last v.items)) }
 {
@@ -293,7 +297,7 @@ fn proposals_of(alloc: Global, last: u64, value: Json) -> Result<Option<Vec<Prop
         return Ok(None);
     };
     if are_rising(&proposals) {
-        Ok(Some(proposals))
+        Ok(Some(VecDeque::from_vec(proposals)))
     } else {
         Ok(None)
     }
@@ -320,6 +324,40 @@ fn values_of(alloc: Global, last: u64, value: Json) -> Result<Option<Vec<KeyValu
     } else {
         Ok(None)
     }
+}
+
+// The values in places, and places for the keys of these proposals.
+fn placed(
+    alloc: Global,
+    values: Vec<KeyValue>,
+    pending: &VecDeque<Proposal>,
+) -> Result<BTreeMap<String, Option<Accepted>>, NoMemory>
+    requires { IsInKeyOrder values.items }
+    ensures order { IfOk result AreOrdered }
+    ensures values { IfOk result (λ places. table_at places ≡ values_of values.items) }
+    ensures places { IfOk result (λ places. HavePlaces places pending.now.items) }
+{
+    let mut places = of_values(alloc, values)?;
+    for index in 0..pending.len() {
+        make_place(alloc, &mut places, pending[index].key.as_str())?;
+    }
+    Ok(places)
+}
+
+fn of_values(
+    alloc: Global,
+    values: Vec<KeyValue>,
+) -> Result<BTreeMap<String, Option<Accepted>>, NoMemory>
+    requires { IsInKeyOrder values.items }
+    ensures order { IfOk result AreOrdered }
+    ensures values { IfOk result (λ places. table_at places ≡ values_of values.items) }
+{
+    let mut places = BTreeMap::new(alloc);
+    for value in values {
+        let KeyValue { key, accepted } = value;
+        put(&mut places, key.into_string(), Some(accepted))?;
+    }
+    Ok(places)
 }
 
 // ---- the blobs: each is in its form where its text is the printed one of what it says
@@ -368,7 +406,7 @@ fn read_members(alloc: Global, tree: &Node, last: u64) -> Result<Option<Vec<Memb
 }
 
 #[tactic(auto, unfolding(crate::specs::Reading::proposals_in, crate::specs::Reading::said_by))]
-fn read_proposals(alloc: Global, tree: &Node, last: u64) -> Result<Option<Vec<Proposal>>, NoMemory>
+fn read_proposals(alloc: Global, tree: &Node, last: u64) -> Result<Option<VecDeque<Proposal>>, NoMemory>
     ensures blob { IfOk result (λ found. option_map (λ v. v.items) found ≡ proposals_in last tree.now) }
     ensures kept { IfOk result (λ found. IfSome found (λ v. AreRising v.items × AreUpTo last v.items)) }
 {

@@ -8,15 +8,17 @@ ghost use Rattle.fluid_types.specs.Printed.{row, count_tree};
 ghost use Rattle.fluid_types.specs.Words.{blob_word};
 ghost use Rattle.fluid_types.specs.Blobs.{attributes_tree, member_tree, proposal_tree, value_tree, list_tree};
 ghost use Rattle.fluid_table.specs.Keyed.{pairs_of};
-ghost use Rattle.fluid_quorum.specs.Rows.{row_tokens};
+ghost use Rattle.fluid_quorum.specs.Rows.{row_tokens, place_tokens};
 ghost use Rattle.fluid_quorum.specs.Node.{node_of, AreTexts};
+ghost use Rattle.fluid_quorum.specs.Places.{held};
 
 use crate::accepting::KeyValue;
 use crate::quorum::Quorum;
 use fluid_json::{Bytes, Json, NoMemory, Printer, Text};
 use fluid_tree::{Entries, Node};
-use fluid_types::{Field, Member, Proposal, QuorumBlob, Word};
+use fluid_types::{Accepted, Field, Member, Proposal, QuorumBlob, Word};
 use std::alloc::Global;
+use std::collections::{BTreeMap, VecDeque};
 
 impl Quorum {
     /// The tree of the four blobs, in the order of their names.
@@ -27,7 +29,7 @@ impl Quorum {
         let attributes = print_attributes(alloc, self.minimum, self.number)?;
         let members = print_members(alloc, self.members.as_slice())?;
         let proposals = print_proposals(alloc, &self.pending)?;
-        let values = print_values(alloc, &self.values)?;
+        let values = print_places(alloc, &self.values)?;
         let mut entries = Entries::new(alloc);
         put_blob(alloc, &mut entries, QuorumBlob::Attributes, attributes)?;
         put_blob(alloc, &mut entries, QuorumBlob::Members, members)?;
@@ -78,13 +80,16 @@ pub(crate) fn print_members(alloc: Global, members: &[Member]) -> Result<Text, N
     Ok(out.into_text())
 }
 
-pub(crate) fn print_proposals(alloc: Global, proposals: &[Proposal]) -> Result<Text, NoMemory>
-    ensures { IfOk result (λ s. s ≡ printed (list_tree proposal_tree proposals.now)) }
+pub(crate) fn print_proposals(
+    alloc: Global,
+    proposals: &VecDeque<Proposal>,
+) -> Result<Text, NoMemory>
+    ensures { IfOk result (λ s. s ≡ printed (list_tree proposal_tree proposals.now.items)) }
 {
     let mut out = Printer::new(alloc);
     out.begin_list()?;
-    for proposal in proposals {
-        put_proposal(&mut out, proposal)?;
+    for index in 0..proposals.len() {
+        put_proposal(&mut out, &proposals[index])?;
     }
     out.end_list()?;
     Ok(out.into_text())
@@ -96,7 +101,22 @@ pub(crate) fn print_values(alloc: Global, values: &[KeyValue]) -> Result<Text, N
     let mut out = Printer::new(alloc);
     out.begin_list()?;
     for value in values {
-        put_value(&mut out, value)?;
+        put_value(&mut out, value.key.as_str(), &value.accepted)?;
+    }
+    out.end_list()?;
+    Ok(out.into_text())
+}
+
+fn print_places(
+    alloc: Global,
+    places: &BTreeMap<String, Option<Accepted>>,
+) -> Result<Text, NoMemory>
+    ensures { IfOk result (λ s. s ≡ printed (list_tree value_tree (held places.now.entries))) }
+{
+    let mut out = Printer::new(alloc);
+    out.begin_list()?;
+    for (key, place) in places {
+        put_place(&mut out, key.as_str(), place)?;
     }
     out.end_list()?;
     Ok(out.into_text())
@@ -128,15 +148,28 @@ fn put_proposal(out: &mut Printer, proposal: &Proposal) -> Result<(), NoMemory>
     Ok(())
 }
 
-fn put_value(out: &mut Printer, value: &KeyValue) -> Result<(), NoMemory>
+fn put_place(out: &mut Printer, key: &str, place: &Option<Accepted>) -> Result<(), NoMemory>
     ensures before { out.new.before ≡ out.old.before }
-    ensures tokens { OnOk result (out.new.tokens ≡ out.old.tokens ++ tokens_of (value_tree (value.now.key, value.now.accepted))) }
+    ensures tokens { OnOk result (out.new.tokens ≡ out.old.tokens ++ place_tokens key.now place.now) }
+{
+    match place {
+        Some(accepted) => {
+            put_value(out, key, accepted)?;
+            Ok(())
+        }
+        None => Ok(()),
+    }
+}
+
+fn put_value(out: &mut Printer, key: &str, accepted: &Accepted) -> Result<(), NoMemory>
+    ensures before { out.new.before ≡ out.old.before }
+    ensures tokens { OnOk result (out.new.tokens ≡ out.old.tokens ++ tokens_of (value_tree (key.now, accepted.now))) }
 {
     out.begin_object()?;
-    put_count(out, Field::ApprovalSequenceNumber, value.accepted.approval)?;
-    put_text(out, Field::Key, value.key.as_str())?;
-    put_count(out, Field::SequenceNumber, value.accepted.number)?;
-    put_json(out, Field::Value, &value.accepted.value)?;
+    put_count(out, Field::ApprovalSequenceNumber, accepted.approval)?;
+    put_text(out, Field::Key, key)?;
+    put_count(out, Field::SequenceNumber, accepted.number)?;
+    put_json(out, Field::Value, &accepted.value)?;
     out.end_object()?;
     Ok(())
 }

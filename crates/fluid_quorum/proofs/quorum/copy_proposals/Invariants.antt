@@ -1,6 +1,6 @@
-use Rattle.std.proofs.Common.{◌≡◌, take}
+use Rattle.std.proofs.Common.{◌≡◌, ◌++◌, drop}
 use Rattle.fluid_quorum.proofs.quorum.copy_proposals.Given as goal
 
--- the proposals so far
-abbrev pub invariant-loop-proposal : goal.invariant-loop-proposal
-invariant-loop-proposal l = l.copies.items ≡ take l.proposal-index l.proposals
+-- the copies so far, and what is left
+abbrev pub invariant-loop-index : goal.invariant-loop-index
+invariant-loop-index l = l.copies.items ++ drop l.index l.proposals.items ≡ l.proposals.items

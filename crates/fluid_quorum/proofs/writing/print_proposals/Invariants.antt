@@ -5,8 +5,8 @@ use Rattle.fluid_types.specs.Blobs.{proposal_tree, list_tree}
 use Rattle.fluid_quorum.proofs.writing.print_proposals.Given as goal
 
 -- what was printed, and then what is left, is all
-abbrev pub invariant-loop-proposal : goal.invariant-loop-proposal
-invariant-loop-proposal l = record {
+abbrev pub invariant-loop-index : goal.invariant-loop-index
+invariant-loop-index l = record {
   before : l.out.before ≡ [];
-  tokens : l.out.tokens ++ trees_tokens (trees (map proposal_tree (drop l.proposal-index l.proposals))) ≡ tokens_of (list_tree proposal_tree l.proposals);
+  tokens : l.out.tokens ++ trees_tokens (trees (map proposal_tree (drop l.index l.proposals.items))) ≡ tokens_of (list_tree proposal_tree l.proposals.items);
 }

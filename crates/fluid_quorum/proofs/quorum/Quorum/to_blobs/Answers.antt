@@ -6,10 +6,10 @@ use Rattle.fluid_tree.specs.Summary.{tree, children, blob}
 use Rattle.fluid_types.specs.Words.{blob_word}
 use Rattle.fluid_types.specs.declared.quorum.QuorumBlob.TheVariants.{Attributes, Members, Proposals, Values}
 use Rattle.fluid_types.specs.Blobs.{attributes_tree, member_tree, proposal_tree, value_tree, list_tree, blobs_of, blob_text}
-use Rattle.fluid_table.specs.Keyed.{pairs_of}
-use Rattle.fluid_quorum.specs.Lists.{members_of, values_of}
+use Rattle.fluid_quorum.specs.Lists.{members_of}
+use Rattle.fluid_quorum.specs.Places.{table_at}
 use Rattle.fluid_quorum.specs.Node.{node_of, AreTexts}
-use Rattle.fluid_quorum.proofs.Written.{members_text, values_text, four_texts}
+use Rattle.fluid_quorum.proofs.Written.{members_text, places_text, four_texts}
 use Rattle.fluid_quorum.proofs.quorum.Quorum.to_blobs.Goals as goal
 
 pub returns-clause-node : goal.returns-clause-node
@@ -19,8 +19,8 @@ returns-clause-node c =
     let members : c.in_ok-members.members ≡ printed (list_tree member_tree (table.values (members_of c.self.inside.members))) =
     c.in_ok-members.ensures ∙ ap (λ ms. printed (list_tree member_tree ms)) c.as_slice.ensures ∙ members_text c.self.inside.members c.self.invariant.0 in
     let proposals : c.in_ok-proposals.proposals ≡ printed (list_tree proposal_tree c.self.inside.pending.items) = search rules in
-    let values : c.in_ok-values.values ≡ printed (list_tree value_tree (entries (values_of c.self.inside.values.items))) =
-    c.in_ok-values.ensures ∙ ap (λ vs. printed (list_tree value_tree (pairs_of (λ v. v.key) (λ v. v.accepted) vs))) c.deref-2.ensures.value ∙ values_text c.self.inside.values.items c.self.invariant.1.0 in
+    let values : c.in_ok-values.values ≡ printed (list_tree value_tree (entries (table_at c.self.inside.values))) =
+    c.in_ok-values.ensures ∙ places_text c.self.inside.values c.self.invariant.1.0 in
     let all : c.put_blob-4.new.entries ≡ (blob_word Attributes, blob c.in_ok-attributes.attributes) ∷ (blob_word Members, blob c.in_ok-members.members) ∷ (blob_word Proposals, blob c.in_ok-proposals.proposals) ∷ (blob_word Values, blob c.in_ok-values.values) ∷ [] =
     c.in_ok-put_blob-4.ensures.entries ∙ rw (c.in_ok-put_blob-3.ensures.entries, c.in_ok-put_blob-2.ensures.entries, c.in_ok-put_blob.ensures.entries, c.new-entries.ensures) refl in
     rw (← c.self.view_is) (c.tree.ensures ∙ ap (λ es. tree (children es)) all ∙ rw (attributes, members, proposals, values) refl)
@@ -32,8 +32,8 @@ returns-clause-texts c =
     let members : c.in_ok-members.members ≡ printed (list_tree member_tree (table.values (members_of c.self.inside.members))) =
     c.in_ok-members.ensures ∙ ap (λ ms. printed (list_tree member_tree ms)) c.as_slice.ensures ∙ members_text c.self.inside.members c.self.invariant.0 in
     let proposals : c.in_ok-proposals.proposals ≡ printed (list_tree proposal_tree c.self.inside.pending.items) = search rules in
-    let values : c.in_ok-values.values ≡ printed (list_tree value_tree (entries (values_of c.self.inside.values.items))) =
-    c.in_ok-values.ensures ∙ ap (λ vs. printed (list_tree value_tree (pairs_of (λ v. v.key) (λ v. v.accepted) vs))) c.deref-2.ensures.value ∙ values_text c.self.inside.values.items c.self.invariant.1.0 in
+    let values : c.in_ok-values.values ≡ printed (list_tree value_tree (entries (table_at c.self.inside.values))) =
+    c.in_ok-values.ensures ∙ places_text c.self.inside.values c.self.invariant.1.0 in
     subst AreTexts c.self.view_is
     (four_texts _ (subst IsUtf8 attributes c.in_ok-put_blob.ensures.text) (subst IsUtf8 members c.in_ok-put_blob-2.ensures.text) (subst IsUtf8 proposals c.in_ok-put_blob-3.ensures.text)
     (subst IsUtf8 values c.in_ok-put_blob-4.ensures.text))
