@@ -35,7 +35,7 @@ use Rattle.std.specs.Option.{option_or}
 use Rattle.fluid_lane.specs.Standing.{Standing, LaneStands, IsTold, is_worn}
 use Rattle.fluid_lane.specs.Refusals.{IsCause, IsGated, first_refusal, is_full, is_full_for, has_too_many, has_checkpoints, has_no_checkpoint}
 use Rattle.fluid_lane.specs.Calls as lanes
-use Rattle.fluid_lane.specs.Calls.{Stores}
+use Rattle.fluid_lane.specs.Calls.{Stores, StoreKept}
 use Rattle.fluid_lane.specs.Restarts as restarts
 use Rattle.fluid_lane.specs.Sweeps.{first_silent, SweepsBy, IsSwept}
 use Rattle.fluid_lane.specs.Laws.{LaneSays, SaysOf}
@@ -394,18 +394,81 @@ store_not_worn s (BadCheckpoint n f) may = tt
 store_not_worn s (TooLarge n) may = tt
 store_not_worn s Worn may = may
 
-store_fault : (s : Standing) (l : List Step) → s.entries ≡ entries_of (ledger l) → (f : LaneFault) → lanes.IsStoreFault s f → IsStoreFault (terms_of s) l f
-store_fault s l is (LogFailed note) may = tt
-store_fault s l is (Full n) may = may
-store_fault s l is (BadRecord n) may = may
-store_fault s l is (NoCheckpoint a b) may = may
-store_fault s l is CheckpointsFull may = may
-store_fault s l is TooManyClients may = may
-store_fault s l is (DeltaFailed note) may = tt
-store_fault s l is NoMemory may = tt
-store_fault s l is (BadCheckpoint n f) may = may
-store_fault s l is (TooLarge n) may = (may.0 ∙ ap (λ e. length (checkpoint_text e)) is, may.1)
-store_fault s l is Worn may = may
+-- a fault of a checkpoint, with what the keeper tells of one of the log: the text was short enough, or a cut was owed
+StoreFails : Standing → LaneFault → Type 0
+StoreFails s (LogFailed note) = (length (checkpoint_text s.entries) ≤ s.limits.bytes) ⊎ (s.owed ≡ true)
+StoreFails s (Full n) = lanes.IsStoreFault s (Full n)
+StoreFails s (BadRecord n) = lanes.IsStoreFault s (BadRecord n)
+StoreFails s (NoCheckpoint a b) = lanes.IsStoreFault s (NoCheckpoint a b)
+StoreFails s CheckpointsFull = lanes.IsStoreFault s CheckpointsFull
+StoreFails s TooManyClients = lanes.IsStoreFault s TooManyClients
+StoreFails s (DeltaFailed note) = lanes.IsStoreFault s (DeltaFailed note)
+StoreFails s NoMemory = lanes.IsStoreFault s NoMemory
+StoreFails s (BadCheckpoint n f) = lanes.IsStoreFault s (BadCheckpoint n f)
+StoreFails s (TooLarge n) = lanes.IsStoreFault s (TooLarge n)
+StoreFails s Worn = lanes.IsStoreFault s Worn
+
+store_fails : (old new : Standing) (f : LaneFault) → lanes.IsStoreFault old f → StoreKept {A = ℕ} old new (Err f) → StoreFails old f
+store_fails old new (LogFailed note) may kept = elim kept [
+  | inl cut ↦ inr cut.was_owed
+  | inr short ↦ inl short.0
+]
+store_fails old new (Full n) may kept = may
+store_fails old new (BadRecord n) may kept = may
+store_fails old new (NoCheckpoint a b) may kept = may
+store_fails old new CheckpointsFull may kept = may
+store_fails old new TooManyClients may kept = may
+store_fails old new (DeltaFailed note) may kept = may
+store_fails old new NoMemory may kept = may
+store_fails old new (BadCheckpoint n f) may kept = may
+store_fails old new (TooLarge n) may kept = may
+store_fails old new Worn may kept = may
+
+store_failed : (s : Standing) (f : LaneFault) → StoreFails s f → lanes.IsStoreFault s f
+store_failed s (LogFailed note) may = tt
+store_failed s (Full n) may = may
+store_failed s (BadRecord n) may = may
+store_failed s (NoCheckpoint a b) may = may
+store_failed s CheckpointsFull may = may
+store_failed s TooManyClients may = may
+store_failed s (DeltaFailed note) may = may
+store_failed s NoMemory may = may
+store_failed s (BadCheckpoint n f) may = may
+store_failed s (TooLarge n) may = may
+store_failed s Worn may = may
+
+store_cause : (old new : Standing) (o : Option LaneFault) (f : LaneFault) → StoreKept {A = ℕ} old new (Err f) → IsCause old new (lanes.IsStoreFault old) o f → IsCause old new (StoreFails old) o f
+store_cause old new None f kept may = store_fails old new f may kept
+store_cause old new (Some refusal) f kept cause = cause
+
+store_causes : (old new : Standing) (o : Option LaneFault) (result : Result ℕ LaneFault) → StoreKept old new result → IfErr result (IsCause old new (lanes.IsStoreFault old) o) → IfErr result (IsCause old new (StoreFails old) o)
+store_causes old new o (Ok n) kept may = tt
+store_causes old new o (Err f) kept may = store_cause old new o f kept may
+
+store_gate : (old new : Standing) (rules : List (Bool × LaneFault)) (result : Result ℕ LaneFault) → StoreKept old new result → IsGated old new rules (lanes.IsStoreFault old) result → IsGated old new rules (StoreFails old) result
+store_gate old new rules result kept gate = record {
+  worn = gate.worn;
+  passes = gate.passes;
+  refuses = λ fresh. store_causes old new (first_refusal rules) result kept (gate.refuses fresh);
+  unasked = gate.unasked;
+  unread = gate.unread;
+}
+
+store_fault : (s : Standing) (l : List Step) → s.entries ≡ entries_of (ledger l) → (s.owed ≡ true → 0 < asides l) → (f : LaneFault) → StoreFails s f → IsStoreFault (terms_of s) l f
+store_fault s l is owes (LogFailed note) may = elim may [
+  | inl short ↦ inl (subst (λ n. n ≤ s.limits.bytes) (ap (λ e. length (checkpoint_text e)) is) short)
+  | inr owed ↦ inr (owes owed)
+]
+store_fault s l is owes (Full n) may = may
+store_fault s l is owes (BadRecord n) may = may
+store_fault s l is owes (NoCheckpoint a b) may = may
+store_fault s l is owes CheckpointsFull may = may
+store_fault s l is owes TooManyClients may = may
+store_fault s l is owes (DeltaFailed note) may = tt
+store_fault s l is owes NoMemory may = tt
+store_fault s l is owes (BadCheckpoint n f) may = may
+store_fault s l is owes (TooLarge n) may = (may.0 ∙ ap (λ e. length (checkpoint_text e)) is, may.1)
+store_fault s l is owes Worn may = may
 
 pub told_stands : (s : Standing) (l : List Step) → LaneStands s l → is_some s.keeping.content ≡ true → (s.entries ≡ entries_of (ledger l)) × (s.keeping.checkpoints ≡ stored_in (terms_of s) l)
 told_stands s l stands is = told_is s.keeping.content _ is (by s.keeping.content stands.told)
@@ -416,12 +479,12 @@ told_stands s l stands is = told_is s.keeping.content _ is (by s.keeping.content
 
 pub checkpoints : (old new : Standing) (result : Result ℕ LaneFault) (l : List Step) → LaneSays → IsGated old new (has_checkpoints old ∷ []) (lanes.IsStoreFault old) result → Stores old new result → LaneStands old l → Checkpoints (terms_of old) result l
 checkpoints old new result l law gate stores stands =
-    answers old new l (has_checkpoints old ∷ []) (has_checkpoints_at (terms_of old) l ∷ []) (lanes.IsStoreFault old) (IsStoreFault (terms_of old) l) (IsCheckpointFault (terms_of old)) (IsStored (terms_of old) l) result law stands (tt, tt) (store_not_worn old)
-    (record { rules_are = ((λ _. tt), tt); each = checkpoint_fault old old.keeping.faults new.keeping.faults; log = λ note rose. rose }) gate stores.cause
+    answers old new l (has_checkpoints old ∷ []) (has_checkpoints_at (terms_of old) l ∷ []) (StoreFails old) (IsStoreFault (terms_of old) l) (IsCheckpointFault (terms_of old)) (IsStored (terms_of old) l) result law stands (tt, tt) (λ f may. store_not_worn old f (store_failed old f may))
+    (record { rules_are = ((λ _. tt), tt); each = λ f may. checkpoint_fault old old.keeping.faults new.keeping.faults f (store_failed old f may); log = λ note rose. rose }) (store_gate old new (has_checkpoints old ∷ []) result stores.kept gate) stores.cause
     (λ is says.
     let t = told_stands old l stands is in (
       ap (λ n. first_refusal ((nat_le old.limits.checkpoints n, CheckpointsFull) ∷ [])) t.1,
-      (store_fault old l t.0, if_ok result _ _ (λ k s. (s.next ∙ t.1, subst (λ n. n ≤ old.limits.bytes) (ap (λ e. length (checkpoint_text e)) t.0) s.short)) stores.stored),
+      (store_fault old l t.0 (owed_behind old l stands says), if_ok result _ _ (λ k s. (s.next ∙ t.1, subst (λ n. n ≤ old.limits.bytes) (ap (λ e. length (checkpoint_text e)) t.0) s.short)) stores.stored),
     ))
 
 read_not_worn : (f : LaneFault) → IsReadFault f → IsNotWorn f

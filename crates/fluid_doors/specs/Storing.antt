@@ -1,12 +1,12 @@
 -- Checkpoints and restarts.
-use Rattle.std.specs.Prelude.{◌≡◌, ⊤, ℕ, ◌+◌, ◌<◌, ◌≤◌, nat_le, Bool, List, [], ◌∷◌, length, Result}
+use Rattle.std.specs.Prelude.{◌≡◌, ⊤, ◌⊎◌, ℕ, ◌+◌, ◌<◌, ◌≤◌, nat_le, Bool, List, [], ◌∷◌, length, Result}
 use Rattle.fluid_document.specs.Entries.{entries_of}
 use Rattle.fluid_document.specs.Kept.{checkpoint_text}
 use Rattle.fluid_lane.specs.declared.steps.Step.{Step}
 use Rattle.fluid_lane.specs.declared.fault.LaneFault.{LaneFault}
 use Rattle.fluid_lane.specs.declared.fault.LaneFault.TheVariants.{LogFailed, BadRecord, NoCheckpoint, CheckpointsFull, DeltaFailed, NoMemory, BadCheckpoint, TooLarge}
 use Rattle.fluid_lane.specs.Faults.{IsOutside}
-use Rattle.fluid_lane.specs.Steps.{ledger, stored}
+use Rattle.fluid_lane.specs.Steps.{ledger, asides, stored}
 use Rattle.fluid_doors.specs.declared.bench.Terms.{Terms}
 use Rattle.fluid_doors.specs.Answers.{IsFailure, Answers}
 
@@ -22,9 +22,10 @@ text_length l = length (checkpoint_text (entries_of (ledger l)))
 abbrev pub has_checkpoints_at : Terms → List Step → Bool × LaneFault
 has_checkpoints_at t l = (nat_le t.limits.checkpoints (stored_in t l), CheckpointsFull)
 
--- the keeper failed, memory was wanting, or the text of the checkpoint is longer than the document takes
+-- the keeper failed, memory was wanting, or the text of the checkpoint is longer than the document takes. Where it is, the log
+-- fails only at a cut that was owed
 abbrev pub IsStoreFault : Terms → List Step → LaneFault → Type 0
-IsStoreFault t l (LogFailed note) = ⊤
+IsStoreFault t l (LogFailed note) = (text_length l ≤ t.limits.bytes) ⊎ (0 < asides l)
 IsStoreFault t l (DeltaFailed note) = ⊤
 IsStoreFault t l NoMemory = ⊤
 IsStoreFault t l (TooLarge bytes) = (bytes ≡ text_length l) × (t.limits.bytes < bytes)

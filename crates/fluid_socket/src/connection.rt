@@ -62,11 +62,16 @@ impl Framing {
     }
 }
 
+// The longest sleep, in ticks.
+const LONGEST_REST: u32 = 16;
+
 /// A connection with all that it waits by.
 pub(crate) struct Connection {
     framing: Framing,
     watch: Watch,
     waits: Waits,
+    // for how many ticks the next sleep lasts: more of them while nobody calls and no text comes in
+    rest: u32,
     // for how many ticks nothing came in, since a sign of life was asked for
     silent: u32,
     // how often such a sign was asked for in vain
@@ -91,6 +96,7 @@ impl Connection {
             framing,
             watch,
             waits,
+            rest: 1,
             silent: 0,
             pings: 0,
         }
@@ -116,7 +122,10 @@ impl Connection {
                         step => return step,
                     }
                 }
-                Step::Text(text) => return Step::Text(text),
+                Step::Text(text) => {
+                    self.rest = 1;
+                    return Step::Text(text);
+                }
                 step => {
                     self.framing = Framing::Over;
                     return step;
@@ -154,9 +163,10 @@ impl Connection {
         }
         if !place.lie_down() {
             place.look();
+            self.rest = 1;
             return Step::Quiet;
         }
-        let woken = self.watch.wait();
+        let woken = self.watch.wait(self.rest);
         let called = place.rise();
         let Ok(woken) = woken else {
             self.framing = Framing::Over;
@@ -168,17 +178,22 @@ impl Connection {
             self.ready();
         }
         match (called, woken) {
-            (true, _) => Step::Quiet,
+            (true, _) => {
+                self.rest = 1;
+                Step::Quiet
+            }
             (false, Woken::Socket) => Step::Blocked,
             (false, Woken::Other) => self.tick(),
         }
     }
 
-    // A tick has passed without a word of the peer. Behind so many it is asked for a sign of life, and where it gave none so
-    // often, the connection ends.
+    // A sleep has passed without a word of the peer, and the next one is longer. Behind so many ticks the peer is asked for a
+    // sign of life, and where it gave none so often, the connection ends.
     fn tick(&mut self) -> Step {
-        self.silent = self.silent.saturating_add(1);
+        self.silent = self.silent.saturating_add(self.rest);
+        self.rest = self.rest.saturating_mul(2).min(LONGEST_REST);
         if self.silent < self.waits.silent_ticks {
+            self.rest = self.rest.min(self.waits.silent_ticks - self.silent);
             return Step::Quiet;
         }
         self.silent = 0;
@@ -228,7 +243,7 @@ impl Connection {
             Err(HandshakeError::Failure(error)) => Some(messages::refused(error)),
             Err(HandshakeError::Interrupted(handshake)) => {
                 self.framing = Framing::Opening(handshake);
-                let woken = self.watch.wait();
+                let woken = self.watch.wait(1);
                 self.refill();
                 self.ready();
                 match woken {
@@ -285,7 +300,7 @@ impl Connection {
     fn wait_for_peer(&mut self) -> Sent {
         let mut still = 0u32;
         for _ in 0..u64::MAX {
-            match self.watch.wait() {
+            match self.watch.wait(1) {
                 Ok(Woken::Socket) => still = 0,
                 Ok(Woken::Other) => still = still.saturating_add(1),
                 Err(_) => return Sent::Failed,
@@ -309,6 +324,7 @@ impl Drop for Connection {
             framing,
             watch: _,
             waits: _,
+            rest: _,
             silent: _,
             pings: _,
         } = self;

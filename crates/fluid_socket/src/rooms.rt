@@ -1,7 +1,7 @@
 //! Calls to wake: what one wire's text changed is heard by the other wires of its document at once. Nothing rests on a call:
 //! who isn't called hears by its tick.
-//! The wires of a document have a room. A call goes to `WIDTH` sleepers at most, and each of them passes it on when it has
-//! done what it was called for; so a large room is never awake all at once.
+//! The wires of a document have a room. A call goes to a few sleepers, and each of them passes it on when it has done what it was
+//! called for; so a large room is never awake all at once.
 
 use fluid_json::NoMemory;
 use mio::Waker;
@@ -10,8 +10,11 @@ use std::collections::BTreeMap;
 use std::sync::atomic::{AtomicBool, AtomicU64, Ordering};
 use std::sync::{Arc, Mutex, Wait};
 
-// How many wires of a room are awake at once because of calls.
-const WIDTH: u64 = 4;
+// How many wires of a room are awake at once because of calls: of a small room so many, and of a large one one of so many members,
+// so that who only listens has its share of the turns beside those who are awake by texts of their own.
+const LEAST_WIDTH: usize = 4;
+
+const MEMBERS_FOR_EACH: usize = 16;
 
 // The states of a sleeper: awake; told of a call since it looked last; asleep.
 const AWAKE: u64 = 0;
@@ -91,11 +94,16 @@ impl Ring {
         false
     }
 
+    // How many may be awake because of calls.
+    fn width(&self) -> u64 {
+        (self.members.len() / MEMBERS_FOR_EACH).max(LEAST_WIDTH) as u64
+    }
+
     // Calls all, beginning with as many as may be awake beside those that already are.
     fn begin(&mut self, running: &AtomicU64) {
         // one more than there are, since the place behind the last one counts as one
         self.left = self.members.len().saturating_add(1);
-        for _ in running.load(Ordering::SeqCst)..WIDTH {
+        for _ in running.load(Ordering::SeqCst)..self.width() {
             if !self.pass() {
                 return;
             }

@@ -12,7 +12,7 @@ const SOCKET: Token = Token(0);
 
 const CALL: Token = Token(1);
 
-/// Waits for the socket of one wire, for a call of another wire, or for the end of a tick.
+/// Waits for the socket of one wire, for a call of another wire, or for the end of some ticks.
 #[derive(Drop)]
 pub(crate) struct Watch {
     poll: Poll,
@@ -54,9 +54,10 @@ impl Watch {
         Ok((watch, waker))
     }
 
-    /// Sleeps for a tick at most.
-    pub(crate) fn wait(&mut self) -> io::Result<Woken> {
-        self.poll.poll(&mut self.events, Some(self.tick))?;
+    /// Sleeps for so many ticks at most.
+    pub(crate) fn wait(&mut self, ticks: u32) -> io::Result<Woken> {
+        let longest = self.tick.saturating_mul(ticks);
+        self.poll.poll(&mut self.events, Some(longest))?;
         if self.events.iter().any(|event| event.token() == SOCKET) {
             return Ok(Woken::Socket);
         }

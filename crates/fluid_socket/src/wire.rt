@@ -15,7 +15,8 @@ use std::sync::Wait;
 /// How long a wire waits, in ticks.
 #[derive(Clone, Copy, Debug, PartialEq, Eq)]
 pub struct Waits {
-    /// A wire that sleeps wakes behind so many milliseconds, also where nobody calls it.
+    /// A wire that sleeps wakes behind so many milliseconds, also where nobody calls it; while nothing happens its next sleeps
+    /// last 2, 4, 8 and then 16 of these ticks.
     pub tick_milliseconds: u64,
     /// How often a handshake may wait for the peer before it fails, each time for a tick at most.
     pub handshake_ticks: u32,

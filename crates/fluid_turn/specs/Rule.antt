@@ -75,8 +75,8 @@ module _ {T E : Type 0} (stands : T → List E → Type 0) (began : List E) wher
       ((x : T) × (get_elem? homes 0 ≡ some (some (Some x))) × stands x (entries log))
       ⊎ ((by : ℕ) × (v : View E) × (get_elem? views by ≡ some v) × InHand v.stage)
 
-  -- The words are how many tickets were drawn, which one is served, and how many entries the list has. Those of the
-  -- bays, on which waiters sleep, mean nothing
+  -- The words are how many tickets were drawn, which one is served, and how many entries the list has. The others, by
+  -- which waiters sleep and are woken, mean nothing
   pub record Kept (s : State (Option T) (View E)) : Type 0 where
     pub ticket : ℕ
     pub serving : ℕ
@@ -92,9 +92,9 @@ module _ {T E : Type 0} (stands : T → List E → Type 0) (began : List E) wher
     -- the turn began with an entry, or it bears the number of one seat, where seats that have ended count as well
     pub signed : IsSigned began (length s.views) log
 
--- the table has the three words, the 512 bays and the one slot
+-- the table has the three words, the 66 by which waiters are woken, and the one slot
 abbrev pub IsTurnTable : TableId → Type 0
-IsTurnTable id = (id.words ≡ 515) × (id.slots ≡ 1)
+IsTurnTable id = (id.words ≡ 69) × (id.slots ≡ 1)
 
 -- a seat of the turn's table
 abbrev pub IsAtTable : TableId → TableId → Type 0

@@ -21,6 +21,11 @@ module _ {E : Type 0} where
   abbrev pub waiting : ℕ → View E → View E
   waiting n v = record v { stage = Waiting n }
 
+  -- the seat with the ticket that was drawn, where one was
+  abbrev pub drawing : {T : Type 0} → Option ℕ → Me (Option T) (View E) → Me (Option T) (View E)
+  drawing (Some n) m = (waiting n m.0, m.1)
+  drawing None m = m
+
   abbrev pub holding : ℕ → List (Numbered E) → View E → View E
   holding n l v = record v { stage = Holding n; all = l }
 

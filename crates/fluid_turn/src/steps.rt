@@ -1,10 +1,10 @@
 //! The steps of a turn, one function each, on the table that keeps its rule.
-ghost use Rattle.std.specs.Prelude.{◌≡◌, ◌≢◌, ◌+◌, ◌<◌, ◌%◌, ℕ, Some, [], ◌∷◌, ◌++◌, length};
+ghost use Rattle.std.specs.Prelude.{◌≡◌, ◌≢◌, ◌+◌, ◌<◌, ◌%◌, ℕ, Some, [], ◌∷◌, ◌++◌, length, IfSome};
 ghost use Rattle.fluid_turn.specs.declared.view.Stage.TheVariants.{Idle, Waiting, Holding};
 ghost use Rattle.fluid_turn.specs.Entries.{entries, made_by};
 ghost use Rattle.fluid_turn.specs.Seats.{StandsFixed};
 ghost use Rattle.fluid_turn.specs.Rule.{IsTurnTable, IsAtTable};
-ghost use Rattle.fluid_turn.specs.Steps.{opening_view, newcomer, waiting, idle, adding, told_of, HasValue, HasNews, HasArrived, HasBegun, Follows};
+ghost use Rattle.fluid_turn.specs.Steps.{opening_view, newcomer, waiting, drawing, idle, adding, told_of, HasValue, HasNews, HasArrived, HasBegun, Follows};
 
 use crate::apart::apart;
 use crate::chronicle::Chronicle;
@@ -18,22 +18,29 @@ use std::hint::spin_loop;
 use std::marker::Brand;
 use std::sync::Wait;
 
-// The words: how many tickets were drawn, which one is served, how many entries the list has, and the bays, on which
-// those sleep who wait with a ticket.
+// The words: how many tickets were drawn, which one is served, how many entries the list has, whether somebody sleeps who
+// has no ticket yet, the bell on which those sleep, and the bays, on which those sleep who wait with a ticket.
 pub(crate) const TICKET: usize = 0;
 
 pub(crate) const SERVING: usize = 1;
 
 pub(crate) const COUNT: usize = 2;
 
-const BAYS: usize = 3;
+const ASLEEP: usize = 3;
 
-const BAY_COUNT: u64 = 512;
+const BELL: usize = 4;
 
-pub(crate) const WORDS: usize = 515;
+const BAYS: usize = 5;
+
+const BAY_COUNT: u64 = 64;
+
+pub(crate) const WORDS: usize = 69;
 
 // How often a waiter looks before it sleeps.
 const LOOKS: u64 = 20;
+
+// How often one sleeps before it draws a ticket that isn't served yet.
+const SLEEPS: u64 = 16;
 
 pub(crate) type Token<T> = Seat<Option<T>, View<<T as Chronicle>::Entry>>;
 
@@ -44,8 +51,86 @@ pub(crate) type Words<T> = Shared<
     TurnRule<T>,
 >;
 
-// Draws the next ticket. With no ticket left it doesn't return.
+// Draws a ticket: at first only one that is served at once, since nobody has the turn or waits for it. So who runs has the
+// turn before those who sleep, and nobody need be woken first. Who has slept so often draws the next one and waits for it, so
+// that all have their turn. With no ticket left it doesn't return.
 pub(crate) fn draw<T: Chronicle, R: Wait>(rt: &R, words: &Words<T>, token: &mut Token<T>) -> u64
+    requires turn { IsAtTable words.now.table_id token.old.table_id }
+    requires idle { token.old.me.0.stage ≡ Idle }
+    ensures same { (token.new.table_id ≡ token.old.table_id) × (token.new.id ≡ token.old.id) }
+    ensures drawn { token.new.me ≡ (waiting result token.old.me.0, token.old.me.1) }
+    ensures below { result < u64.MAX }
+{
+    if let Some(ticket) = draw_watching(words, token) {
+        return ticket;
+    }
+    for _ in 0..SLEEPS {
+        if let Some(ticket) = draw_sleeping(rt, words, token) {
+            // Others may sleep on: whoever passes on next is to wake one of them.
+            words.store::<Ring>(token, ASLEEP, 1);
+            return ticket;
+        }
+    }
+    words.store::<Ring>(token, ASLEEP, 1);
+    draw_next(rt, words, token)
+}
+
+// Draws the next ticket where it is served at once.
+fn draw_free<T: Chronicle>(words: &Words<T>, token: &mut Token<T>) -> Option<u64>
+    requires turn { IsAtTable words.now.table_id token.old.table_id }
+    requires idle { token.old.me.0.stage ≡ Idle }
+    ensures same { (token.new.table_id ≡ token.old.table_id) × (token.new.id ≡ token.old.id) }
+    ensures drawn { token.new.me ≡ drawing result token.old.me }
+    ensures below { IfSome result (λ ticket. ticket < u64.MAX) }
+{
+    let next = words.peek(TICKET);
+    if words.peek(SERVING) != next || next == u64::MAX {
+        return None;
+    }
+    let found = words.compare_exchange::<Draw>(token, TICKET, next, next + 1);
+    if found == next { Some(next) } else { None }
+}
+
+// Looks a few times for a ticket that is served at once.
+fn draw_watching<T: Chronicle>(words: &Words<T>, token: &mut Token<T>) -> Option<u64>
+    requires turn { IsAtTable words.now.table_id token.old.table_id }
+    requires idle { token.old.me.0.stage ≡ Idle }
+    ensures same { (token.new.table_id ≡ token.old.table_id) × (token.new.id ≡ token.old.id) }
+    ensures drawn { token.new.me ≡ drawing result token.old.me }
+    ensures below { IfSome result (λ ticket. ticket < u64.MAX) }
+{
+    for _ in 0..LOOKS {
+        if let Some(ticket) = draw_free(words, token) {
+            return Some(ticket);
+        }
+        spin_loop();
+    }
+    None
+}
+
+// Sleeps until somebody passes on, and looks again.
+fn draw_sleeping<T: Chronicle, R: Wait>(
+    rt: &R,
+    words: &Words<T>,
+    token: &mut Token<T>,
+) -> Option<u64>
+    requires turn { IsAtTable words.now.table_id token.old.table_id }
+    requires idle { token.old.me.0.stage ≡ Idle }
+    ensures same { (token.new.table_id ≡ token.old.table_id) × (token.new.id ≡ token.old.id) }
+    ensures drawn { token.new.me ≡ drawing result token.old.me }
+    ensures below { IfSome result (λ ticket. ticket < u64.MAX) }
+{
+    let bell = words.peek(BELL);
+    words.store::<Ring>(token, ASLEEP, 1);
+    if let Some(ticket) = draw_free(words, token) {
+        return Some(ticket);
+    }
+    words.park(rt, BELL, (bell % (1 << 32)) as u32);
+    draw_watching(words, token)
+}
+
+// Draws the next ticket, whether it is served yet or not.
+fn draw_next<T: Chronicle, R: Wait>(rt: &R, words: &Words<T>, token: &mut Token<T>) -> u64
     requires turn { IsAtTable words.now.table_id token.old.table_id }
     requires idle { token.old.me.0.stage ≡ Idle }
     ensures same { (token.new.table_id ≡ token.old.table_id) × (token.new.id ≡ token.old.id) }
@@ -169,16 +254,23 @@ pub(crate) fn enter<T: Chronicle, W: Picks<T, T::Entry>>(
     words.store::<Enter<W>>(token, COUNT, count);
 }
 
-// Serves the next ticket, with the value at home again, and wakes who sleeps with it.
+// Serves the next ticket, with the value at home again, and wakes who sleeps with it, or where nobody has drawn it one of those
+// who sleep without a ticket.
 //
-// No wake is lost, since all steps on the words stand in one total order (each is `SeqCst`). Who waits reads the number
-// of its bay, looks which ticket is served, and sleeps only while the bay has that number. Who passes on stores the
-// ticket, adds one to the ticket's bay and wakes who sleeps there. Where the waiter's look didn't see the ticket, it
+// No wake is lost, since all steps on the words stand in one total order (each is `SeqCst`). Who waits with a ticket reads
+// the number of its bay, looks which ticket is served, and sleeps only while the bay has that number. Who passes on stores
+// the ticket, adds one to the ticket's bay and wakes who sleeps there. Where the waiter's look didn't see the ticket, it
 // stands before that store, and its reading of the bay too, so that the bay has another number behind the addition: a
 // waiter that slept before it is woken, and one that was about to sleep doesn't. While one ticket waits its bay grows
 // at most once for each ticket before it, by fewer than 2^32, so that the low 32 bits, by which one sleeps, differ too.
-// With no more waiters than bays each sleeps alone; else those of one bay are woken together, and sleep again. Who
-// draws a ticket behind the look at the tickets finds it served, so that nobody need be woken where none was drawn.
+// Those of one bay are woken together, and sleep again. Who draws a ticket behind the look at the tickets finds it served,
+// so that nobody need be woken where none was drawn.
+//
+// Who sleeps without a ticket reads the bell, says that somebody sleeps, looks, and sleeps only while the bell has that
+// number. Whoever has the turn at that look passes on behind it and finds that somebody sleeps, or it was found in between:
+// whoever found it rang the bell, so that this one doesn't fall asleep, or woke one. Who is woken says anew that somebody
+// sleeps, before its own turn ends or before it sleeps again: so as long as somebody sleeps, that is said, or one is awake
+// who will say it.
 pub(crate) fn pass_on<T: Chronicle>(words: &Words<T>, token: &mut Token<T>, ticket: u64)
     requires turn { IsAtTable words.now.table_id token.old.table_id }
     requires holds { (token.old.me.0.stage ≡ Holding ticket) × (ticket < u64.MAX) }
@@ -191,7 +283,20 @@ pub(crate) fn pass_on<T: Chronicle>(words: &Words<T>, token: &mut Token<T>, tick
     words.store::<PassOn>(token, SERVING, next);
     if words.peek(TICKET) != next {
         ring(words, token, next);
+    } else if words.peek(ASLEEP) != 0 {
+        rouse(words, token);
     }
+}
+
+// Wakes one of those who sleep without a ticket.
+fn rouse<T: Chronicle>(words: &Words<T>, token: &mut Token<T>)
+    requires turn { IsAtTable words.now.table_id token.old.table_id }
+    ensures same { (token.new.table_id ≡ token.old.table_id) × (token.new.id ≡ token.old.id) }
+    ensures view { token.new.me ≡ token.old.me }
+{
+    words.store::<Ring>(token, ASLEEP, 0);
+    words.fetch_add::<Ring>(token, BELL, 1);
+    words.wake_one(BELL);
 }
 
 // Recalls which entries are the seat's own.

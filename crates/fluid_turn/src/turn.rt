@@ -21,8 +21,8 @@ use std::marker::{Brand, Model};
 use std::snapshot::Snapshot;
 use std::sync::Wait;
 
-/// A value that its users take in turn, in the order in which they ask. Each of them has a seat, which knows how the list of entries
-/// began that the value stands for.
+/// A value that its users take in turn: who runs before those who sleep, and who has slept often in the order of its tickets. Each of
+/// them has a seat, which knows how the list of entries began that the value stands for.
 #[derive(Drop)]
 pub struct Turn<T: Chronicle> {
     pub(crate) table: Table<

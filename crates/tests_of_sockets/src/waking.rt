@@ -90,3 +90,32 @@ fn a_peer_that_sends_bit_by_bit_keeps_nobody_from_looking_round(rt: HostRuntime)
         drop(front);
     }
 }
+
+#[test]
+fn a_wire_that_nobody_calls_sleeps_longer_and_longer(rt: HostRuntime) {
+    let alloc = rt.alloc();
+    let mut waits = PATIENT;
+    waits.tick_milliseconds = 100;
+    let mut front = listening(&rt, alloc, true, waits);
+    let (mut stream, mut wire) = connected(&rt, alloc, &mut front);
+    // that its peer takes texts ends its first wait
+    assert!(rt; matches!(wire.recv(&rt, alloc), Ok(Recv::Quiet)));
+    let begun = Instant::now(&rt).expect(&rt, "a clock");
+    for _ in 0..4 {
+        assert!(rt; matches!(wire.recv(&rt, alloc), Ok(Recv::Quiet)));
+    }
+    assert!(rt;
+        begun.elapsed(&rt).expect(&rt, "a clock") >= Duration::from_millis(1500),
+        "1, 2, 4 and 8 ticks"
+    );
+    write_bytes(&rt, &mut stream, b"text\n");
+    assert!(rt; matches!(wire.recv(&rt, alloc), Ok(Recv::Text(_))));
+    let given = Instant::now(&rt).expect(&rt, "a clock");
+    assert!(rt; matches!(wire.recv(&rt, alloc), Ok(Recv::Quiet)));
+    assert!(rt;
+        given.elapsed(&rt).expect(&rt, "a clock") < Duration::from_millis(350),
+        "behind a text one tick"
+    );
+    drop(wire);
+    drop(front);
+}

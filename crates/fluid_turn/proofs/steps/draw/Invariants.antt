@@ -3,6 +3,4 @@ use Rattle.fluid_turn.proofs.steps.draw.Given as goal
 
 -- the token is as it was
 abbrev pub invariant-loop : goal.invariant-loop
-invariant-loop g l =
-    (goal.iterator-loop g).can_next l.iterator' × (goal.iterator-loop g).is_finite l.iterator'
-    × (l.token.table_id ≡ l.fn.token.table_id) × (l.token.id ≡ l.fn.token.id) × (l.token.me ≡ l.fn.token.me)
+invariant-loop g l = (l.token.table_id ≡ l.fn.token.table_id) × (l.token.id ≡ l.fn.token.id) × (l.token.me ≡ l.fn.token.me)
