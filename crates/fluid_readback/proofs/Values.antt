@@ -162,21 +162,32 @@ json_of : (o : Option serde.Data) (t : Tree) → json_or o ≡ Ok t → (d : ser
 json_of None t h = cc
 json_of (Some d) t h = (d, refl, whole_of (of_data d) t h)
 
-pub values_are_bounded : ValuesAreBounded
-unfolding answer_within
-values_are_bounded s t h =
-    let test = shallow_text (reaches 101 Outside 0 s) (json_or (read s)) t h in
-    let value = json_of (read s) t test.1 in
+-- a value that was read of a text in which brackets don't stand so deep inside one another
+pub record IsReadBelow (top : ℕ) (s : List ℕ) (t : Tree) : Type 0 where
+  pub canonical : IsCanonical t
+  pub shallow : depth t < top
+  pub short : length (printed t) ≤ 2 * length s
+
+pub read_below : (top : ℕ) (s : List ℕ) (t : Tree) → 0 < top → reaches top Outside 0 s ≡ false → json_or (read s) ≡ Ok t → IsReadBelow top s t
+read_below top s t above test read_as =
+    let value = json_of (read s) t read_as in
     let tree = then_some of_json (option_and_then (λ p. json.if_last p.0 p.1) (json.value max_depth (tokens s))) value.0 value.1 in
     let parse = then_some (λ p. json.if_last p.0 p.1) (json.value max_depth (tokens s)) tree.0 tree.1 in
     let same : parse.0.0 ≡ tree.0 = only parse.0.0 tree.0 parse.0.1 parse.2 in
-    let bounds = parsed 101 max_depth (tokens s) parse.0.1 parse.0.0 (omega arith) (tokens_shallow 101 s test.0) parse.1 in
+    let bounds = parsed top max_depth (tokens s) parse.0.1 parse.0.0 above (tokens_shallow top s test) parse.1 in
     let is_kept : IsKept (json_size tree.0) (parse_tree.depth tree.0) value.0 = subst (Kept (json_size tree.0) (parse_tree.depth tree.0)) tree.2 (kept tree.0) in
     let is_made : IsMade (data_size value.0) (serde.depth value.0) t = subst (Made (data_size value.0) (serde.depth value.0)) value.2 (made value.0 is_kept.sorted) in
-    let deep : parse_tree.depth tree.0 ≤ 100 = subst (λ j. parse_tree.depth j ≤ 100) same (omega (arith, bounds.0)) in
+    let deep : parse_tree.depth tree.0 < top = subst (λ j. parse_tree.depth j < top) same (omega (arith, bounds.0)) in
     let long : json_size tree.0 ≤ length s = subst (λ j. json_size j ≤ length s) same (omega (arith, bounds.1, tokens_short s)) in
     record {
       canonical = is_made.canonical;
       shallow = omega (arith, is_made.shallow, is_kept.shallow, deep);
       short = omega (arith, is_made.short, is_kept.short, long);
     }
+
+pub values_are_bounded : ValuesAreBounded
+unfolding answer_within
+values_are_bounded s t h =
+    let test = shallow_text (reaches 101 Outside 0 s) (json_or (read s)) t h in
+    let is = read_below 101 s t (omega arith) test.0 test.1 in
+    record { canonical = is.canonical; shallow = omega (arith, is.shallow); short = omega (arith, is.short) }
