@@ -1,6 +1,6 @@
 -- What the words ask of the program as it is built.
 use Rattle.std.specs.Prelude.{◌≡◌, ◌⊎◌, ⊤, ℕ, List, Option, Some, None, Result, Ok, Err, codes, if◌then◌else◌}
-use Rattle.fluid_words.specs.Pages.{is_built, page, version_page}
+use Rattle.fluid_pages.specs.Pages.{is_built, page, version_page}
 use Rattle.fluid_words.specs.Words.{command_of}
 use Rattle.fluid_words.specs.declared.command.Command.{Command}
 use Rattle.fluid_words.specs.declared.command.Command.TheVariants.{Sequence, Script, Load, Workload, Serve, Help, Version}

@@ -4,7 +4,8 @@ ghost use Rattle.fluidd.specs.Tasks.{IsTask, task_of, task_by as task_for_comman
 
 use crate::status::Status;
 use fluid_json::{NoMemory, Text};
-use fluid_words::{Command, USAGE, VERSION, WordsFault, page, read_words};
+use fluid_pages::{USAGE, VERSION, page};
+use fluid_words::{Command, WordsFault, read_words};
 use std::alloc::Global;
 
 /// What is done for the words.

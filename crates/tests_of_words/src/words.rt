@@ -1,6 +1,7 @@
 //! The words behind the program's name. A row has the words with a blank between two, and what they ask for.
 use fluid_json::Text;
-use fluid_words::{Command, CommandName, WordsFault, page, read_words};
+use fluid_pages::page;
+use fluid_words::{Command, CommandName, WordsFault, read_words};
 use std::alloc::{AllocError, Global};
 use std::process::Abort;
 

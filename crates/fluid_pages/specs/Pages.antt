@@ -2,7 +2,7 @@
 use Rattle.std.specs.Prelude.{ℕ, Bool, List, Option, Some, None, is_some}
 use Rattle.fluid_words.specs.declared.command.CommandName.{CommandName}
 use Rattle.fluid_words.specs.declared.command.CommandName.TheVariants as name
-use Rattle.fluid_words.specs.declared.pages.TheConstants.{PROGRAM, SEQUENCE, SERVE, VERSION}
+use Rattle.fluid_pages.specs.declared.pages.TheConstants.{PROGRAM, SEQUENCE, SERVE, VERSION}
 
 -- the commands that are built, each with its page
 abbrev pub built : CommandName → Option (List ℕ)

@@ -1,8 +1,8 @@
 //! Which commands are built, and what is shown to a person.
 ghost use Rattle.std.specs.Prelude.{◌≡◌, option_map};
-ghost use Rattle.fluid_words.specs.Pages.{built, page};
+ghost use Rattle.fluid_pages.specs.Pages.{built, page};
 
-use crate::command::CommandName;
+use fluid_words::CommandName;
 
 /// What is written where the words ask for nothing.
 pub const USAGE: &str =
