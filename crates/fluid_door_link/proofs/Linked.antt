@@ -22,7 +22,7 @@ use Rattle.fluid_store.specs.Storing.{Storing}
 use Rattle.fluid_store.specs.Parts.{objects_over}
 use Rattle.fluid_store.specs.declared.fault.StoreFault.{StoreFault}
 use Rattle.fluid_store.specs.declared.listing.StoredObject.{StoredObject}
-use Rattle.fluid_loader.specs.Link.{Document, Linked, BothTell, given, picked, Gets, Fetches, Submits, Uploads, SubmitSays, UploadSays, MaySubmit, MayEnter, Enters, PutsSome, count_handles}
+use Rattle.fluid_loader.specs.Link.{Document, Linked, BothTell, given, picked, Gets, Fetches, Submits, Uploads, SubmitSays, UploadSays, MaySubmit, MayEnter, Enters, PutsSome, CountsTrees, count_handles}
 use Rattle.fluid_loader.specs.Laws.{ArePickedWithin}
 use Rattle.fluid_loader.specs.declared.link.Given.{Given}
 use Rattle.fluid_loader.specs.declared.link.Given.TheVariants.{Taken, Nacked}
@@ -32,8 +32,8 @@ use Rattle.fluid_loader.specs.declared.link.LinkFault.{LinkFault}
 use Rattle.fluid_loader.specs.declared.link.LinkFault.TheVariants.{Failed, Clash, NoMemory}
 use Rattle.fluid_orders.specs.Laws.{OrdersAreTold}
 use Rattle.fluid_door_link.specs.declared.fault.LentFault.{LentFault}
-use Rattle.fluid_door_link.specs.Failing.{IsAfterUpload, IsNoRefusal}
-use Rattle.fluid_door_link.specs.Linking.{Adds, IsFullWith, EntersBy, ReadsBy, GetsBy, UploadsBy, PutsAll, Answers, IsCounted, few_only, picked_among}
+use Rattle.fluid_door_link.specs.Failing.{IsNoRefusal, IsTreeCounted}
+use Rattle.fluid_door_link.specs.Linking.{Adds, IsFullWith, EntersBy, ReadsBy, GetsBy, TreesBy, UploadsBy, PutsAll, Answers, IsCounted, few_only, picked_among}
 use Rattle.fluid_door_link.specs.Telling.{told_by}
 use Rattle.fluid_door_link.proofs.Told.{IsKnown, document_of, says, told_of, order_told, few_order}
 
@@ -61,7 +61,7 @@ counts_up NoMemory a b x y is = (omega (arith, is.0), omega (arith, is.1))
 
 -- ---- a link
 
-module _ (client : List ℕ) (moment : ℕ) (messages : List ℕ) (objects : List (List ℕ)) (handles : List ℕ) where
+module _ (client : List ℕ) (moment : ℕ) (messages : List ℕ) (objects : List (List ℕ)) (handles : List ℕ) (trees : ℕ) where
   abbrev pub linked : Option Document → (faults refusals : ℕ) → List Submission → Linked
   linked told faults refusals taken = record {
     client = client;
@@ -69,6 +69,7 @@ module _ (client : List ℕ) (moment : ℕ) (messages : List ℕ) (objects : Lis
     told = told;
     faults = faults;
     refusals = refusals;
+    bad_trees = trees;
     messages = messages;
     objects = objects;
     handles = handles;
@@ -96,6 +97,7 @@ module _ (client : List ℕ) (moment : ℕ) (messages : List ℕ) (objects : Lis
     submits_so a b x y later r le less h = record {
       changes = record { client = refl; moment = refl; faults = le; refusals = less; messages = refl; objects = refl };
       handles = refl;
+      trees = refl;
       says = h;
     }
 
@@ -136,14 +138,22 @@ module _ (client : List ℕ) (moment : ℕ) (messages : List ℕ) (objects : Lis
 -- ---- an upload
 
 module _ (client : List ℕ) (moment : ℕ) (messages : List ℕ) (objects : List (List ℕ)) (taken : List Submission) (node : Summary) (base : Option (List ℕ)) where
-  uploads_so : (old new : Option Document) (a b x y : ℕ) (handles later : List ℕ) (r : Result (List ℕ) LinkFault) → a ≤ b → x ≤ y
-      → UploadSays node base (linked client moment messages objects handles old a x taken) (linked client moment messages objects later new b y taken) r
-      → Uploads node base (linked client moment messages objects handles old a x taken) (linked client moment messages objects later new b y taken) r
-  uploads_so old new a b x y handles later r le less h = record {
+  uploads_so : (old new : Option Document) (a b x y : ℕ) (handles later : List ℕ) (t u : ℕ) (r : Result (List ℕ) LinkFault) → a ≤ b → x ≤ y → TreesBy node base old new t u r
+      → UploadSays node base (linked client moment messages objects handles t old a x taken) (linked client moment messages objects later u new b y taken) r
+      → Uploads node base (linked client moment messages objects handles t old a x taken) (linked client moment messages objects later u new b y taken) r
+  uploads_so old new a b x y handles later t u r le less counts h = record {
     changes = record { client = refl; moment = refl; faults = le; refusals = less; messages = refl; objects = refl };
     taken = refl;
+    trees = trees_so r counts;
     says = h;
   }
+    where
+      trees_so : (r : Result (List ℕ) LinkFault) → TreesBy node base old new t u r
+          → CountsTrees node base (linked client moment messages objects handles t old a x taken) (linked client moment messages objects later u new b y taken) r
+      trees_so (Ok id) is = is
+      trees_so (Err Failed) is = is
+      trees_so (Err (Clash id kept bytes)) is = is
+      trees_so (Err NoMemory) is = is
 
   none_first : (r : Result (List ℕ × List StoredObject) StoreFault) → IfOk r (λ tree. (behind : List StoredObject) × (tree.1 ≡ [] ++ behind))
   none_first (Ok tree) = (tree.1, refl)
@@ -152,32 +162,32 @@ module _ (client : List ℕ) (moment : ℕ) (messages : List ℕ) (objects : Lis
   puts_none : (d : Document) → PutsSome node base d d
   puts_none d = record { front = []; are_first = none_first (objects_over d.held base node); held = refl; kept = λ id bytes found. found }
 
-  pub nothing_put : (told : Option Document) (a x : ℕ) (handles later : List ℕ)
-      → Uploads node base (linked client moment messages objects handles told a x taken) (linked client moment messages objects later told a x taken) (Err NoMemory)
-  nothing_put told a x handles later =
-      uploads_so told told a a x x handles later (Err NoMemory) (omega arith) (omega arith) (both_same (PutsSome node base) puts_none told told refl)
+  pub nothing_put : (told : Option Document) (a x : ℕ) (handles later : List ℕ) (t : ℕ)
+      → Uploads node base (linked client moment messages objects handles t told a x taken) (linked client moment messages objects later t told a x taken) (Err NoMemory)
+  nothing_put told a x handles later t =
+      uploads_so told told a a x x handles later t t (Err NoMemory) (omega arith) (omega arith) refl (both_same (PutsSome node base) puts_none told told refl)
 
-  pub uploaded : (old new : Option Document) (a x : ℕ) (handles later : List ℕ) (id : List ℕ) → later ≡ handles ++ count_handles node ∷ [] → UploadsBy node base old new (Ok id)
-      → Uploads node base (linked client moment messages objects handles old a x taken) (linked client moment messages objects later new a x taken) (Ok id)
-  uploaded old new a x handles later id is by =
-      uploads_so old new a a x x handles later (Ok id) (omega arith) (omega arith)
+  pub uploaded : (old new : Option Document) (a x : ℕ) (handles later : List ℕ) (t u : ℕ) (id : List ℕ) → TreesBy node base old new t u (Ok id) → later ≡ handles ++ count_handles node ∷ [] → UploadsBy node base old new (Ok id)
+      → Uploads node base (linked client moment messages objects handles t old a x taken) (linked client moment messages objects later u new a x taken) (Ok id)
+  uploaded old new a x handles later t u id counts is by =
+      uploads_so old new a a x x handles later t u (Ok id) (omega arith) (omega arith) counts
       (is, (both_so (PutsAll node base id) _ (λ d e h. h.tree) old new by, both_so (PutsAll node base id) _ (λ d e h. h.stands) old new by))
 
-  pub unuploaded : (old new : Option Document) (a b x y : ℕ) (handles later : List ℕ) (fault answer : LinkFault) → UploadsBy node base old new (Err fault) → answer ≡ fault → IsCounted fault a b x y
-      → Uploads node base (linked client moment messages objects handles old a x taken) (linked client moment messages objects later new b y taken) (Err answer)
-  unuploaded old new a b x y handles later fault answer by same is =
-      subst (λ f. Uploads node base (linked client moment messages objects handles old a x taken) (linked client moment messages objects later new b y taken) (Err f)) (sym same)
-      (uploads_so old new a b x y handles later (Err fault) (counts_up fault a b x y is).0 (counts_up fault a b x y is).1 (of fault by is))
+  pub unuploaded : (old new : Option Document) (a b x y : ℕ) (handles later : List ℕ) (t u : ℕ) (fault answer : LinkFault) → UploadsBy node base old new (Err fault) → TreesBy node base old new t u (Err fault) → answer ≡ fault → IsCounted fault a b x y
+      → Uploads node base (linked client moment messages objects handles t old a x taken) (linked client moment messages objects later u new b y taken) (Err answer)
+  unuploaded old new a b x y handles later t u fault answer by counts same is =
+      subst (λ f. Uploads node base (linked client moment messages objects handles t old a x taken) (linked client moment messages objects later u new b y taken) (Err f)) (sym same)
+      (uploads_so old new a b x y handles later t u (Err fault) (counts_up fault a b x y is).0 (counts_up fault a b x y is).1 counts (of fault by is))
     where
       of : (f : LinkFault) → UploadsBy node base old new (Err f) → IsCounted f a b x y
-          → UploadSays node base (linked client moment messages objects handles old a x taken) (linked client moment messages objects later new b y taken) (Err f)
+          → UploadSays node base (linked client moment messages objects handles t old a x taken) (linked client moment messages objects later u new b y taken) (Err f)
       of Failed by is = (is.0, by)
       of (Clash id kept bytes) by is = (is.0, by)
       of NoMemory by is = by
 
 -- ---- calls that read
 
-module _ (client : List ℕ) (moment : ℕ) (handles : List ℕ) (taken : List Submission) where
+module _ (client : List ℕ) (moment : ℕ) (trees : ℕ) (handles : List ℕ) (taken : List Submission) where
   abbrev pub reader : Option Document → (faults refusals : ℕ) → (messages : List ℕ) → (objects : List (List ℕ)) → Linked
   reader told faults refusals messages objects = record {
     client = client;
@@ -185,6 +195,7 @@ module _ (client : List ℕ) (moment : ℕ) (handles : List ℕ) (taken : List S
     told = told;
     faults = faults;
     refusals = refusals;
+    bad_trees = trees;
     messages = messages;
     objects = objects;
     handles = handles;
@@ -291,11 +302,8 @@ module _ (within : ArePickedWithin) (orders : OrdersAreTold) (pick : Pick) (good
 
 -- ---- what is kept
 
-pub no_refusal : (stop : Option LentFault) (handles : List ℕ) → IsNoRefusal stop → IsAfterUpload stop handles
-no_refusal stop handles none is = absurd (apart (sym none ∙ is))
-  where
-    apart : false ≡ true → ⊥
-    apart same = cc
+apart : false ≡ true → ⊥
+apart same = cc
 
-pub after_one : (stop : Option LentFault) (old new : List ℕ) (n : ℕ) → new ≡ old ++ n ∷ [] → IsAfterUpload stop new
-after_one stop old new n is refusal = omega (arith, ap length is, length-append old (n ∷ []))
+pub no_refusal : (stop : Option LentFault) (trees : ℕ) → IsNoRefusal stop → IsTreeCounted stop trees
+no_refusal stop trees none is = absurd (apart (sym none ∙ is))

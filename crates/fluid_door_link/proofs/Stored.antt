@@ -1,5 +1,5 @@
 -- Calls on a store that is lent.
-use Rattle.std.proofs.Common.{◌≡◌, ℕ, arith, Bool, true, false, List, [], ◌++◌, Option, Some, None, is_some, IfSome, option_map, Result, Ok, Err, IfOk, refl, sym, ap, subst, ◌∙◌, append-nil}
+use Rattle.std.proofs.Common.{◌≡◌, ◌⊎◌, inl, inr, ℕ, arith, Bool, true, false, List, [], ◌++◌, Option, Some, None, is_some, IfSome, option_map, Result, Ok, Err, IfOk, refl, sym, ap, subst, ◌∙◌, append-nil}
 use Rattle.std.specs.FinMap.{get}
 use Rattle.fluid_io.specs.Causes.{Rose, Tells}
 use Rattle.fluid_io.specs.declared.faults.FaultNote.{FaultNote}
@@ -19,13 +19,14 @@ use Rattle.fluid_store.proofs.Putting.{puts, puts_all}
 use Rattle.fluid_types.specs.Ledger.{Ledger}
 use Rattle.fluid_lane.specs.Steps.{ledger}
 use Rattle.fluid_lane.specs.Standing.{Standing}
-use Rattle.fluid_loader.specs.Link.{Document, BothTell, PutsTree, PutsSome}
+use Rattle.fluid_loader.specs.Link.{Document, BothTell, IsTreeRefused, PutsTree, PutsSome}
 use Rattle.fluid_loader.specs.Listed.{link_fault}
 use Rattle.fluid_loader.specs.declared.link.LinkFault.TheVariants as link
+use Rattle.fluid_door_link.specs.declared.fault.LentFault.{LentFault}
 use Rattle.fluid_door_link.specs.declared.fault.LentFault.TheVariants.{Store}
-use Rattle.fluid_door_link.specs.Failing.{HasCause, IsHonest, kept_of_store}
+use Rattle.fluid_door_link.specs.Failing.{CountsTree, HasCause, IsHonest, IsTreeCounted, kept_of_store}
 use Rattle.fluid_door_link.specs.Coursing.{Along, IsAlong}
-use Rattle.fluid_door_link.specs.Linking.{GetsBy, PutsAll, UploadsBy}
+use Rattle.fluid_door_link.specs.Linking.{GetsBy, PutsAll, TreesBy, UploadsBy}
 use Rattle.fluid_door_link.specs.Telling.{told_by}
 use Rattle.fluid_door_link.proofs.Told.{IsKnown, document_of, told_of}
 use Rattle.fluid_door_link.proofs.Walked.{known, went_store}
@@ -81,6 +82,9 @@ module _ (good : Bool) (began : Standing) (before : Storing) (at : Along) (along
 -- what is listed of a part that there is
 of_part : {P : Type 0} (r : Result P StoreFault) (p : P) (f : P → List ℕ × List StoredObject) → Ok p ≡ r → (r >>= λ q. Ok (f q)) ≡ Ok (f p)
 of_part r p f is = ap (λ x. x >>= λ q. Ok (f q)) (sym is)
+
+no_part : {P : Type 0} (r : Result P StoreFault) (fault : StoreFault) (f : P → List ℕ × List StoredObject) → Err fault ≡ r → (r >>= λ q. Ok (f q)) ≡ Err fault
+no_part r fault f is = ap (λ x. x >>= λ q. Ok (f q)) (sym is)
 
 abbrev HasFront : List StoredObject → Result (List ℕ × List StoredObject) StoreFault → Type 0
 HasFront front r = IfOk r (λ tree. (behind : List StoredObject) × (tree.1 ≡ front ++ behind))
@@ -170,6 +174,18 @@ module _ (node : Summary) (base : Option (List ℕ)) (l : Ledger) (limit : ℕ) 
   put_by (NoPath path) u = put_none (NoPath path) u
   put_by NoMemory u = put_some u
 
+  refused_tree : (fault : StoreFault) → Refused base node old new fault → IsTreeRefused node base first after
+  refused_tree fault u = record { fault = fault; refused = no_part (part_over m base node) fault (λ p. (p.place.id, p.objects)) u.is_fault; same = ap with_held (some_same n m u.same) }
+
+  trees_by : (fault : StoreFault) (t now : ℕ) → Uploads base node old new (Err fault) → CountsTree fault t now → TreesBy node base (Some first) (Some after) t now (Err (link_fault fault))
+  trees_by (StoreFailed note) t now u is = inl is
+  trees_by (Clash id kept bytes) t now u is = is
+  trees_by (Missing id) t now u is = inr (refused_tree (Missing id) u)
+  trees_by (BadObject id place) t now u is = inr (refused_tree (BadObject id place) u)
+  trees_by (Tree fault) t now u is = inr (refused_tree (Tree fault) u)
+  trees_by (NoPath path) t now u is = inr (refused_tree (NoPath path) u)
+  trees_by NoMemory t now u is = is
+
 -- ---- whether a store tells never changes
 
 map_some : (f : Held → Held) (o p : Option Held) → p ≡ option_map f o → is_some p ≡ is_some o
@@ -201,6 +217,15 @@ no_uploads node base (Tree fault) = tt
 no_uploads node base (NoPath path) = tt
 no_uploads node base NoMemory = tt
 
+no_trees : (node : Summary) (base : Option (List ℕ)) (fault : StoreFault) (t now : ℕ) → CountsTree fault t now → TreesBy node base None None t now (Err (link_fault fault))
+no_trees node base (StoreFailed note) t now is = inl is
+no_trees node base (Clash id kept bytes) t now is = is
+no_trees node base (Missing id) t now is = inr tt
+no_trees node base (BadObject id place) t now is = inr tt
+no_trees node base (Tree fault) t now is = inr tt
+no_trees node base (NoPath path) t now is = inr tt
+no_trees node base NoMemory t now is = is
+
 some_false : true ≡ false → ⊥
 some_false same = cc
 
@@ -219,6 +244,14 @@ module _ (node : Summary) (base : Option (List ℕ)) (l : Ledger) (limit : ℕ) 
   unput_if fault None (Some n) u tells = absurd (some_false tells)
   unput_if fault (Some m) None u tells = absurd (some_false (sym tells))
   unput_if fault (Some m) (Some n) u tells = put_by node base l limit m n faults gets later more fault u
+
+  trees_if : (fault : StoreFault) (t now : ℕ) → CountsTree fault t now → (o p : Option Held)
+      → Uploads base node (record { content = o; faults = faults; gets = gets }) (record { content = p; faults = later; gets = more }) (Err fault)
+      → is_some p ≡ is_some o → TreesBy node base (option_map (document_of l limit) o) (option_map (document_of l limit) p) t now (Err (link_fault fault))
+  trees_if fault t now is None None u tells = no_trees node base fault t now is
+  trees_if fault t now is None (Some n) u tells = absurd (some_false tells)
+  trees_if fault t now is (Some m) None u tells = absurd (some_false (sym tells))
+  trees_if fault t now is (Some m) (Some n) u tells = trees_by node base l limit m n faults gets later more fault t now u is
 
 -- what is told of a lane over one content and another, where it is told
 told_so : (P : Option Document → Option Document → Type 0) (good : Bool) (s : Standing) → (good ≡ true → IsKnown s) → (store now : Storing) → P None None
@@ -269,3 +302,29 @@ module _ (good : Bool) (began : Standing) (before : Storing) (at : Along) (along
   unput_told fault u =
       told_so (λ o p. UploadsBy node base o p (Err (link_fault fault))) good at.lane (known good began before at along) at.store new (no_uploads node base fault)
       (λ l limit. unput_if node base l limit at.store.faults at.store.gets new.faults new.gets fault at.store.content new.content u (put_tells node base at.store new (Err fault) u))
+
+  pub trees_told : (fault : StoreFault) (t now : ℕ) → CountsTree fault t now → Uploads base node at.store new (Err fault)
+      → TreesBy node base (told_by good at.lane at.store) (told_by good at.lane new) t now (Err (link_fault fault))
+  trees_told fault t now is u =
+      told_so (λ o p. TreesBy node base o p t now (Err (link_fault fault))) good at.lane (known good began before at along) at.store new (no_trees node base fault t now is)
+      (λ l limit. trees_if node base l limit at.store.faults at.store.gets new.faults new.gets fault t now is at.store.content new.content u (put_tells node base at.store new (Err fault) u))
+
+-- ---- a refused tree is counted
+
+false_true : false ≡ true → ⊥
+false_true same = cc
+
+pub tree_counted : (fault : StoreFault) (t now : ℕ) → CountsTree fault t now → IsTreeCounted (kept_of_store fault) now
+tree_counted (StoreFailed note) t now is refused = absurd (false_true refused)
+tree_counted (Clash id kept bytes) t now is refused = absurd (false_true refused)
+tree_counted (Missing id) t now is refused = is
+tree_counted (BadObject id place) t now is refused = is
+tree_counted (Tree fault) t now is refused = is
+tree_counted (NoPath path) t now is refused = is
+tree_counted NoMemory t now is refused = absurd (false_true refused)
+
+pub none_counted : (now : ℕ) → IsTreeCounted None now
+none_counted now refused = absurd (false_true refused)
+
+pub counted_at : (a : Along) (lane : Standing) (store : Storing) (stop : Option LentFault) (now : ℕ) → a ≡ record { lane = lane; store = store; stop = stop } → IsTreeCounted stop now → IsTreeCounted a.stop now
+counted_at a lane store stop now is counted = subst (λ s. IsTreeCounted s now) (sym (ap (λ (x : Along). x.stop) is)) counted

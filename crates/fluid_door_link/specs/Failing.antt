@@ -1,5 +1,5 @@
 -- Why a call on a lane or on a store that are lent failed.
-use Rattle.std.specs.Prelude.{◌≡◌, ℕ, ◌<◌, ◌≤◌, ⊤, Bool, true, false, List, length, Option, Some, None, Err}
+use Rattle.std.specs.Prelude.{◌≡◌, ℕ, ◌<◌, ◌≤◌, ⊤, Bool, true, false, List, Option, Some, None, Err}
 use Rattle.std.specs.Option.{option_map_or}
 use Rattle.fluid_io.specs.Causes.{Tells}
 use Rattle.fluid_tree.specs.Summary.{Summary}
@@ -105,9 +105,19 @@ is_refusal (Deltas fault) = false
 is_refusal (Store (store.StoreFailed note)) = false
 is_refusal (Store fault) = true
 
--- a tree is refused only where the handles of one were counted
-abbrev pub IsAfterUpload : Option LentFault → List ℕ → Type 0
-IsAfterUpload stop handles = option_map_or is_refusal stop false ≡ true → 1 ≤ length handles
+-- where that is what stopped it, such a tree was counted
+abbrev pub IsTreeCounted : Option LentFault → (bad_trees : ℕ) → Type 0
+IsTreeCounted stop bad_trees = option_map_or is_refusal stop false ≡ true → 1 ≤ bad_trees
+
+-- a tree is counted by what the store says of it
+abbrev pub CountsTree : StoreFault → (trees now : ℕ) → Type 0
+CountsTree (store.StoreFailed note) trees now = now ≡ trees
+CountsTree (store.Clash id kept bytes) trees now = now ≡ trees
+CountsTree (store.Missing id) trees now = 1 ≤ now
+CountsTree (store.BadObject id place) trees now = 1 ≤ now
+CountsTree (store.Tree fault) trees now = 1 ≤ now
+CountsTree (store.NoPath path) trees now = 1 ≤ now
+CountsTree store.NoMemory trees now = now ≡ trees
 
 -- it isn't that
 abbrev pub IsNoRefusal : Option LentFault → Type 0

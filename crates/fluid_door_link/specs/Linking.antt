@@ -1,5 +1,5 @@
 -- What a call of a link does to the document that is told, by what it answers.
-use Rattle.std.specs.Prelude.{◌≡◌, ℕ, ◌+◌, ◌-◌, ◌^◌, ◌≤◌, true, false, if◌then◌else◌, nat_le, List, [], ◌∷◌, ◌++◌, drop, length, find, reverse, bytes_eq, Option, Some, None, option_map, Result, Ok, Err}
+use Rattle.std.specs.Prelude.{◌≡◌, ◌⊎◌, ℕ, ◌+◌, ◌-◌, ◌^◌, ◌≤◌, true, false, if◌then◌else◌, nat_le, List, [], ◌∷◌, ◌++◌, drop, length, find, reverse, bytes_eq, Option, Some, None, option_map, Result, Ok, Err}
 use Rattle.std.specs.List.{last_or}
 use Rattle.std.specs.FinMap.{get}
 use Rattle.fluid_io.specs.Causes.{Rose, Tells}
@@ -14,7 +14,7 @@ use Rattle.fluid_tree.specs.Summary.{Summary}
 use Rattle.fluid_tree.specs.declared.id.SummaryRef.{SummaryRef}
 use Rattle.fluid_lane.specs.declared.fault.LaneFault.{LaneFault}
 use Rattle.fluid_lane.specs.declared.fault.LaneFault.TheVariants as lane
-use Rattle.fluid_loader.specs.Link.{Document, BothTell, IsFullFor, with_entry, given, PutsTree, PutsSome, StandsBehind}
+use Rattle.fluid_loader.specs.Link.{Document, BothTell, IsFullFor, with_entry, given, IsTreeRefused, PutsTree, PutsSome, StandsBehind}
 use Rattle.fluid_loader.specs.declared.link.Given.{Given}
 use Rattle.fluid_loader.specs.declared.link.Given.TheVariants.{Taken, Nacked}
 use Rattle.fluid_loader.specs.declared.link.Pick.{Pick}
@@ -80,6 +80,13 @@ UploadsBy node base old new (Ok id) = BothTell (PutsAll node base id) old new
 UploadsBy node base old new (Err Failed) = BothTell (PutsSome node base) old new
 UploadsBy node base old new (Err (Clash id kept bytes)) = BothTell (PutsTree node base (Err (Clash id kept bytes))) old new
 UploadsBy node base old new (Err NoMemory) = BothTell (PutsSome node base) old new
+
+-- no other tree is counted than one that is refused by what is held
+abbrev pub TreesBy : Summary → Option (List ℕ) → Option Document → Option Document → (trees now : ℕ) → Result (List ℕ) LinkFault → Type 0
+TreesBy node base old new trees now (Ok id) = now ≡ trees
+TreesBy node base old new trees now (Err Failed) = (now ≡ trees) ⊎ BothTell (IsTreeRefused node base) old new
+TreesBy node base old new trees now (Err (Clash id kept bytes)) = now ≡ trees
+TreesBy node base old new trees now (Err NoMemory) = now ≡ trees
 
 -- ---- acknowledged summaries
 

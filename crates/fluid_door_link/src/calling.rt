@@ -2,9 +2,9 @@
 ghost use Rattle.std.specs.Prelude.{◌≡◌, ℕ, ◌+◌, ◌<◌, ◌≤◌, ◌^◌, Ok, Err, Some, None, IfOk, option_map, MatchResult};
 ghost use Rattle.fluid_types.specs.Fits.{Fits};
 ghost use Rattle.fluid_loader.specs.Listed.{link_fault};
-ghost use Rattle.fluid_door_link.specs.Failing.{IsNoRefusal, kept_of_deltas, kept_of_lane, kept_of_store, link_deltas};
+ghost use Rattle.fluid_door_link.specs.Failing.{CountsTree, IsNoRefusal, IsTreeCounted, kept_of_deltas, kept_of_lane, kept_of_store, link_deltas};
 ghost use Rattle.fluid_door_link.specs.Coursing.{IsAlong};
-ghost use Rattle.fluid_door_link.specs.Linking.{EntersBy, GetsBy, IsSubmission, ReadsBy, UploadsBy, answer_of_lane};
+ghost use Rattle.fluid_door_link.specs.Linking.{EntersBy, GetsBy, IsSubmission, ReadsBy, TreesBy, UploadsBy, answer_of_lane};
 ghost use Rattle.fluid_door_link.specs.Telling.{told_by};
 
 use crate::course::{Begun, Course};
@@ -162,18 +162,21 @@ pub(crate) fn get<K: Keeper, O: Objects, W: Begun>(
     }
 }
 
-/// Puts the objects of a tree over the earlier one with the id `base`.
+/// Puts the objects of a tree over the earlier one with the id `base`. One that what is held refuses is counted.
 pub(crate) fn put<K: Keeper, O: Objects, W: Begun>(
     alloc: Global,
     lane: &Lane<K>,
     objects: &mut ToldObjects<O>,
     course: &mut Course<K, O, W>,
+    bad_trees: &mut u64,
     tree: &Node,
     base: Option<&Id>,
 ) -> Result<Id, LinkFault>
     requires at { course.old ≡ record { lane = lane.now; store = objects.old; stop = None } }
     ensures at { course.new ≡ record { lane = lane.now; store = objects.new; stop = course.new.stop } }
     ensures does { UploadsBy tree.now (option_map (λ id. id.now) base.entry) (told_by W.good lane.now objects.old) (told_by W.good lane.now objects.new) result }
+    ensures counted { IsTreeCounted course.new.stop bad_trees.new }
+    ensures trees { TreesBy tree.now (option_map (λ id. id.now) base.entry) (told_by W.good lane.now objects.old) (told_by W.good lane.now objects.new) bad_trees.old bad_trees.new result }
 {
     course.know();
     match upload(alloc, objects, tree, base) {
@@ -181,7 +184,7 @@ pub(crate) fn put<K: Keeper, O: Objects, W: Begun>(
             course.follow(lane, objects);
             Ok(id)
         }
-        Err(fault) => Err(unput(lane, objects, course, fault)),
+        Err(fault) => Err(unput(lane, objects, course, bad_trees, fault)),
     }
 }
 
@@ -190,11 +193,13 @@ fn unput<K: Keeper, O: Objects, W: Begun>(
     lane: &Lane<K>,
     objects: &ToldObjects<O>,
     course: &mut Course<K, O, W>,
+    bad_trees: &mut u64,
     fault: StoreFault,
 ) -> LinkFault
     requires { IsAlong W.good W.began W.before (record { lane = lane.now; store = objects.now; stop = kept_of_store fault }) }
     ensures at { course.new ≡ record { lane = lane.now; store = objects.now; stop = kept_of_store fault } }
     ensures answer { result ≡ link_fault fault }
+    ensures trees { CountsTree fault bad_trees.old bad_trees.new }
 {
     match fault {
         StoreFault::Clash { id, kept, new } => {
@@ -205,8 +210,14 @@ fn unput<K: Keeper, O: Objects, W: Begun>(
             course.follow(lane, objects);
             LinkFault::NoMemory
         }
-        other => {
-            course.fail(lane, objects, LentFault::Store(other));
+        StoreFault::StoreFailed(note) => {
+            let fault = StoreFault::StoreFailed(note);
+            course.fail(lane, objects, LentFault::Store(fault));
+            LinkFault::Failed
+        }
+        refused => {
+            *bad_trees = bad_trees.saturating_add(1);
+            course.fail(lane, objects, LentFault::Store(refused));
             LinkFault::Failed
         }
     }

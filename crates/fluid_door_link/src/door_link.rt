@@ -6,7 +6,7 @@ ghost use Rattle.fluid_tree.specs.Summary.{children};
 ghost use Rattle.fluid_lane.specs.Standing.{Standing};
 ghost use Rattle.fluid_store.specs.Storing.{Storing};
 ghost use Rattle.fluid_door_link.specs.Coursing.{Along, along_code, IsAlong};
-ghost use Rattle.fluid_door_link.specs.Failing.{IsAfterUpload};
+ghost use Rattle.fluid_door_link.specs.Failing.{IsTreeCounted};
 
 use crate::answers::{answered, counted, few, note, picked};
 use crate::calling::{enter, get, put, read};
@@ -36,6 +36,8 @@ pub struct DoorLink<'a, K: Keeper, O: Objects, W: Begun> {
     pub course: &'a mut Course<K, O, W>,
     pub faults: u64,
     pub refusals: u64,
+    /// How many trees were refused by what is held.
+    pub bad_trees: u64,
     /// The numbers of the messages that were fetched.
     pub messages: Vec<u64>,
     /// The ids of the objects that were fetched.
@@ -46,7 +48,7 @@ pub struct DoorLink<'a, K: Keeper, O: Objects, W: Begun> {
     pub taken: Vec<Submission>,
     pub ghost in_time: { moment < 2 ^ 53 },
     pub ghost at: { course.now ≡ record { lane = lane.now; store = objects.now; stop = course.now.stop } } by { Coded-set along_code course.now (record { lane = lane.now; store = objects.now; stop = course.now.stop }) },
-    pub ghost uploads: { IsAfterUpload course.now.stop handles.items },
+    pub ghost trees: { IsTreeCounted course.now.stop bad_trees },
 }
 
 impl<'a, K: Keeper, O: Objects, W: Begun> DoorLink<'a, K, O, W> {
@@ -66,7 +68,7 @@ impl<'a, K: Keeper, O: Objects, W: Begun> DoorLink<'a, K, O, W> {
         ensures lane { (result.lane.ghost_name ≡ lane.entry.ghost_name) × (result.lane.now ≡ lane.old) }
         ensures objects { (result.objects.ghost_name ≡ objects.entry.ghost_name) × (result.objects.now ≡ objects.old) }
         ensures course { (result.course.ghost_name ≡ course.entry.ghost_name) × (result.course.now ≡ course.old) }
-        ensures counts { (result.faults ≡ 0) × (result.refusals ≡ 0) }
+        ensures counts { (result.faults ≡ 0) × ((result.refusals ≡ 0) × (result.bad_trees ≡ 0)) }
         ensures lists { (result.messages.items ≡ []) × ((result.fetched.items ≡ []) × ((result.handles.items ≡ []) × (result.taken.items ≡ []))) }
     {
         DoorLink {
@@ -77,6 +79,7 @@ impl<'a, K: Keeper, O: Objects, W: Begun> DoorLink<'a, K, O, W> {
             course,
             faults: 0,
             refusals: 0,
+            bad_trees: 0,
             messages: Vec::new(alloc),
             fetched: Vec::new(alloc),
             handles: Vec::new(alloc),
@@ -88,7 +91,7 @@ impl<'a, K: Keeper, O: Objects, W: Begun> DoorLink<'a, K, O, W> {
     pub fn know(&self)
         ensures at { self.now.course.now ≡ record { lane = self.now.lane.now; store = self.now.objects.now; stop = self.now.course.now.stop } }
         ensures along { IsAlong W.good W.began W.before self.now.course.now }
-        ensures uploads { IsAfterUpload self.now.course.now.stop self.now.handles.items }
+        ensures trees { IsTreeCounted self.now.course.now.stop self.now.bad_trees }
     {
         self.course.know();
     }
@@ -104,6 +107,7 @@ impl<'a, K: Keeper, O: Objects, W: Begun> Link for DoorLink<'a, K, O, W> {
       told = told_by W.good l.lane.now l.objects.now;
       faults = l.faults;
       refusals = l.refusals;
+      bad_trees = l.bad_trees;
       messages = l.messages.items;
       objects = l.fetched.items;
       handles = l.handles.items;
@@ -185,7 +189,15 @@ impl<'a, K: Keeper, O: Objects, W: Begun> Link for DoorLink<'a, K, O, W> {
         if !keep(&mut self.handles, handles_in(tree)) {
             return Err(LinkFault::NoMemory);
         }
-        match put(alloc, self.lane, self.objects, self.course, tree, base) {
+        match put(
+            alloc,
+            self.lane,
+            self.objects,
+            self.course,
+            &mut self.bad_trees,
+            tree,
+            base,
+        ) {
             Ok(id) => Ok(id),
             Err(fault) => Err(counted(&mut self.faults, &mut self.refusals, fault)),
         }

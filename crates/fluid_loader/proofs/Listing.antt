@@ -79,6 +79,7 @@ module _ (node : Summary) (base : Option (List ℕ)) (client : List ℕ) (order 
     told = Some (listed order held);
     faults = faults;
     refusals = refusals;
+    bad_trees = 0;
     messages = messages;
     objects = objects;
     handles = handles;
@@ -90,6 +91,7 @@ module _ (node : Summary) (base : Option (List ℕ)) (client : List ℕ) (order 
   fails_by Failed was is first mid faults old refusals le counted did = record {
     changes = record { client = refl; moment = refl; faults = both_later first mid faults le counted.1.0; refusals = omega (arith, counted.1.1); messages = refl; objects = refl };
     taken = refl;
+    trees = inl refl;
     says = (later_rose first mid faults le counted.0, did);
   }
   fails_by (Clash id kept bytes) was is first mid faults old refusals le counted did = record {
@@ -102,11 +104,13 @@ module _ (node : Summary) (base : Option (List ℕ)) (client : List ℕ) (order 
       objects = refl;
     };
     taken = refl;
+    trees = refl;
     says = (counted.0, did);
   }
   fails_by NoMemory was is first mid faults old refusals le counted did = record {
     changes = record { client = refl; moment = refl; faults = same_later first mid faults le counted.0; refusals = omega (arith, counted.1); messages = refl; objects = refl };
     taken = refl;
+    trees = refl;
     says = did;
   }
 

@@ -1,5 +1,5 @@
 -- Where a container begins, and what loading one does, call after call.
-use Rattle.std.proofs.Common.{◌≡◌, ℕ, suc, ◌-◌, ◌+◌, ◌≤◌, ◌++◌, [], List, map, take, drop, length, Option, Some, None, Result, Ok, Err, refl, sym, ap, subst, ◌∙◌, arith, append-nil, length-drop}
+use Rattle.std.proofs.Common.{◌≡◌, ℕ, suc, ◌-◌, ◌+◌, ◌≤◌, ◌++◌, [], ◌∷◌, List, map, take, drop, length, Option, Some, None, Result, Ok, Err, refl, sym, ap, subst, ◌∙◌, arith, append-nil, length-drop}
 use Rattle.std.specs.Prelude.{IfErr}
 use Rattle.std.specs.Result.{IsErrAnd}
 use Rattle.fluid_io.specs.Causes.{Tells}
@@ -7,7 +7,7 @@ use Rattle.fluid_tree.specs.declared.id.SummaryRef.{SummaryRef}
 use Rattle.fluid_types.specs.Order.{AreNumberedFrom}
 use Rattle.fluid_types.specs.declared.messages.Message.{Message}
 use Rattle.fluid_loader.specs.Calls.{FetchesIn, Answers, ReadStops, LoadReads, LoadsOnly, PumpReads, PumpDoes, PickedSays, Sees, Loaded, LoadDoes, begun_of, or_bad, begun_picked, begun_in}
-use Rattle.fluid_loader.specs.Container.{AContainer, empty, begun, behind}
+use Rattle.fluid_loader.specs.Container.{AContainer, empty, begun, behind, taken_by}
 use Rattle.fluid_loader.specs.Laws.{between, AreAbreast, ArePickedWithin, IsBased, IsBehind, IsHonestPick, IsHonestRead, IsNoBadSummary, HasReplayed, IsWholeReplay, StayBased}
 use Rattle.fluid_loader.specs.Link.{Document, IsDocument, Linked, Reads, picked}
 use Rattle.fluid_loader.specs.Version.{AVersion, IsOfVersion, version_at}
@@ -214,3 +214,13 @@ pub handed_bad : (pick : Pick) (told : Option Document) (r : Result AContainer L
     → IfErr r (λ e. Tells told (λ d. IsHonestPick pick d → IsNoBadSummary e))
 handed_bad pick told (Ok c) fault is h = absurd is
 handed_bad pick told (Err e) fault is h = subst (λ f. Tells told (λ d. IsHonestPick pick d → IsNoBadSummary f)) (sym is) h
+
+-- ---- the client number
+
+-- messages leave it
+last_behind : (client : List ℕ) (c : AContainer) (ms : List Message) → (behind client c ms).last ≡ c.last
+last_behind client c [] = refl
+last_behind client c (m ∷ ms) = last_behind client (taken_by client c m) ms
+
+pub pumped_fresh : (old new : AContainer) (before after : Linked) (number : ℕ) → PumpDoes old new before after (Ok number) → old.last ≡ 0 → new.last ≡ 0
+pumped_fresh old new before after number does fresh = ap (λ c. c.last) does.1.1.1 ∙ last_behind before.client old does.1.0 ∙ fresh

@@ -24,6 +24,7 @@ use Rattle.fluid_store.specs.Keeping.{with_all}
 use Rattle.fluid_store.specs.Parts.{objects_over}
 use Rattle.fluid_store.specs.Putting.{Putting, putting}
 use Rattle.fluid_store.specs.Uploading.{IsEarlier, StandsResolved}
+use Rattle.fluid_store.specs.declared.fault.StoreFault.{StoreFault}
 use Rattle.fluid_store.specs.declared.listing.StoredObject.{StoredObject}
 use Rattle.fluid_loader.specs.declared.link.Pick.{Pick}
 use Rattle.fluid_loader.specs.declared.link.Pick.TheVariants.{Empty, Latest, Handle}
@@ -61,15 +62,16 @@ pub record IsDocument (d : Document) : Type 0 where
   pub of_ledger : IfSome d.ledger (IsLedgerOf d.order)
   pub short : IsShort d.held
 
--- its client, the moment at which it submits, the document, where it tells it, its counts of faults and of refusals, the numbers of the
--- messages and the ids of the objects that were fetched, the number of handles of each upload, and the submissions that were taken, all
--- of them oldest first
+-- its client, the moment at which it submits, the document, where it tells it, its counts of faults and of refusals, and of the trees
+-- that what is held refused, where it counts them, the numbers of the messages and the ids of the objects that were fetched, the number
+-- of handles of each upload, and the submissions that were taken, all of them oldest first
 pub record Linked : Type 0 where
   pub client : List ℕ
   pub moment : ℕ
   pub told : Option Document
   pub faults : ℕ
   pub refusals : ℕ
+  pub bad_trees : ℕ
   pub messages : List ℕ
   pub objects : List (List ℕ)
   pub handles : List ℕ
@@ -200,6 +202,7 @@ SubmitSays submission old new (Err NoMemory) = MaySubmit submission old new
 pub record Submits (submission : Submission) (old new : Linked) (result : Result Given LinkFault) : Type 0 where
   pub changes : Changes old new
   pub handles : new.handles ≡ old.handles
+  pub trees : new.bad_trees ≡ old.bad_trees
   pub says : SubmitSays submission old new result
 
 -- ---- an upload
@@ -254,7 +257,21 @@ UploadSays node base old new (Err (Clash id kept bytes)) =
     Rose old.refusals new.refusals × BothTell (PutsTree node base (Err (Clash id kept bytes))) old.told new.told
 UploadSays node base old new (Err NoMemory) = BothTell (PutsSome node base) old.told new.told
 
+-- the tree is refused by what is held, and nothing is put
+pub record IsTreeRefused (node : Summary) (base : Option (List ℕ)) (old new : Document) : Type 0 where
+  pub fault : StoreFault
+  pub refused : objects_over old.held base node ≡ Err fault
+  pub same : new ≡ old
+
+-- no other tree is counted as one that was refused
+abbrev pub CountsTrees : Summary → Option (List ℕ) → Linked → Linked → Result (List ℕ) LinkFault → Type 0
+CountsTrees node base old new (Ok id) = new.bad_trees ≡ old.bad_trees
+CountsTrees node base old new (Err Failed) = (new.bad_trees ≡ old.bad_trees) ⊎ BothTell (IsTreeRefused node base) old.told new.told
+CountsTrees node base old new (Err (Clash id kept bytes)) = new.bad_trees ≡ old.bad_trees
+CountsTrees node base old new (Err NoMemory) = new.bad_trees ≡ old.bad_trees
+
 pub record Uploads (node : Summary) (base : Option (List ℕ)) (old new : Linked) (result : Result (List ℕ) LinkFault) : Type 0 where
   pub changes : Changes old new
   pub taken : new.taken ≡ old.taken
+  pub trees : CountsTrees node base old new result
   pub says : UploadSays node base old new result

@@ -1,11 +1,12 @@
 //! A document as one client has it.
-ghost use Rattle.std.specs.Prelude.{◌≡◌, ◌⊎◌, ◌<◌, ◌≤◌, ◌^◌, ◌+◌, ◌-◌, ℕ, List, Ok, IfOk, IfErr, IfSome, IsTrue, OnOk, OnErr, length, option_map};
+ghost use Rattle.std.specs.Prelude.{◌≡◌, ◌⊎◌, ◌<◌, ◌≤◌, ◌^◌, ◌+◌, ◌-◌, ℕ, List, Ok, IfOk, IfErr, IfSome, IsTrue, OnOk, OnErr, length, option_map, nat_lt};
 ghost use Rattle.fluid_io.specs.Causes.{Tells};
 ghost use Rattle.fluid_rules.specs.Scribe.{handling, is_ack};
 ghost use Rattle.fluid_runtime.specs.AppTree as summaries;
 ghost use Rattle.fluid_runtime.specs.AppTree.{app_tree, AreBounded};
 ghost use Rattle.fluid_runtime.specs.Shown.{shown};
 ghost use Rattle.fluid_store.specs.Standing.{Stands};
+ghost use Rattle.fluid_types.specs.Forms.{largest};
 ghost use Rattle.fluid_types.specs.Order.{AreNumberedFrom};
 ghost use Rattle.fluid_loader.specs.Container.{AContainer, empty, acknowledged, is_from, taken_by, behind};
 ghost use Rattle.fluid_loader.specs.Calls.{FetchesIn, Answers, LoadsOnly, LoadDoes, LoadReads, begun_in, begun_picked, Fetched, ReadStops, PumpDoes, PumpReads, Submits, IsBehindFront, Proposes, op_of, noop_of, summarize_of, shown_channels, counted_by, EditDoes, UploadsTree, UploadsOver, UploadEnds, SummarizeDoes, Picked, Begins, since, failure, or_refused, or_failed};
@@ -68,6 +69,7 @@ impl Container {
         ensures lent { L.lent link.new ≡ L.lent link.old }
         ensures reads { LoadsOnly (L.seen link.old) (L.seen link.new) }
         ensures does { LoadDoes pick.now (L.seen link.old) (L.seen link.new) result }
+        ensures fresh { IfOk result (λ container. container.last ≡ 0) }
         ensures begins { IfOk result (λ container. Tells (L.seen link.old).told (λ document. (first : AContainer) → begun_in pick.now document ≡ Ok first →
             IsBehind (L.seen link.old).client first document container × (container.number ≡ length document.order))) }
         ensures replays { IfOk result (λ container. Tells (L.seen link.old).told (λ document. IsHonestPick pick.now document → HasReplayed document container)) }
@@ -302,7 +304,8 @@ impl Container {
     /// Whether a client number is left for a submission: after 2^53 - 1 of them none is. Then a noop, a summarize, and an op
     /// whose contents are at most 98 deep and 2,097,152 bytes long each fit.
     pub fn has_numbers(&self) -> bool
-        ensures { IsTrue result → MaySubmit self.now }
+        ensures left { result ≡ nat_lt self.now.last largest }
+        ensures fits { IsTrue result → MaySubmit self.now }
     {
         known_size(&self.head);
         self.last < LARGEST
@@ -322,6 +325,7 @@ fn begin<L: Link>(alloc: Global, link: &mut L, pick: &Pick) -> Result<Container,
     ensures reads { LoadReads (L.seen link.old) (L.seen link.new) }
     ensures fetched { OnOk result (FetchesIn (λ document. IsOfVersion document.held (picked pick.now document.order)) (L.seen link.old) (L.seen link.new)) }
     ensures does { Answers (begun_in pick.now) (L.seen link.old) (L.seen link.new) result }
+    ensures fresh { IfOk result (λ container. container.last ≡ 0) }
 {
     match pick {
         Pick::Empty => Ok(Container::empty(alloc)),
@@ -335,6 +339,7 @@ fn from_picked<L: Link>(alloc: Global, link: &mut L, pick: &Pick) -> Result<Cont
     ensures reads { LoadReads (L.seen link.old) (L.seen link.new) }
     ensures fetched { OnOk result (FetchesIn (λ document. IsOfVersion document.held (picked pick.now document.order)) (L.seen link.old) (L.seen link.new)) }
     ensures does { Answers (λ document. begun_picked document.held (picked pick.now document.order)) (L.seen link.old) (L.seen link.new) result }
+    ensures fresh { IfOk result (λ container. container.last ≡ 0) }
 {
     let Some(summary) = picked(alloc, link, pick)? else {
         return Err(LoadFault::NoSummary);
@@ -351,6 +356,7 @@ fn from_summary<L: Link>(
     ensures lent { L.lent link.new ≡ L.lent link.old }
     ensures fetched { OnOk result (FetchesIn (λ document one. IsIn document.held 3 one summary.now.handle) (L.seen link.old) (L.seen link.new)) }
     ensures does { Begins summary.now (L.seen link.old) (L.seen link.new) result }
+    ensures fresh { IfOk result (λ container. container.last ≡ 0) }
 {
     let Version { app, quorum, base } = read_version(alloc, link, summary)?;
     let mut app = app;

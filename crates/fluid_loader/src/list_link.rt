@@ -47,6 +47,7 @@ impl Link for ListLink {
       told = Some (listed l.order l.objects.held);
       faults = l.plan.faults;
       refusals = l.refusals;
+      bad_trees = 0;
       messages = l.messages.items;
       objects = l.fetched.items;
       handles = l.handles.items;

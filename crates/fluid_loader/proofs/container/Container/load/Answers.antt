@@ -1,5 +1,5 @@
 use Rattle.fluid_loader.specs.Calls.{begun_in}
-use Rattle.fluid_loader.proofs.Loading.{handed_load, loaded_by, loaded_begins, loaded_replays, read_answers, begin_is_no_bad, read_is_no_bad, handed_bad}
+use Rattle.fluid_loader.proofs.Loading.{handed_load, loaded_by, loaded_begins, loaded_replays, pumped_fresh, read_answers, begin_is_no_bad, read_is_no_bad, handed_bad}
 use Rattle.fluid_loader.proofs.container.Container.load.Goals as goal
 
 pub returns-in_err-pump-clause-does : goal.returns-in_err-pump-clause-does
@@ -13,6 +13,10 @@ pub returns-clause-does : goal.returns-clause-does
 returns-clause-does g c =
     loaded_by c.args.pick.now (g.L.Link.seen c.args.link.now) (g.L.Link.seen c.begin.new.link) (g.L.Link.seen c.pump.new.link) c.in_ok-container.container c.pump.new.self c.in_ok-pump.field-0
     c.in_ok-container.ensures.reads c.in_ok-container.ensures.does c.in_ok-pump.ensures.does c.in_ok-container.ensures.fetched
+
+pub returns-clause-fresh : goal.returns-clause-fresh
+returns-clause-fresh g c =
+    pumped_fresh c.in_ok-container.container c.pump.new.self (g.L.Link.seen c.begin.new.link) (g.L.Link.seen c.pump.new.link) c.in_ok-pump.field-0 c.in_ok-pump.ensures.does c.in_ok-container.ensures.fresh
 
 pub returns-clause-begins : goal.returns-clause-begins
 returns-clause-begins g c =

@@ -12,5 +12,6 @@ returns-in-Some-Nacked-clause-does c =
     record {
       changes = record { client = refl; moment = refl; faults = c.fails.ensures.later; refusals = later; messages = refl; objects = refl };
       handles = refl;
+      trees = refl;
       says = (refl, (rose, nacked_enters (Submit now.client c.args.submission 0) c.in-Some-Nacked.nack now.order now.objects.held));
     }

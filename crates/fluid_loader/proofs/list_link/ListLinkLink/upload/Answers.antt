@@ -1,4 +1,4 @@
-use Rattle.std.proofs.Common.{rules, ◌≡◌, [], ◌∷◌, ◌++◌, option_map, refl, ap, ◌∙◌, arith}
+use Rattle.std.proofs.Common.{rules, ◌≡◌, inl, [], ◌∷◌, ◌++◌, option_map, refl, ap, ◌∙◌, arith}
 use Rattle.fluid_io.specs.Causes.{Rose}
 use Rattle.fluid_loader.proofs.Listing.{none_put, upload_fails}
 use Rattle.fluid_loader.proofs.list_link.ListLinkLink.upload.Goals as goal
@@ -10,6 +10,7 @@ returns-then-fails-clause-does c =
     record {
       changes = record { client = refl; moment = refl; faults = c.fails.ensures.later; refusals = omega arith; messages = refl; objects = refl };
       taken = refl;
+      trees = inl refl;
       says = (rose, none_put c.args.tree.now (option_map (λ id. id.now) c.args.base) now.order now.objects.held);
     }
 
@@ -21,6 +22,7 @@ returns-then-keep-clause-does c =
     record {
       changes = record { client = refl; moment = refl; faults = c.fails.ensures.later; refusals = omega arith; messages = refl; objects = refl };
       taken = refl;
+      trees = refl;
       says = (kept ∙ ap (λ n. now.handles.items ++ n ∷ []) c.handles_in.ensures, (did.0, did.1.0));
     }
 
@@ -28,6 +30,7 @@ pub returns-else-keep-clause-does : goal.returns-else-keep-clause-does
 returns-else-keep-clause-does c = record {
   changes = record { client = refl; moment = refl; faults = c.fails.ensures.later; refusals = omega arith; messages = refl; objects = refl };
   taken = refl;
+  trees = refl;
   says = (c.in-Ok.ensures c.args.self.now.order).1.1;
 }
 
