@@ -6,7 +6,7 @@ mod Growing
 mod Rowed
 mod Leaving
 mod Begins
-mod Acks
+pub mod Acks
 mod Sounds
 mod Fitting
 mod Holding
