@@ -2,6 +2,7 @@
 use Rattle.std.proofs.Common.{◌≡◌, ℕ, zero, suc, ◌+◌, ◌<◌, ◌≤◌, arith, List, [], ◌∷◌, ◌++◌, length, take, drop, fold, Option, Some, None, refl, sym, ap, subst, ◌∙◌}
 use Rattle.std.specs.Prelude.{option_to_list, slice_index_or, IfSome}
 use Rattle.std.proofs.lemmas.List.Elements.{All-append}
+use Rattle.fluid_types.specs.declared.quorum.Member.{Member}
 use Rattle.fluid_types.specs.declared.quorum.Proposal.{Proposal}
 use Rattle.fluid_quorum.specs.Places.{Places, HasPlace, HavePlaces, KeepsPlaces}
 
@@ -27,6 +28,11 @@ module _ {V : Type 0} where
 
   pub with_place_for : (m n : Places V) (ps : List Proposal) (o : Option Proposal) → KeepsPlaces m n → HavePlaces m ps → IfSome o (λ p. HasPlace n p.key) → HavePlaces n (ps ++ option_to_list o)
   with_place_for m n ps o keeps places made = All-append (λ p. HasPlace n p.key) ps (option_to_list o) (same_places m n ps keeps places) (one_place n o made)
+
+-- who joins keeps the place where nobody leaves
+pub still_seated : (m n : Places Member) (o : Option Member) (l : Option (List ℕ)) → IfSome o (λ _. l ≡ None) → (l ≡ None → n ≡ m) → IfSome o (λ x. HasPlace m x.id) → IfSome o (λ x. HasPlace n x.id)
+still_seated m n None l alone idle seat = tt
+still_seated m n (Some x) l alone idle seat = subst (λ p. HasPlace p x.id) (sym (idle alone)) seat
 
 -- ---- one after another
 

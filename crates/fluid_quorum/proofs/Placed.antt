@@ -1,6 +1,6 @@
 -- Places under texts, and the table that they stand for.
-use Rattle.std.proofs.Common.{◌≡◌, ℕ, zero, suc, Bool, true, false, cond, T, ◌&&◌, List, [], ◌∷◌, bytes_eq, fold, Option, Some, None, String, Global, string_bytes, string_cmp, nat_cmp, refl, sym, ap, ap₂, subst, ◌∙◌}
-use Rattle.std.specs.Prelude.{IsSome, is_some}
+use Rattle.std.proofs.Common.{◌≡◌, ℕ, zero, suc, Bool, true, false, cond, T, ◌&&◌, List, [], ◌∷◌, ◌++◌, map, append_assoc, append-nil, bytes_eq, fold, Option, Some, None, String, Global, string_bytes, string_cmp, nat_cmp, refl, sym, ap, ap₂, subst, ◌∙◌}
+use Rattle.std.specs.Prelude.{IsSome, is_some, option_to_list}
 use Rattle.std.specs.List.{AllByRecursion}
 use Rattle.std.specs.List.Sorted.{IsStrictlySortedBy}
 use Rattle.std.specs.Map.{lookup, keys_of}
@@ -11,7 +11,8 @@ use Rattle.std.specs.Option.{option_or}
 use Rattle.std.specs.Cmp.{eq_by_cmp_equiv}
 use Rattle.std.specs.Cmp.Lexicographic.{nat_list_cmp_total, slice_cmp}
 use Rattle.std.specs.BTreeMap.{UpdatesBy, get_by_text, is_at}
-use Rattle.std.specs.FinMap.{empty, from_sorted, get, get-empty, insert, entries, same_map, get-insert, get-from_sorted, entries-from_sorted, IsAntisymmetric, nat_cmp-IsAntisymmetric, slice_cmp-IsAntisymmetric}
+use Rattle.std.specs.FinMap as table
+use Rattle.std.specs.FinMap.{empty, from_sorted, get, get-empty, insert, entries, same_map, get-insert, get-remove, remove, get-from_sorted, entries-from_sorted, IsAntisymmetric, nat_cmp-IsAntisymmetric, slice_cmp-IsAntisymmetric}
 use Rattle.std.specs.FinMap.Entries.{find, is_sorted}
 use Rattle.std.proofs.lemmas.Map.Keys.{sorted_head, sorted_tail}
 use Rattle.std.proofs.lemmas.Map.Text.{is_eq-slice_cmp, btree_map_updates_text, text_cmp}
@@ -137,6 +138,34 @@ module _ {V : Type 0} where
           by : (q : List ℕ) (b : Bool) → bytes_eq key q ≡ b → said (cond (bytes_eq key q) (Some (Some v)) (get_by_text m q)) ≡ cond (eq_by_cmp byte_order q key) (Some v) (said (get_by_text m q))
           by q true is = rw (tied q key, is) refl
           by q false is = rw (tied q key, is) refl
+
+      pub removed : UpdatesBy string_cmp (λ k. slice_cmp nat_cmp key (string_bytes k)) m n None → table_at n ≡ remove (table_at m) key
+      removed updates = same_map nat_list_cmp_total antisymmetric _ _ (λ q.
+          got n n_order q ∙ ap said (btree_map_updates_text key m n None updates q) ∙ by q (bytes_eq key q) refl
+          ∙ sym (get-remove nat_list_cmp_total (table_at m) key q ∙ ap (cond (eq_by_cmp byte_order q key) None) (got m m_order q)))
+        where
+          by : (q : List ℕ) (b : Bool) → bytes_eq key q ≡ b → said (cond (bytes_eq key q) None (get_by_text m q)) ≡ cond (eq_by_cmp byte_order q key) None (said (get_by_text m q))
+          by q true is = rw (tied q key, is) refl
+          by q false is = rw (tied q key, is) refl
+
+-- ---- the values in order
+
+module _ {V : Type 0} where
+  abbrev pub values_in : Entries V → List V
+  values_in es = map (λ (e : List ℕ × V). e.1) (held es)
+
+  listed_first : (key : List ℕ) (o : Option V) (rest : List (List ℕ × V)) → map (λ (e : List ℕ × V). e.1) (with_place key o rest) ≡ option_to_list o ++ map (λ (e : List ℕ × V). e.1) rest
+  listed_first key None rest = refl
+  listed_first key (Some v) rest = refl
+
+  pub listed-on : (s : String Global) (o : Option V) (left rest : Entries V) (old new all : List V) → left ≡ (s, o) ∷ rest → new ≡ old ++ option_to_list o → old ++ values_in left ≡ all → new ++ values_in rest ≡ all
+  listed-on s o left rest old new all left_is put before =
+      ap (λ l. l ++ values_in rest) put ∙ append_assoc old (option_to_list o) (values_in rest) ∙ ap (λ l. old ++ l) (sym (listed_first (string_bytes s) o (held rest)))
+      ∙ ap (λ l. old ++ values_in l) (sym left_is) ∙ before
+
+  pub listed-end : (m : Places V) (order : AreOrdered m) (left : Entries V) (old : List V) → left ≡ [] → old ++ values_in left ≡ values_in m.entries → old ≡ table.values (table_at m)
+  listed-end m order left old none before =
+      sym (ap (λ l. old ++ values_in l) none ∙ append-nil old) ∙ before ∙ ap (λ es. map (λ (e : List ℕ × V). e.1) es) (sym (listed m order))
 
 -- ---- a copy, place by place
 

@@ -1,10 +1,9 @@
 -- The tokens of members and items.
-use Rattle.std.specs.Prelude.{ℕ, List, [], ◌∷◌, ◌++◌, Option, Some, None}
+use Rattle.std.specs.Prelude.{List, [], ◌∷◌, ◌++◌, Option, Some, None}
 use Rattle.json.specs.Token.{Token, key}
 use Rattle.fluid_json.specs.Tokens.{tokens_of}
+use Rattle.fluid_json.specs.Tree.{Tree}
 use Rattle.fluid_types.specs.Printed.{Row}
-use Rattle.fluid_types.specs.Blobs.{value_tree}
-use Rattle.fluid_types.specs.declared.quorum.Accepted.{Accepted}
 
 -- a member is its name and then its value
 unfoldable pub row_tokens : Row → List Token
@@ -16,6 +15,6 @@ rows_tokens [] = []
 rows_tokens (r ∷ rs) = row_tokens r ++ rows_tokens rs
 
 -- a place that has no value yet isn't printed
-abbrev pub place_tokens : List ℕ → Option Accepted → List Token
-place_tokens k None = []
-place_tokens k (Some a) = tokens_of (value_tree (k, a))
+abbrev pub place_tokens : {V : Type 0} → (V → Tree) → Option V → List Token
+place_tokens tree_of None = []
+place_tokens tree_of (Some v) = tokens_of (tree_of v)

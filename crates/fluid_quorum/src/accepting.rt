@@ -1,14 +1,15 @@
 // The values of keys, and which proposals a minimum accepts.
-ghost use Rattle.std.specs.Prelude.{◌≡◌, ◌<◌, ◌≤◌, ◌++◌, not, fold, filter, take, drop, length, vec_len, vec_capacity, option_to_list, IfSome, OnOk};
+ghost use Rattle.std.specs.Prelude.{◌≡◌, ◌<◌, ◌≤◌, ◌++◌, not, fold, filter, take, drop, length, option_to_list, None, IfSome, OnOk};
+ghost use Rattle.std.specs.FinMap.{insert};
 ghost use Rattle.std.specs.VecDeque.{deque_len, deque_capacity};
 ghost use Rattle.fluid_quorum.specs.After.{is_due, with_accepted, with_member, without};
-ghost use Rattle.fluid_quorum.specs.Lists.{AreRising, members_of, IsInIdOrder};
+ghost use Rattle.fluid_quorum.specs.Lists.{AreRising};
 ghost use Rattle.fluid_quorum.specs.Places.{table_at, AreOrdered, HasPlace, HavePlaces, KeepsPlaces};
 
-use crate::places::{fill, make_place};
+use crate::places::{fill, make_place, take_out};
 use crate::saying::Saying;
 use fluid_json::{NoMemory, Text};
-use fluid_table::{Entry, put, take_out};
+use fluid_table::Entry;
 use fluid_types::{Accepted, Member, Proposal};
 use std::alloc::Global;
 use std::collections::{BTreeMap, VecDeque};
@@ -86,31 +87,42 @@ fn accept_first(
     fill(values, key.as_str(), accepted);
 }
 
-/// Makes a place for the key of a proposal. No value changes.
+/// Makes places for who joins and for the key of what is proposed. No value changes.
 pub(crate) fn make_room(
     alloc: Global,
+    members: &mut BTreeMap<String, Option<Member>>,
     values: &mut BTreeMap<String, Option<Accepted>>,
-    proposal: &Option<Proposal>,
+    said: &Saying,
 ) -> Result<(), NoMemory>
-    requires { AreOrdered values.old }
-    ensures order { AreOrdered values.new }
-    ensures same { table_at values.new ≡ table_at values.old }
-    ensures made { OnOk result (IfSome proposal.now (λ p. HasPlace values.new p.key)) }
+    requires members { AreOrdered members.old }
+    requires values { AreOrdered values.old }
+    ensures members { AreOrdered members.new × (table_at members.new ≡ table_at members.old) }
+    ensures values { AreOrdered values.new × (table_at values.new ≡ table_at values.old) }
+    ensures seat { OnOk result (IfSome said.now.member (λ m. HasPlace members.new m.id)) }
+    ensures place { OnOk result (IfSome said.now.proposal (λ p. HasPlace values.new p.key)) }
     ensures kept { KeepsPlaces values.old values.new }
 {
-    if let Some(proposal) = proposal {
+    if let Some(member) = &said.member {
+        make_place(alloc, members, member.id.as_str())?;
+    }
+    if let Some(proposal) = &said.proposal {
         make_place(alloc, values, proposal.key.as_str())?;
     }
     Ok(())
 }
 
-/// Takes in what a message says. It needs room for one more of each, and takes no memory.
-pub(crate) fn enter(members: &mut Vec<Member>, pending: &mut VecDeque<Proposal>, said: Saying)
-    requires order { IsInIdOrder members.old.items }
-    requires room { vec_len members.old < vec_capacity members.old }
-    requires place { deque_len pending.old < deque_capacity pending.old }
-    ensures order { IsInIdOrder members.new.items }
-    ensures members { members_of members.new.items ≡ with_member said.member (without said.leaver (members_of members.old.items)) }
+/// Takes in what a message says. Who joins has a place and there is room for one more proposal, so it takes no memory.
+pub(crate) fn enter(
+    members: &mut BTreeMap<String, Option<Member>>,
+    pending: &mut VecDeque<Proposal>,
+    said: Saying,
+)
+    requires order { AreOrdered members.old }
+    requires alone { IfSome said.member (λ _. said.leaver ≡ None) }
+    requires seat { IfSome said.member (λ m. HasPlace members.old m.id) }
+    requires room { deque_len pending.old < deque_capacity pending.old }
+    ensures order { AreOrdered members.new }
+    ensures members { table_at members.new ≡ with_member said.member (without said.leaver (table_at members.old)) }
     ensures pending { pending.new.items ≡ pending.old.items ++ option_to_list said.proposal }
 {
     let Saying {
@@ -123,26 +135,36 @@ pub(crate) fn enter(members: &mut Vec<Member>, pending: &mut VecDeque<Proposal>,
     propose(pending, proposal);
 }
 
-fn dismiss(members: &mut Vec<Member>, leaver: Option<Text>)
-    requires order { IsInIdOrder members.old.items }
-    requires room { vec_len members.old < vec_capacity members.old }
-    ensures order { IsInIdOrder members.new.items }
-    ensures members { members_of members.new.items ≡ without leaver (members_of members.old.items) }
-    ensures room { vec_len members.new < vec_capacity members.new }
+fn dismiss(members: &mut BTreeMap<String, Option<Member>>, leaver: Option<Text>)
+    requires { AreOrdered members.old }
+    ensures order { AreOrdered members.new }
+    ensures members { table_at members.new ≡ without leaver (table_at members.old) }
+    ensures idle { leaver ≡ None → members.new ≡ members.old }
 {
     if let Some(id) = leaver {
         take_out(members, id.as_str());
     }
 }
 
-fn admit(members: &mut Vec<Member>, member: Option<Member>)
-    requires order { IsInIdOrder members.old.items }
-    requires room { vec_len members.old < vec_capacity members.old }
-    ensures order { IsInIdOrder members.new.items }
-    ensures members { members_of members.new.items ≡ with_member member (members_of members.old.items) }
+fn admit(members: &mut BTreeMap<String, Option<Member>>, member: Option<Member>)
+    requires order { AreOrdered members.old }
+    requires seat { IfSome member (λ m. HasPlace members.old m.id) }
+    ensures order { AreOrdered members.new }
+    ensures members { table_at members.new ≡ with_member member (table_at members.old) }
 {
     if let Some(member) = member {
-        put(members, member);
+        seat(members, member);
+    }
+}
+
+fn seat(members: &mut BTreeMap<String, Option<Member>>, member: Member)
+    requires { HasPlace members.old member.id }
+    ensures order { AreOrdered members.new }
+    ensures members { table_at members.new ≡ insert (table_at members.old) member.id member }
+{
+    match members.get_mut(member.id.as_str()) {
+        Some(place) => *place = Some(member),
+        None => {}
     }
 }
 

@@ -1,8 +1,10 @@
 //! The quorum of a document: who has joined and not left, which values its clients have proposed, and which of them
 //! every client has seen.
 //!
-//! - `quorum`: `Quorum`, which takes the messages of an order one after another. `members`: `Members`.
-//! - `saying`: what one message says. `accepting`: which proposals a minimum accepts, and the values of keys.
+//! - `quorum`: `Quorum`, which takes the messages of an order one after another.
+//! - `saying`: what one message says. `accepting`: which proposals a minimum accepts, and how a message is taken in.
+//! - `places`: values under keys, in a tree. Members and the values of keys stand in one each, and the pending proposals in a queue:
+//!   a message costs a search among members and keys, and a constant besides, on the average.
 //! - `state`: what a scribe keeps, `ScribeState`, with a quorum as its base.
 //! - `writing` and `reading`: the four blobs in which a summary keeps a quorum. `laws`: what holds of the definitions.
 //!
@@ -11,7 +13,6 @@
 
 mod accepting;
 pub mod laws;
-mod members;
 mod places;
 mod quorum;
 mod reading;
@@ -21,7 +22,6 @@ mod writing;
 
 pub use accepting::KeyValue;
 pub use fluid_types::{Accepted, BlobFault, Member, Proposal, QuorumBlob};
-pub use members::Members;
 pub use quorum::Quorum;
 pub use reading::number_in;
 pub use state::{Acks, Minima, ScribeState};

@@ -1,13 +1,35 @@
-// Values under texts, with places that are made ahead: then a value is put in its place without memory.
-ghost use Rattle.std.specs.Prelude.{◌≡◌, List, ℕ, IfOk, OnOk, cond, Some, bytes_eq, string_bytes};
+// Values under texts, in a tree that is searched by key. A text may have a place that has no value yet: made ahead, so that the
+// value is put there without memory.
+ghost use Rattle.std.specs.Prelude.{◌≡◌, List, ℕ, ◌++◌, IfOk, OnOk, cond, Some, map, bytes_eq, string_bytes, option_to_list};
 ghost use Rattle.std.specs.Option.{option_copied};
 ghost use Rattle.std.specs.BTreeMap.{get_by_text};
-ghost use Rattle.std.specs.FinMap.{get, insert};
+ghost use Rattle.std.specs.FinMap.{get, insert, remove, values};
 ghost use Rattle.fluid_quorum.specs.Places.{table_at, AreOrdered, HasPlace, KeepsPlaces};
 
 use fluid_json::NoMemory;
+use fluid_types::{Accepted, Member};
 use std::alloc::Global;
 use std::collections::BTreeMap;
+
+/// A value that can be made once more.
+pub(crate) trait Copied: Sized {
+    ghost use Rattle.std.specs.Prelude.{◌≡◌, IfOk};
+
+    fn copied(&self, alloc: Global) -> Result<Self, NoMemory>
+        ensures { IfOk result (λ copy. copy ≡ self.now) };
+}
+
+impl Copied for Member {
+    fn copied(&self, alloc: Global) -> Result<Member, NoMemory> {
+        self.copy(alloc)
+    }
+}
+
+impl Copied for Accepted {
+    fn copied(&self, alloc: Global) -> Result<Accepted, NoMemory> {
+        self.copy(alloc)
+    }
+}
 
 /// The value under a key; none where it has none.
 pub(crate) fn look_up<'a, V>(places: &'a BTreeMap<String, Option<V>>, key: &str) -> Option<&'a V>
@@ -52,6 +74,15 @@ pub(crate) fn fill<V: Drop>(places: &mut BTreeMap<String, Option<V>>, key: &str,
     }
 }
 
+/// Takes a key out with its place.
+pub(crate) fn take_out<V: Drop>(places: &mut BTreeMap<String, Option<V>>, key: &str)
+    requires { AreOrdered places.old }
+    ensures order { AreOrdered places.new }
+    ensures taken { table_at places.new ≡ remove (table_at places.old) key.now }
+{
+    drop(places.remove(key));
+}
+
 /// Makes a place for a key with a value in it, or with none yet, over what it had.
 pub(crate) fn put<V: Drop>(
     places: &mut BTreeMap<String, Option<V>>,
@@ -64,4 +95,60 @@ pub(crate) fn put<V: Drop>(
 {
     drop(places.insert(key, value)?);
     Ok(())
+}
+
+/// The same places once more, with their own memory.
+pub(crate) fn copy_places<V: Copied + Drop>(
+    alloc: Global,
+    places: &BTreeMap<String, Option<V>>,
+) -> Result<BTreeMap<String, Option<V>>, NoMemory>
+    ensures order { IfOk result AreOrdered }
+    ensures copied { IfOk result (λ copies. (q : List ℕ) → get_by_text copies q ≡ get_by_text places.now q) }
+{
+    let mut copies = BTreeMap::new(alloc);
+    for (key, place) in places {
+        let key = String::from_str(alloc, key.as_str())?;
+        let place = copy_place(alloc, place)?;
+        put(&mut copies, key, place)?;
+    }
+    Ok(copies)
+}
+
+fn copy_place<V: Copied + Drop>(alloc: Global, place: &Option<V>) -> Result<Option<V>, NoMemory>
+    ensures { IfOk result (λ copy. copy ≡ place.now) }
+{
+    match place {
+        Some(value) => {
+            let copy = value.copied(alloc)?;
+            Ok(Some(copy))
+        }
+        None => Ok(None),
+    }
+}
+
+/// The values in the order of their keys.
+pub(crate) fn list_values<'a, V>(
+    alloc: Global,
+    places: &'a BTreeMap<String, Option<V>>,
+) -> Result<Vec<&'a V>, NoMemory>
+    requires { AreOrdered places.now }
+    ensures { IfOk result (λ all. map (λ v. v.now) all.items ≡ values (table_at places.now)) }
+{
+    let mut all = Vec::new(alloc);
+    for (_key, place) in places {
+        list_place(&mut all, place)?;
+    }
+    Ok(all)
+}
+
+fn list_place<'a, V>(all: &mut Vec<&'a V>, place: &'a Option<V>) -> Result<(), NoMemory>
+    ensures { OnOk result (map (λ v. v.now) all.new.items ≡ map (λ v. v.now) all.old.items ++ option_to_list place.now) }
+{
+    match place {
+        Some(value) => {
+            all.push(value)?;
+            Ok(())
+        }
+        None => Ok(()),
+    }
 }

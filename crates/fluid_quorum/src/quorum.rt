@@ -1,19 +1,15 @@
 // The quorum, and how it takes a message.
-ghost use Rattle.std.specs.Prelude.{◌≡◌, ◌+◌, [], ◌∷◌, ◌++◌, List, ℕ, Some, IfOk, OnOk, OnErr, option_map, option_copied};
+ghost use Rattle.std.specs.Prelude.{◌≡◌, ◌+◌, [], ◌∷◌, ◌++◌, List, Some, IfOk, OnOk, OnErr, map, option_copied};
 ghost use Rattle.std.specs.FinMap.{empty, get, values};
-ghost use Rattle.std.specs.BTreeMap.{get_by_text};
 ghost use Rattle.fluid_types.specs.declared.messages.Message.{Message as AMessage};
 ghost use Rattle.fluid_quorum.specs.After.{after};
 ghost use Rattle.fluid_quorum.specs.Noops.{noops_to, advanced};
 ghost use Rattle.fluid_quorum.specs.Order.{StandsFor};
-ghost use Rattle.fluid_quorum.specs.Places.{AreOrdered};
 
 use crate::accepting::{accept, due, enter, make_room};
-use crate::members::Members;
-use crate::places::{look_up, put};
+use crate::places::{copy_places, list_values, look_up};
 use crate::saying::hear;
 use fluid_json::NoMemory;
-use fluid_table::find;
 use fluid_types::{Accepted, Member, Message, Proposal};
 use std::alloc::Global;
 use std::collections::{BTreeMap, VecDeque};
@@ -24,7 +20,7 @@ use std::marker::Model;
 pub struct Quorum {
     pub(crate) number: u64,
     pub(crate) minimum: u64,
-    pub(crate) members: Members,
+    pub(crate) members: BTreeMap<String, Option<Member>>,
     pub(crate) pending: VecDeque<Proposal>,
     // The key of each pending proposal has a place.
     pub(crate) values: BTreeMap<String, Option<Accepted>>,
@@ -33,16 +29,16 @@ pub struct Quorum {
 impl Model for Quorum {
     ghost use Rattle.fluid_types.specs.Quorum.{Quorum as AQuorum};
     ghost use Rattle.fluid_quorum.specs.Codes.{quorum_code};
-    ghost use Rattle.fluid_quorum.specs.Lists.{members_of, IsInIdOrder, AreRising, AreUpTo};
+    ghost use Rattle.fluid_quorum.specs.Lists.{AreRising, AreUpTo};
     ghost use Rattle.fluid_quorum.specs.Places.{table_at, AreOrdered, HavePlaces};
 
     ghost Value = { AQuorum };
 
     ghost coded = { quorum_code };
 
-    ghost view = { λ q. record { number = q.number; minimum = q.minimum; members = members_of q.members; pending = q.pending.items; values = table_at q.values } };
+    ghost view = { λ q. record { number = q.number; minimum = q.minimum; members = table_at q.members; pending = q.pending.items; values = table_at q.values } };
 
-    ghost invariant = { λ q. IsInIdOrder q.members × (AreOrdered q.values × (HavePlaces q.values q.pending.items × (AreRising q.pending.items × AreUpTo q.number q.pending.items))) };
+    ghost invariant = { λ q. AreOrdered q.members × (AreOrdered q.values × (HavePlaces q.values q.pending.items × (AreRising q.pending.items × AreUpTo q.number q.pending.items))) };
 }
 
 impl Quorum {
@@ -53,7 +49,7 @@ impl Quorum {
         Quorum {
             number: 0,
             minimum: 0,
-            members: Members::from_vec(Vec::new(alloc)),
+            members: BTreeMap::new(alloc),
             pending: VecDeque::new(alloc),
             values: BTreeMap::new(alloc),
         }
@@ -67,10 +63,9 @@ impl Quorum {
         ensures unchanged { OnErr result (self.new ≡ self.old) }
     {
         let said = hear(alloc, message)?;
-        self.members.list.reserve(1)?;
         self.pending.reserve(1)?;
-        make_room(alloc, &mut self.values, &said.proposal)?;
-        enter(&mut self.members.list, &mut self.pending, said);
+        make_room(alloc, &mut self.members, &mut self.values, &said)?;
+        enter(&mut self.members, &mut self.pending, said);
         let accepted = due(&self.pending, message.minimum);
         accept(
             &mut self.values,
@@ -123,17 +118,17 @@ impl Quorum {
     }
 
     /// The members, in byte order of their ids.
-    pub fn members(&self) -> &Members
-        ensures { result.now ≡ values self.now.members }
+    pub fn members(&self, alloc: Global) -> Result<Vec<&Member>, NoMemory>
+        ensures { IfOk result (λ members. map (λ m. m.now) members.items ≡ values self.now.members) }
     {
-        &self.members
+        list_values(alloc, &self.members)
     }
 
     /// The member of an id; none where nobody of it is in.
     pub fn member(&self, id: &str) -> Option<&Member>
         ensures { option_copied result ≡ get self.now.members id.now }
     {
-        find(self.members.as_slice(), id)
+        look_up(&self.members, id)
     }
 
     /// The proposals that aren't accepted yet, in the order of their numbers.
@@ -154,9 +149,9 @@ impl Quorum {
     pub fn copy(&self, alloc: Global) -> Result<Quorum, NoMemory>
         ensures { IfOk result (λ copy. copy ≡ self.now) }
     {
-        let members = self.members.copy(alloc)?;
+        let members = copy_places(alloc, &self.members)?;
         let pending = copy_proposals(alloc, &self.pending)?;
-        let values = copy_values(alloc, &self.values)?;
+        let values = copy_places(alloc, &self.values)?;
         Ok(Quorum {
             number: self.number,
             minimum: self.minimum,
@@ -179,32 +174,4 @@ fn copy_proposals(
         copies.push_back(copy)?;
     }
     Ok(copies)
-}
-
-fn copy_values(
-    alloc: Global,
-    values: &BTreeMap<String, Option<Accepted>>,
-) -> Result<BTreeMap<String, Option<Accepted>>, NoMemory>
-    ensures order { IfOk result AreOrdered }
-    ensures copied { IfOk result (λ copies. (q : List ℕ) → get_by_text copies q ≡ get_by_text values.now q) }
-{
-    let mut copies = BTreeMap::new(alloc);
-    for (key, place) in values {
-        let key = String::from_str(alloc, key.as_str())?;
-        let place = copy_place(alloc, place)?;
-        put(&mut copies, key, place)?;
-    }
-    Ok(copies)
-}
-
-fn copy_place(alloc: Global, place: &Option<Accepted>) -> Result<Option<Accepted>, NoMemory>
-    ensures { IfOk result (λ copy. copy ≡ place.now) }
-{
-    match place {
-        Some(accepted) => {
-            let copy = accepted.copy(alloc)?;
-            Ok(Some(copy))
-        }
-        None => Ok(None),
-    }
 }

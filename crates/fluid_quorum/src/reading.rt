@@ -8,12 +8,11 @@ ghost use Rattle.fluid_json.specs.Tree.{Tree, trees};
 ghost use Rattle.fluid_json.specs.Spelled.{answer_stored};
 ghost use Rattle.fluid_tree.specs.Summary.{children};
 ghost use Rattle.fluid_types.specs.declared.fault.BlobFault.TheVariants.{NoMemory as no_memory};
-ghost use Rattle.fluid_quorum.specs.Lists.{IsInIdOrder, IsInKeyOrder, AreRising, AreUpTo, values_of};
+ghost use Rattle.fluid_quorum.specs.Lists.{IsInIdOrder, IsInKeyOrder, AreRising, AreUpTo, members_of as table_of_members, values_of};
 ghost use Rattle.fluid_quorum.specs.Places.{table_at, AreOrdered, HavePlaces};
 ghost use Rattle.fluid_quorum.specs.Reading.{as_utf8, find_child, text_in, within, count_at, text_at, attributes_form, member_form, proposal_form, value_form, each, members_form, proposals_form, values_form, attributes_in, number_in, members_in, proposals_in, values_in, bad, answer};
 
 use crate::accepting::KeyValue;
-use crate::members::Members;
 use crate::places::{make_place, put};
 use crate::quorum::Quorum;
 use crate::saying::{id_in, key_in};
@@ -43,11 +42,12 @@ impl Quorum {
         let Some(values) = read_values(alloc, tree, number)? else {
             return Err(bad_blob(alloc, QuorumBlob::Values));
         };
+        let members = of_members(alloc, members)?;
         let values = placed(alloc, values, &pending)?;
         Ok(Quorum {
             number,
             minimum,
-            members: Members::from_vec(members),
+            members,
             pending,
             values,
         })
@@ -356,6 +356,22 @@ fn of_values(
     for value in values {
         let KeyValue { key, accepted } = value;
         put(&mut places, key.into_string(), Some(accepted))?;
+    }
+    Ok(places)
+}
+
+fn of_members(
+    alloc: Global,
+    members: Vec<Member>,
+) -> Result<BTreeMap<String, Option<Member>>, NoMemory>
+    requires { IsInIdOrder members.items }
+    ensures order { IfOk result AreOrdered }
+    ensures members { IfOk result (λ places. table_at places ≡ table_of_members members.items) }
+{
+    let mut places = BTreeMap::new(alloc);
+    for member in members {
+        let key = String::from_str(alloc, member.id.as_str())?;
+        put(&mut places, key, Some(member))?;
     }
     Ok(places)
 }

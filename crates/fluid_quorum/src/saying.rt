@@ -1,5 +1,5 @@
 // What one message says: who joins, who leaves, what is proposed.
-ghost use Rattle.std.specs.Prelude.{◌≡◌, Option, None, Some, IfOk, option_map, option_and_then};
+ghost use Rattle.std.specs.Prelude.{◌≡◌, Option, None, Some, IfOk, IfSome, option_map, option_and_then};
 ghost use Rattle.std.specs.Result.{result_ok};
 ghost use Rattle.fluid_types.specs.Quorum.{data_of, as_name, joining, proposing, member_of, left_by, proposal_of};
 ghost use Rattle.fluid_json.specs.Tree.{Tree, as_text, find};
@@ -26,6 +26,7 @@ pub(crate) fn hear(alloc: Global, message: &Message) -> Result<Saying, NoMemory>
     ensures member { IfOk result (λ said. said.member ≡ member_of message.now) }
     ensures leaver { IfOk result (λ said. said.leaver ≡ left_by message.now) }
     ensures proposal { IfOk result (λ said. said.proposal ≡ proposal_of message.now) }
+    ensures alone { IfOk result (λ said. IfSome said.member (λ _. said.leaver ≡ None)) }
 {
     let mut said = Saying {
         member: None,

@@ -27,9 +27,9 @@ impl Quorum {
         ensures texts { IfOk result (λ _. AreTexts self.now) }
     {
         let attributes = print_attributes(alloc, self.minimum, self.number)?;
-        let members = print_members(alloc, self.members.as_slice())?;
+        let members = print_member_places(alloc, &self.members)?;
         let proposals = print_proposals(alloc, &self.pending)?;
-        let values = print_places(alloc, &self.values)?;
+        let values = print_value_places(alloc, &self.values)?;
         let mut entries = Entries::new(alloc);
         put_blob(alloc, &mut entries, QuorumBlob::Attributes, attributes)?;
         put_blob(alloc, &mut entries, QuorumBlob::Members, members)?;
@@ -107,7 +107,22 @@ pub(crate) fn print_values(alloc: Global, values: &[KeyValue]) -> Result<Text, N
     Ok(out.into_text())
 }
 
-fn print_places(
+fn print_member_places(
+    alloc: Global,
+    places: &BTreeMap<String, Option<Member>>,
+) -> Result<Text, NoMemory>
+    ensures { IfOk result (λ s. s ≡ printed (list_tree (λ e. member_tree e.1) (held places.now.entries))) }
+{
+    let mut out = Printer::new(alloc);
+    out.begin_list()?;
+    for (_key, place) in places {
+        put_member_place(&mut out, place)?;
+    }
+    out.end_list()?;
+    Ok(out.into_text())
+}
+
+fn print_value_places(
     alloc: Global,
     places: &BTreeMap<String, Option<Accepted>>,
 ) -> Result<Text, NoMemory>
@@ -116,7 +131,7 @@ fn print_places(
     let mut out = Printer::new(alloc);
     out.begin_list()?;
     for (key, place) in places {
-        put_place(&mut out, key.as_str(), place)?;
+        put_value_place(&mut out, key.as_str(), place)?;
     }
     out.end_list()?;
     Ok(out.into_text())
@@ -148,9 +163,22 @@ fn put_proposal(out: &mut Printer, proposal: &Proposal) -> Result<(), NoMemory>
     Ok(())
 }
 
-fn put_place(out: &mut Printer, key: &str, place: &Option<Accepted>) -> Result<(), NoMemory>
+fn put_member_place(out: &mut Printer, place: &Option<Member>) -> Result<(), NoMemory>
     ensures before { out.new.before ≡ out.old.before }
-    ensures tokens { OnOk result (out.new.tokens ≡ out.old.tokens ++ place_tokens key.now place.now) }
+    ensures tokens { OnOk result (out.new.tokens ≡ out.old.tokens ++ place_tokens member_tree place.now) }
+{
+    match place {
+        Some(member) => {
+            put_member(out, member)?;
+            Ok(())
+        }
+        None => Ok(()),
+    }
+}
+
+fn put_value_place(out: &mut Printer, key: &str, place: &Option<Accepted>) -> Result<(), NoMemory>
+    ensures before { out.new.before ≡ out.old.before }
+    ensures tokens { OnOk result (out.new.tokens ≡ out.old.tokens ++ place_tokens (λ a. value_tree (key.now, a)) place.now) }
 {
     match place {
         Some(accepted) => {

@@ -3,7 +3,7 @@ use Rattle.std.specs.Prelude.{option_to_list}
 use Rattle.fluid_types.specs.Quorum.{member_of, left_by, proposal_of}
 use Rattle.fluid_quorum.specs.After.{is_due, with_member, without, with_accepted}
 use Rattle.fluid_quorum.specs.Order.{StandsFor}
-use Rattle.fluid_quorum.specs.Lists.{AreRising, AreUpTo, members_of}
+use Rattle.fluid_quorum.specs.Lists.{AreRising, AreUpTo}
 use Rattle.fluid_quorum.specs.Places.{table_at, HavePlaces, KeepsPlaces}
 use Rattle.fluid_quorum.proofs.Filled.{with_place_for}
 use Rattle.fluid_quorum.proofs.Taken.{waiting-rising, waiting-bounded, left-rising, left-bounded, taken, stands-after}
@@ -20,7 +20,7 @@ accept-requires-clause-places c =
     let all : c.enter.new.pending.items ≡ c.self.inside.pending.items ++ option_to_list c.in_ok-said.said.proposal = search rules in
     let kept : KeepsPlaces c.self.inside.values c.make_room.new.values = search rules in
     subst (HavePlaces c.make_room.new.values) (sym all)
-    (with_place_for c.self.inside.values c.make_room.new.values c.self.inside.pending.items c.in_ok-said.said.proposal kept c.self.invariant.1.1.0 c.in_ok-make_room.ensures.made)
+    (with_place_for c.self.inside.values c.make_room.new.values c.self.inside.pending.items c.in_ok-said.said.proposal kept c.self.invariant.1.1.0 c.in_ok-make_room.ensures.place)
 
 pub invariant_of-self-2 : goal.invariant_of-self-2
 invariant_of-self-2 c =
@@ -44,7 +44,7 @@ invariant_of-self-2 c =
 pub returns-clause-after : goal.returns-clause-after
 returns-clause-after c =
     let left : c.accept.new.pending.items ≡ filter (λ p. not (is_due c.args.message.now.minimum p)) (c.self.inside.pending.items ++ option_to_list (proposal_of c.args.message.now)) = search rules in
-    let members : members_of c.enter.new.members.items ≡ with_member (member_of c.args.message.now) (without (left_by c.args.message.now) (members_of c.self.inside.members)) = search rules in
+    let members : table_at c.enter.new.members ≡ with_member (member_of c.args.message.now) (without (left_by c.args.message.now) (table_at c.self.inside.members)) = search rules in
     let values : table_at c.accept.new.values ≡ fold (with_accepted c.args.message.now.number) (table_at c.self.inside.values) (filter (is_due c.args.message.now.minimum) (c.self.inside.pending.items ++ option_to_list (proposal_of c.args.message.now))) = search rules in
     rw (← c.self.view_is) (taken _ c.args.message.now _ _ _ members left values)
 

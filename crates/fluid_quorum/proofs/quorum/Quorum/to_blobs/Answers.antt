@@ -6,7 +6,6 @@ use Rattle.fluid_tree.specs.Summary.{tree, children, blob}
 use Rattle.fluid_types.specs.Words.{blob_word}
 use Rattle.fluid_types.specs.declared.quorum.QuorumBlob.TheVariants.{Attributes, Members, Proposals, Values}
 use Rattle.fluid_types.specs.Blobs.{attributes_tree, member_tree, proposal_tree, value_tree, list_tree, blobs_of, blob_text}
-use Rattle.fluid_quorum.specs.Lists.{members_of}
 use Rattle.fluid_quorum.specs.Places.{table_at}
 use Rattle.fluid_quorum.specs.Node.{node_of, AreTexts}
 use Rattle.fluid_quorum.proofs.Written.{members_text, places_text, four_texts}
@@ -16,8 +15,8 @@ pub returns-clause-node : goal.returns-clause-node
 unfolding node_of blobs_of blob_text
 returns-clause-node c =
     let attributes : c.in_ok-attributes.attributes ≡ printed (attributes_tree c.self.inside.minimum c.self.inside.number) = search rules in
-    let members : c.in_ok-members.members ≡ printed (list_tree member_tree (table.values (members_of c.self.inside.members))) =
-    c.in_ok-members.ensures ∙ ap (λ ms. printed (list_tree member_tree ms)) c.as_slice.ensures ∙ members_text c.self.inside.members c.self.invariant.0 in
+    let members : c.in_ok-members.members ≡ printed (list_tree member_tree (table.values (table_at c.self.inside.members))) =
+    c.in_ok-members.ensures ∙ members_text c.self.inside.members c.self.invariant.0 in
     let proposals : c.in_ok-proposals.proposals ≡ printed (list_tree proposal_tree c.self.inside.pending.items) = search rules in
     let values : c.in_ok-values.values ≡ printed (list_tree value_tree (entries (table_at c.self.inside.values))) =
     c.in_ok-values.ensures ∙ places_text c.self.inside.values c.self.invariant.1.0 in
@@ -29,8 +28,8 @@ pub returns-clause-texts : goal.returns-clause-texts
 unfolding blob_text
 returns-clause-texts c =
     let attributes : c.in_ok-attributes.attributes ≡ printed (attributes_tree c.self.inside.minimum c.self.inside.number) = search rules in
-    let members : c.in_ok-members.members ≡ printed (list_tree member_tree (table.values (members_of c.self.inside.members))) =
-    c.in_ok-members.ensures ∙ ap (λ ms. printed (list_tree member_tree ms)) c.as_slice.ensures ∙ members_text c.self.inside.members c.self.invariant.0 in
+    let members : c.in_ok-members.members ≡ printed (list_tree member_tree (table.values (table_at c.self.inside.members))) =
+    c.in_ok-members.ensures ∙ members_text c.self.inside.members c.self.invariant.0 in
     let proposals : c.in_ok-proposals.proposals ≡ printed (list_tree proposal_tree c.self.inside.pending.items) = search rules in
     let values : c.in_ok-values.values ≡ printed (list_tree value_tree (entries (table_at c.self.inside.values))) =
     c.in_ok-values.ensures ∙ places_text c.self.inside.values c.self.invariant.1.0 in

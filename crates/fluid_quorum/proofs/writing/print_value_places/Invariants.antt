@@ -3,7 +3,7 @@ use Rattle.fluid_json.specs.Tree.{trees}
 use Rattle.fluid_json.specs.Tokens.{tokens_of, trees_tokens}
 use Rattle.fluid_types.specs.Blobs.{value_tree, list_tree}
 use Rattle.fluid_quorum.specs.Places.{held}
-use Rattle.fluid_quorum.proofs.writing.print_places.Given as goal
+use Rattle.fluid_quorum.proofs.writing.print_value_places.Given as goal
 
 -- what was printed, and then what is left, is all
 abbrev pub invariant-loop-key : goal.invariant-loop-key

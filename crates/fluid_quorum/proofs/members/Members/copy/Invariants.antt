@@ -1,6 +1,0 @@
-use Rattle.std.proofs.Common.{◌≡◌, take}
-use Rattle.fluid_quorum.proofs.members.Members.copy.Given as goal
-
--- the members so far
-abbrev pub invariant-loop-member : goal.invariant-loop-member
-invariant-loop-member l = l.list.items ≡ take l.member-index l.member-items
