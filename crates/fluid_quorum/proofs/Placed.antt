@@ -1,5 +1,5 @@
 -- Places under texts, and the table that they stand for.
-use Rattle.std.proofs.Common.{◌≡◌, ℕ, zero, suc, Bool, true, false, cond, T, ◌&&◌, List, [], ◌∷◌, ◌++◌, map, append_assoc, append-nil, bytes_eq, fold, Option, Some, None, String, Global, string_bytes, string_cmp, nat_cmp, refl, sym, ap, ap₂, subst, ◌∙◌}
+use Rattle.std.proofs.Common.{◌≡◌, ℕ, Bool, true, false, cond, T, ◌&&◌, List, [], ◌∷◌, ◌++◌, map, append_assoc, append-nil, bytes_eq, fold, Option, Some, None, String, Global, string_bytes, string_cmp, nat_cmp, refl, sym, ap, ap₂, subst, ◌∙◌}
 use Rattle.std.specs.Prelude.{IsSome, is_some, option_to_list}
 use Rattle.std.specs.List.{AllByRecursion}
 use Rattle.std.specs.List.Sorted.{IsStrictlySortedBy}
@@ -20,7 +20,7 @@ use Rattle.std.proofs.lemmas.Slice.Eq.{bytes_eq-Decides}
 use Rattle.fluid_table.specs.Table.{byte_order}
 use Rattle.fluid_table.proofs.Maps.{from_sorted_nothing}
 use Rattle.fluid_types.specs.Quorum.{Table}
-use Rattle.fluid_quorum.specs.Places.{Places, with_place, held, table_at, AreOrdered, HasPlace, KeepsPlaces}
+use Rattle.fluid_quorum.specs.Places.{Places, with_place, held, table_at, AreOrdered, KeepsPlaces}
 
 antisymmetric : IsAntisymmetric byte_order
 antisymmetric = slice_cmp-IsAntisymmetric nat_cmp-IsAntisymmetric

@@ -1,5 +1,5 @@
 -- Values under texts. A text may have a place that has no value yet: the value can then be put there without memory.
-use Rattle.std.specs.Prelude.{◌≡◌, ℕ, List, [], ◌∷◌, Option, Some, None, All, IsSome, String, string_bytes, string_cmp}
+use Rattle.std.specs.Prelude.{ℕ, List, [], ◌∷◌, Option, Some, None, All, IsSome, String, string_bytes, string_cmp}
 use Rattle.std.specs.declared.alloc.Global.{Global}
 use Rattle.std.specs.BTreeMap.{BTreeMap, IsOrdered, get_by_text}
 use Rattle.std.specs.FinMap.{from_sorted}

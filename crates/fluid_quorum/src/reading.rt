@@ -286,7 +286,11 @@ fn members_of(alloc: Global, last: u64, value: Json) -> Result<Option<Vec<Member
     }
 }
 
-fn proposals_of(alloc: Global, last: u64, value: Json) -> Result<Option<VecDeque<Proposal>>, NoMemory>
+fn proposals_of(
+    alloc: Global,
+    last: u64,
+    value: Json,
+) -> Result<Option<VecDeque<Proposal>>, NoMemory>
     ensures form { IfOk result (λ ps. option_map (λ v. v.items) ps ≡ proposals_form last value) }
     ensures kept { IfOk result (λ ps. IfSome ps (λ v. AreRising v.items × AreUpTo last v.items)) }
 {
@@ -422,7 +426,11 @@ fn read_members(alloc: Global, tree: &Node, last: u64) -> Result<Option<Vec<Memb
 }
 
 #[tactic(auto, unfolding(crate::specs::Reading::proposals_in, crate::specs::Reading::said_by))]
-fn read_proposals(alloc: Global, tree: &Node, last: u64) -> Result<Option<VecDeque<Proposal>>, NoMemory>
+fn read_proposals(
+    alloc: Global,
+    tree: &Node,
+    last: u64,
+) -> Result<Option<VecDeque<Proposal>>, NoMemory>
     ensures blob { IfOk result (λ found. option_map (λ v. v.items) found ≡ proposals_in last tree.now) }
     ensures kept { IfOk result (λ found. IfSome found (λ v. AreRising v.items × AreUpTo last v.items)) }
 {

@@ -1,4 +1,4 @@
-use Rattle.std.proofs.Common.{rules, fold, take, drop, ap, ap₂, ◌∙◌}
+use Rattle.std.proofs.Common.{fold, take, drop, ap, ap₂, ◌∙◌}
 use Rattle.fluid_quorum.specs.After.{with_accepted}
 use Rattle.fluid_quorum.specs.Places.{table_at}
 use Rattle.fluid_quorum.proofs.Filled.{fold-more, drop-more}

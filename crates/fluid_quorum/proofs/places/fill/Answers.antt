@@ -1,4 +1,4 @@
-use Rattle.std.proofs.Common.{Some, rules}
+use Rattle.std.proofs.Common.{Some}
 use Rattle.fluid_quorum.proofs.Placed.{valued, kept}
 use Rattle.fluid_quorum.proofs.places.fill.Goals as goal
 

@@ -1,4 +1,4 @@
-use Rattle.std.proofs.Common.{rules, ◌≡◌, ◌∷◌, ◌++◌, [], map}
+use Rattle.std.proofs.Common.{rules, ◌≡◌, ◌∷◌, [], map}
 use Rattle.fluid_quorum.proofs.Placed.{listed-on, listed-end}
 use Rattle.fluid_quorum.proofs.places.list_values.Goals as goal
 

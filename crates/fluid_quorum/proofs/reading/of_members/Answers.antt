@@ -1,4 +1,4 @@
-use Rattle.std.proofs.Common.{rules, ◌≡◌, [], T, fold, length, ap, ap₂, sym, subst, ◌∙◌}
+use Rattle.std.proofs.Common.{rules, ◌≡◌, [], T, fold, ap, ap₂, sym, subst, ◌∙◌}
 use Rattle.std.proofs.lemmas.List.{nil_from_length}
 use Rattle.fluid_table.specs.Keyed.{pairs_of}
 use Rattle.fluid_quorum.specs.Places.{table_at}

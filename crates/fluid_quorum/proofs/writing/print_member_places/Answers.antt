@@ -1,4 +1,4 @@
-use Rattle.std.proofs.Common.{rules, ◌≡◌, ◌∷◌, ◌++◌, [], string_bytes, refl, ◌∙◌}
+use Rattle.std.proofs.Common.{rules, ◌≡◌, ◌∷◌, [], string_bytes, refl, ◌∙◌}
 use Rattle.fluid_json.specs.Tokens.{tokens_of}
 use Rattle.fluid_types.specs.Blobs.{member_tree, list_tree}
 use Rattle.fluid_quorum.specs.Places.{held}

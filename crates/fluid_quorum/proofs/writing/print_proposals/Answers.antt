@@ -1,4 +1,4 @@
-use Rattle.std.proofs.Common.{rules, ◌≡◌, ◌<◌, ◌≤◌, ◌+◌, ◌++◌, length, drop, map, ap, sym, ◌∙◌, append_assoc}
+use Rattle.std.proofs.Common.{rules, ◌<◌, ◌≤◌, ◌+◌, ◌++◌, length, drop, map, ap, sym, ◌∙◌, append_assoc}
 use Rattle.fluid_json.specs.Tree.{trees}
 use Rattle.fluid_json.specs.Tokens.{tokens_of, trees_tokens}
 use Rattle.fluid_types.specs.Blobs.{proposal_tree, list_tree}

@@ -1,4 +1,4 @@
-use Rattle.std.proofs.Common.{rules, ◌≡◌, ◌∷◌, ◌++◌, [], string_bytes, ◌∙◌}
+use Rattle.std.proofs.Common.{rules, ◌≡◌, ◌∷◌, [], ◌∙◌}
 use Rattle.fluid_json.specs.Tokens.{tokens_of}
 use Rattle.fluid_types.specs.Blobs.{value_tree, list_tree}
 use Rattle.fluid_quorum.specs.Places.{held}

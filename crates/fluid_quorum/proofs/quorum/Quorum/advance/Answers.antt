@@ -1,4 +1,4 @@
-use Rattle.std.proofs.Common.{rules, ◌≡◌, ◌+◌, ◌++◌, not, filter, fold, drop, arith, sym, subst}
+use Rattle.std.proofs.Common.{rules, ◌≡◌, ◌+◌, ◌++◌, not, filter, fold, sym, subst}
 use Rattle.fluid_quorum.specs.After.{is_due, with_accepted}
 use Rattle.fluid_quorum.specs.Order.{StandsFor}
 use Rattle.fluid_quorum.specs.Noops.{noops_to}

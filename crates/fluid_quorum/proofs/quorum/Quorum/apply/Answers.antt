@@ -1,4 +1,4 @@
-use Rattle.std.proofs.Common.{rules, ◌≡◌, ◌+◌, [], ◌∷◌, ◌++◌, not, filter, fold, arith, sym, subst}
+use Rattle.std.proofs.Common.{rules, ◌≡◌, ◌+◌, [], ◌∷◌, ◌++◌, not, filter, fold, sym, subst}
 use Rattle.std.specs.Prelude.{option_to_list}
 use Rattle.fluid_types.specs.Quorum.{member_of, left_by, proposal_of}
 use Rattle.fluid_quorum.specs.After.{is_due, with_member, without, with_accepted}
