@@ -92,16 +92,14 @@ fn enter(rt: &impl Abort, alloc: Global, quorum: &mut Quorum, step: &Step) {
 }
 
 // Looks at what is kept.
-fn look(rt: &impl Abort, quorum: &Quorum, step: &Step) {
+fn look(rt: &impl Abort, alloc: Global, quorum: &Quorum, step: &Step) {
     match step {
         Step::Pending(count) => assert!(rt; quorum.pending().len() == *count, "{count} pending"),
         Step::Value(key, wanted) => assert!(rt; accepted(quorum, *key) == *wanted, "{key}"),
         Step::Member(id, wanted) => assert!(rt; joined(quorum, *id) == *wanted, "{id}"),
         Step::Members(count) => {
-            assert!(rt;
-                quorum.members().as_slice().len() == *count,
-                "{count} members"
-            );
+            let members = quorum.members(alloc).expect(rt, "memory");
+            assert!(rt; members.len() == *count, "{count} members");
         }
         Step::Last(number, minimum) => {
             assert!(rt;
@@ -116,7 +114,7 @@ fn look(rt: &impl Abort, quorum: &Quorum, step: &Step) {
 fn assert_steps(rt: &impl Abort, alloc: Global, quorum: &mut Quorum, steps: &[Step]) {
     for step in steps {
         enter(rt, alloc, quorum, step);
-        look(rt, quorum, step);
+        look(rt, alloc, quorum, step);
     }
 }
 
