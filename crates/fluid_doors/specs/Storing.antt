@@ -23,7 +23,7 @@ abbrev pub has_checkpoints_at : Terms → List Step → Bool × LaneFault
 has_checkpoints_at t l = (nat_le t.limits.checkpoints (stored_in t l), CheckpointsFull)
 
 -- the keeper failed, memory was wanting, or the text of the checkpoint is longer than the document takes. Where it is, the log
--- fails only at a cut that was owed
+-- fails only at a cut that was owed, which it is only behind a side step
 abbrev pub IsStoreFault : Terms → List Step → LaneFault → Type 0
 IsStoreFault t l (LogFailed note) = (text_length l ≤ t.limits.bytes) ⊎ (0 < asides l)
 IsStoreFault t l (DeltaFailed note) = ⊤

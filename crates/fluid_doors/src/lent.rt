@@ -1,11 +1,14 @@
-//! What is done to a document by whoever has its lane in hand. Each clause speaks of every list of steps for which the lane stands.
-ghost use Rattle.std.specs.Prelude.{◌≡◌, ℕ, ◌<◌, ◌≤◌, List, length, IfOk, IfErr, IfSome};
+//! What is done to a document by whoever has its lane in hand. `says` speaks of every list of steps for which the lane stands, and
+//! `gate` of the lane itself: by it a call that a rule refuses fails at the log only where a cut was owed.
+ghost use Rattle.std.specs.Prelude.{◌≡◌, ℕ, ◌<◌, ◌≤◌, List, [], ◌∷◌, length, IfOk, IfErr, IfSome};
 ghost use Rattle.fluid_types.specs.Fits.{Fits};
 ghost use Rattle.fluid_types.specs.Names.{entry_name};
 ghost use Rattle.fluid_document.specs.Entries.{most};
 ghost use Rattle.fluid_core.specs.Entering.{IsUpTo};
 ghost use Rattle.fluid_lane.specs.declared.steps.Step.{Step as AStep};
-ghost use Rattle.fluid_lane.specs.Faults.{IsCausedBy};
+ghost use Rattle.fluid_lane.specs.Faults.{IsCausedBy, IsOutside, IsReadFault};
+ghost use Rattle.fluid_lane.specs.Refusals.{IsGated, is_full, is_full_for, has_too_many, has_checkpoints, has_no_checkpoint};
+ghost use Rattle.fluid_lane.specs.Calls.{Stores, IsStoreFault};
 ghost use Rattle.fluid_lane.specs.Steps.{steps_of, range_steps, entered_by, joined_by, stored_by, restarted_by, swept_by};
 ghost use Rattle.fluid_lane.specs.Standing.{LaneStands, IsLeaveOrSubmission};
 ghost use Rattle.fluid_feed.specs.Tails.{too_many};
@@ -40,6 +43,7 @@ impl<K: Keeper> Bench<K> {
         ensures goes { Continues self.old.lane self.new.lane (steps_of (entered_by raw.now) result) }
         ensures tail { self.new.tail ≡ self.old.tail }
         ensures cause { IfErr result (IsCausedBy self.old.lane.keeping.faults self.new.lane.keeping.faults) }
+        ensures gate { IsGated self.old.lane self.new.lane (is_full_for self.old.lane raw.now ∷ []) IsOutside result }
         ensures says { (l : List AStep) → LaneStands self.old.lane l → Submits (terms_of self.old.lane) raw.now result l }
     {
         lanes_say_their_ledgers();
@@ -59,6 +63,7 @@ impl<K: Keeper> Bench<K> {
         ensures raw { IfOk result (IsJoinOf scopes detail moment) }
         ensures tail { self.new.tail ≡ self.old.tail }
         ensures cause { IfErr result (IsCausedBy self.old.lane.keeping.faults self.new.lane.keeping.faults) }
+        ensures gate { IsGated self.old.lane self.new.lane (is_full self.old.lane ∷ has_too_many self.old.lane ∷ []) IsOutside result }
         ensures says { (l : List AStep) → LaneStands self.old.lane l → Joins (terms_of self.old.lane) scopes detail moment (with_id result) l }
     {
         lanes_say_their_ledgers();
@@ -177,7 +182,8 @@ impl<K: Keeper> Bench<K> {
     pub fn checkpoint(&mut self, alloc: Global) -> Result<u64, LaneFault>
         ensures goes { Continues self.old.lane self.new.lane (steps_of stored_by result) }
         ensures tail { self.new.tail ≡ self.old.tail }
-        ensures cause { IfErr result (IsCausedBy self.old.lane.keeping.faults self.new.lane.keeping.faults) }
+        ensures stores { Stores self.old.lane self.new.lane result }
+        ensures gate { IsGated self.old.lane self.new.lane (has_checkpoints self.old.lane ∷ []) (IsStoreFault self.old.lane) result }
         ensures says { (l : List AStep) → LaneStands self.old.lane l → Checkpoints (terms_of self.old.lane) result l }
     {
         lanes_say_their_ledgers();
@@ -189,6 +195,7 @@ impl<K: Keeper> Bench<K> {
         ensures goes { Continues self.old.lane self.new.lane (steps_of (restarted_by number) result) }
         ensures tail { self.new.tail ≡ self.old.tail }
         ensures cause { IfErr result (IsCausedBy self.old.lane.keeping.faults self.new.lane.keeping.faults) }
+        ensures gate { IsGated self.old.lane self.new.lane (has_no_checkpoint self.old.lane number ∷ []) IsReadFault result }
         ensures says { (l : List AStep) → LaneStands self.old.lane l → Restarts (terms_of self.old.lane) number result l }
     {
         lanes_say_their_ledgers();

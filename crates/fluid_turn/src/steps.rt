@@ -42,6 +42,9 @@ const LOOKS: u64 = 20;
 // How often one sleeps before it draws a ticket that isn't served yet.
 const SLEEPS: u64 = 16;
 
+// Of so many passes one wakes who sleeps without a ticket, also where the next ticket was drawn.
+const ROUSES: u64 = 64;
+
 pub(crate) type Token<T> = Seat<Option<T>, View<<T as Chronicle>::Entry>>;
 
 pub(crate) type Words<T> = Shared<
@@ -267,10 +270,12 @@ pub(crate) fn enter<T: Chronicle, W: Picks<T, T::Entry>>(
 // so that nobody need be woken where none was drawn.
 //
 // Who sleeps without a ticket reads the bell, says that somebody sleeps, looks, and sleeps only while the bell has that
-// number. Whoever has the turn at that look passes on behind it and finds that somebody sleeps, or it was found in between:
-// whoever found it rang the bell, so that this one doesn't fall asleep, or woke one. Who is woken says anew that somebody
-// sleeps, before its own turn ends or before it sleeps again: so as long as somebody sleeps, that is said, or one is awake
-// who will say it.
+// number (its low 32 bits: others would have to ring it 2^32 times between the two). Whoever has the turn at that look passes
+// on behind it. The last one that passes on before nobody has the turn finds that no ticket is drawn and that somebody sleeps,
+// or it was found in between: whoever found it rang the bell, so that this one doesn't fall asleep, or woke one. Who is woken
+// says anew that somebody sleeps, before its own turn ends or before it sleeps again: so as long as somebody sleeps, that is
+// said, or one is awake who will say it. Who draws between the two looks of one that passes on hides the sleepers from it: so
+// now and then one of them is woken all the same.
 pub(crate) fn pass_on<T: Chronicle>(words: &Words<T>, token: &mut Token<T>, ticket: u64)
     requires turn { IsAtTable words.now.table_id token.old.table_id }
     requires holds { (token.old.me.0.stage ≡ Holding ticket) × (ticket < u64.MAX) }
@@ -281,9 +286,11 @@ pub(crate) fn pass_on<T: Chronicle>(words: &Words<T>, token: &mut Token<T>, tick
 {
     let next = ticket + 1;
     words.store::<PassOn>(token, SERVING, next);
-    if words.peek(TICKET) != next {
+    let is_drawn = words.peek(TICKET) != next;
+    if is_drawn {
         ring(words, token, next);
-    } else if words.peek(ASLEEP) != 0 {
+    }
+    if (!is_drawn || next % ROUSES == 0) && words.peek(ASLEEP) != 0 {
         rouse(words, token);
     }
 }
