@@ -5,10 +5,10 @@ mod ScriptComputed
 mod Growing
 mod Rowed
 mod Leaving
-mod Begins
+pub mod Begins
 pub mod Acks
-mod Sounds
-mod Fitting
+pub mod Sounds
+pub mod Fitting
 mod Holding
-mod Stepping
+pub mod Stepping
 mod Steady
