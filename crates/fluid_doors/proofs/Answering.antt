@@ -1,5 +1,5 @@
 -- Which answers a call has, by the list of steps for which its lane stands, from what the lane's gate says.
-use Rattle.std.proofs.Common.{◌≡◌, ℕ, ◌+◌, ◌<◌, ◌≤◌, true, false, Bool, ◌&&◌, List, [], ◌∷◌, length, map, is_some, Option, Some, None, Result, Ok, Err, inl, inr, refl, sym, ap, subst, ◌∙◌, arith}
+use Rattle.std.proofs.Common.{◌≡◌, ℕ, ◌+◌, ◌<◌, ◌≤◌, true, false, Bool, ◌&&◌, List, [], ◌∷◌, length, map, is_some, Option, Some, None, Result, Ok, Err, ◌⊎◌, inl, inr, refl, sym, ap, subst, ◌∙◌, arith}
 use Rattle.std.specs.Prelude.{nat_le, IfOk, IfErr, IfSome, OnOk}
 use Rattle.std.proofs.lemmas.Bool.{false≢true}
 use Rattle.std.proofs.lemmas.Option.{none-some, same_Some}
@@ -395,7 +395,7 @@ store_not_worn s (TooLarge n) may = tt
 store_not_worn s Worn may = may
 
 -- a fault of a checkpoint, with what the keeper tells of one of the log: the text was short enough, or a cut was owed
-StoreFails : Standing → LaneFault → Type 0
+abbrev StoreFails : Standing → LaneFault → Type 0
 StoreFails s (LogFailed note) = (length (checkpoint_text s.entries) ≤ s.limits.bytes) ⊎ (s.owed ≡ true)
 StoreFails s (Full n) = lanes.IsStoreFault s (Full n)
 StoreFails s (BadRecord n) = lanes.IsStoreFault s (BadRecord n)
