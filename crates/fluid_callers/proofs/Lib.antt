@@ -1,9 +1,9 @@
 mod Bytes
-mod Acted
+pub mod Acted
 mod Acts
 mod Apart
 mod Feeds
-mod Ends
+pub mod Ends
 mod Sent
 mod Collected
-mod Departing
+pub mod Departing
