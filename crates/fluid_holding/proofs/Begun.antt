@@ -1,13 +1,13 @@
 -- A container that is loaded behind its client's join.
-use Rattle.std.proofs.Common.{◌≡◌, ◌⊎◌, inl, inr, ℕ, zero, suc, ◌+◌, ◌<◌, ◌≤◌, arith, Bool, true, false, cond, if◌then◌else◌, List, [], ◌∷◌, ◌++◌, length, take, drop, Option, Some, None, IfSome, Result, Ok, Err, refl, sym, ap, subst, ◌∙◌, bytes_eq, option_map, length-drop}
-use Rattle.std.specs.Prelude.{count_by, is_some}
+use Rattle.std.proofs.Common.{◌≡◌, inl, ℕ, zero, suc, ◌+◌, ◌≤◌, arith, Bool, true, false, cond, if◌then◌else◌, List, [], ◌∷◌, ◌++◌, length, take, drop, Option, Some, None, IfSome, Result, Ok, Err, refl, sym, ap, subst, ◌∙◌, bytes_eq, option_map, length-drop}
+use Rattle.std.specs.Prelude.{is_some}
 use Rattle.std.specs.List.{last_or}
 use Rattle.std.specs.Option.{option_or}
 use Rattle.std.proofs.lemmas.List.{take_all}
 use Rattle.std.proofs.lemmas.Slice.Eq.{bytes_eq-Decides}
 use Rattle.fluid_types.specs.Ledger.{Ledger, order, seq}
 use Rattle.fluid_types.specs.Names.{entry_name}
-use Rattle.fluid_types.specs.Order.{AreFirst, AreNumberedFrom}
+use Rattle.fluid_types.specs.Order.{AreNumberedFrom}
 use Rattle.fluid_types.specs.declared.messages.Message.{Message}
 use Rattle.fluid_types.specs.declared.verdicts.Verdict.TheVariants.{Sequenced}
 use Rattle.fluid_tree.specs.declared.id.SummaryRef.{SummaryRef}
@@ -17,34 +17,31 @@ use Rattle.fluid_types.specs.declared.entries.Raw.TheVariants.{Join}
 use Rattle.fluid_json.specs.Tree.{null}
 use Rattle.fluid_edits.specs.declared.edit.Edit.{Edit}
 use Rattle.fluid_rules.specs.Past.{client_behind}
-use Rattle.fluid_rules.specs.Scribe.{handling, is_ack, last_ack, number_of}
+use Rattle.fluid_rules.specs.Scribe.{handling, is_ack, number_of}
 use Rattle.fluid_rules.specs.ScribeLaws.{OrdersAreAnsweredInTurn, summary_acks}
 use Rattle.fluid_rules.specs.declared.limits.Limits.{Limits}
 use Rattle.fluid_rules.proofs.Legal.{ledger-legal, ledger-push}
 use Rattle.fluid_rules.proofs.Growth.{minimum-bounded}
 use Rattle.fluid_rules.proofs.Pushed.{client-push}
 use Rattle.fluid_scribe.proofs.Sequenced.{sequenced-numbered, legal-sequenced}
-use Rattle.fluid_edits.specs.Replay.{Channels, no_channels, replay}
+use Rattle.fluid_edits.specs.Replay.{replay}
 use Rattle.fluid_loader.specs.Calls.{begun_in, begun_of, begun_picked, or_bad}
-use Rattle.fluid_loader.specs.Container.{AContainer, acknowledged, behind, begun, empty, taken_by}
+use Rattle.fluid_loader.specs.Container.{AContainer, behind, begun, empty, taken_by}
 use Rattle.fluid_loader.specs.Laws.{IsReplayBehind}
 use Rattle.fluid_loader.specs.Link.{picked}
 use Rattle.fluid_loader.specs.Link as link
 use Rattle.fluid_loader.specs.Version.{AVersion, version_at}
-use Rattle.fluid_loader.specs.declared.fault.LoadFault.{LoadFault}
 use Rattle.fluid_loader.specs.declared.link.Pick.{Pick}
 use Rattle.fluid_loader.specs.declared.link.Pick.TheVariants.{Empty, Latest, Handle}
 use Rattle.fluid_loader.proofs.Orders.{drop_numbered, behind_number}
-use Rattle.fluid_store.specs.Held.{Held}
-use Rattle.fluid_voice.specs.declared.refusals.ConnectRefusal.{ConnectRefusal}
 use Rattle.fluid_transcript.specs.World.{Container, Document, World, ledger_of, with_entries}
-use Rattle.fluid_transcript.specs.Containers.{all_scopes, id_of, last, head, Loading, loaded, loading, loading_by, join_for, joining, join_refusal, begun_at, begun_from, begun_with}
+use Rattle.fluid_transcript.specs.Containers.{all_scopes, last, head, loading, loading_by, join_for, joining, join_refusal, begun_at, begun_from, begun_with}
 use Rattle.fluid_transcript.specs.Containers.{begun as begun_there}
 use Rattle.fluid_transcript.specs.Laws.{NothingWasTaken}
 use Rattle.fluid_transcript.specs.Sound.{IsAcknowledged}
 use Rattle.fluid_transcript.proofs.Acks.{acknowledged_below, handle_acknowledged, head_since, last_acknowledged}
 use Rattle.fluid_transcript.proofs.Fitting.{length_ledger}
-use Rattle.fluid_holding.specs.Holding.{IsContainerOf, IsWithin}
+use Rattle.fluid_holding.specs.Holding.{IsWithin}
 use Rattle.fluid_holding.specs.Laws.{IsLoaded, LoadsAs, LoadsAsDefined, joined_in}
 use Rattle.fluid_holding.proofs.Caught.{last_behind, pending_behind, seq_is}
 

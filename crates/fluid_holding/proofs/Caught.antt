@@ -1,13 +1,13 @@
 -- A container that takes in messages.
-use Rattle.std.proofs.Common.{◌≡◌, ℕ, zero, suc, ◌+◌, ◌≤◌, arith, Bool, true, false, cond, ◌&&◌, if◌then◌else◌, List, [], ◌∷◌, ◌++◌, length, take, drop, Option, Some, None, IfSome, option_map, refl, sym, ap, subst, ◌∙◌, append_assoc, append-nil, length-append, length-drop}
-use Rattle.std.specs.Prelude.{count_by, filter, is_some, option_to_list}
+use Rattle.std.proofs.Common.{◌≡◌, ℕ, zero, suc, ◌+◌, ◌≤◌, arith, Bool, true, false, cond, ◌&&◌, if◌then◌else◌, List, [], ◌∷◌, ◌++◌, length, take, drop, Option, Some, None, IfSome, option_map, refl, sym, ap, subst, ◌∙◌, append_assoc, append-nil, length-drop}
+use Rattle.std.specs.Prelude.{count_by, option_to_list}
 use Rattle.std.specs.List.{last_or}
 use Rattle.std.specs.Option.{option_or}
 use Rattle.std.proofs.lemmas.List.{take_all, take-append-drop, drop-append-le, length-take-le}
 use Rattle.std.proofs.lemmas.List.Elements.{filter-append}
 use Rattle.std.proofs.lemmas.List.Sums.{sum_by-cons}
 use Rattle.fluid_types.specs.Ledger.{Ledger, order, seq}
-use Rattle.fluid_types.specs.Order.{AreFirst, AreNumberedFrom}
+use Rattle.fluid_types.specs.Order.{AreNumberedFrom}
 use Rattle.fluid_types.specs.declared.messages.Message.{Message}
 use Rattle.fluid_tree.specs.declared.id.SummaryRef.{SummaryRef}
 use Rattle.fluid_rules.specs.Rules.{IsLegal, client}
@@ -20,12 +20,12 @@ use Rattle.fluid_scribe.proofs.Sequenced.{sequenced-numbered, legal-sequenced}
 use Rattle.fluid_edits.specs.declared.edit.Edit.{Edit}
 use Rattle.fluid_edits.specs.Laws.{IsReplayedOn}
 use Rattle.fluid_edits.specs.Replay.{replay}
-use Rattle.fluid_runtime.specs.App.{is_op, left}
+use Rattle.fluid_runtime.specs.App.{is_op}
 use Rattle.fluid_loader.specs.Container.{AContainer, acknowledged, is_from, taken_by, behind}
 use Rattle.fluid_loader.specs.Laws.{IsReplayBehind}
 use Rattle.fluid_loader.proofs.Orders.{drop_numbered, behind_number}
 use Rattle.fluid_transcript.specs.World.{Container}
-use Rattle.fluid_transcript.specs.Containers.{id_of, channels, last, head, own_ops, caught_up}
+use Rattle.fluid_transcript.specs.Containers.{channels, last, head, own_ops, caught_up}
 use Rattle.fluid_holding.specs.Holding.{IsContainerOf, IsWithin}
 use Rattle.fluid_holding.specs.Laws.{Stands, TakesInAsDefined}
 

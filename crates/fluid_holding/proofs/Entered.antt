@@ -1,16 +1,14 @@
 -- What entries leave of a container: those of others, and its client's next submission.
-use Rattle.std.proofs.Common.{◌≡◌, ◌⊎◌, inl, inr, ℕ, ◌+◌, ◌<◌, ◌≤◌, arith, ℤ, pos, Bool, true, false, cond, not, ◌&&◌, ◌||◌, if◌then◌else◌, int_lt, List, [], ◌∷◌, ◌++◌, length, drop, bytes_eq, Option, Some, None, IfSome, option_map, refl, sym, ap, subst, ◌∙◌, append_assoc, append-nil}
+use Rattle.std.proofs.Common.{◌≡◌, ◌⊎◌, inl, inr, ℕ, ◌+◌, ◌<◌, ◌≤◌, arith, pos, Bool, true, false, cond, not, ◌&&◌, ◌||◌, if◌then◌else◌, int_lt, List, [], ◌∷◌, ◌++◌, drop, bytes_eq, Option, Some, None, IfSome, option_map, refl, sym, ap, subst, ◌∙◌, append_assoc, append-nil}
 use Rattle.std.specs.Prelude.{All, count_by, nat_le}
 use Rattle.std.proofs.lemmas.Bool.{leb-true, ltb-true}
 use Rattle.std.proofs.lemmas.List.{drop-append-le}
 use Rattle.std.proofs.lemmas.List.Elements.{All-head, All-tail, All-cons, All-nil}
 use Rattle.std.proofs.lemmas.List.Sums.{sum_by-append, sum_by-cons}
 use Rattle.std.proofs.lemmas.Slice.Eq.{bytes_eq-Decides}
-use Rattle.fluid_json.specs.Tree.{Tree}
 use Rattle.fluid_types.specs.Ledger.{Ledger, seq}
 use Rattle.fluid_types.specs.declared.entries.Raw.{Raw}
 use Rattle.fluid_types.specs.declared.entries.Raw.TheVariants.{Join, Leave, Submit, Report}
-use Rattle.fluid_types.specs.declared.entries.Scopes.{Scopes}
 use Rattle.fluid_types.specs.declared.entries.Submission.{Submission}
 use Rattle.fluid_types.specs.declared.messages.Message.{Message}
 use Rattle.fluid_types.specs.declared.nacks.Nack.{Nack}
@@ -20,7 +18,7 @@ use Rattle.fluid_types.specs.declared.verdicts.Verdict.{Verdict}
 use Rattle.fluid_types.specs.declared.verdicts.Verdict.TheVariants.{Sequenced, Nacked, Dropped, Absorbed}
 use Rattle.fluid_rules.specs.Past.{Client, Entry, is_below, is_sequenced, client_behind, client_heard, client_submitting, count_of, read_as}
 use Rattle.fluid_rules.specs.Laws.{IsTaken}
-use Rattle.fluid_rules.specs.Rules.{IsLegal, client, is_joined, last_number, reference, minimum, verdict, submission_verdict, nack, message, unsettled, sequenced, first_case, leaves_reference, is_duplicate, leaves_gap, is_nonexistent, is_below_minimum, is_ahead, lacks_scope, is_absorbed}
+use Rattle.fluid_rules.specs.Rules.{client, is_joined, last_number, reference, minimum, verdict, submission_verdict, nack, message, unsettled, sequenced, first_case, leaves_reference, is_duplicate, leaves_gap, is_nonexistent, is_below_minimum, is_ahead, lacks_scope, is_absorbed}
 use Rattle.fluid_rules.proofs.Clients.{client-joined, client-stranger}
 use Rattle.fluid_rules.proofs.Minimum.{minimum-is_least}
 use Rattle.fluid_rules.proofs.Legal.{legal-last}

@@ -1,5 +1,5 @@
 -- A store that holds each object under its own id goes on doing so.
-use Rattle.std.proofs.Common.{◌≡◌, ℕ, ◌==◌, Bool, true, false, cond, if◌then◌else◌, List, [], ◌∷◌, ◌++◌, length, fold, flat_map, Option, Some, None, Result, Ok, Err, bytes_eq, refl, sym, ap, subst, ◌∙◌}
+use Rattle.std.proofs.Common.{◌≡◌, ℕ, ◌==◌, Bool, true, false, cond, if◌then◌else◌, List, [], ◌∷◌, ◌++◌, length, fold, Option, Some, None, Result, Ok, Err, bytes_eq, refl, sym, ap, ◌∙◌}
 use Rattle.std.specs.Prelude.{nat_le, nat_lt}
 use Rattle.std.specs.List.{AllByRecursion}
 use Rattle.std.specs.Option.{option_map_or}
@@ -37,13 +37,13 @@ use Rattle.fluid_voice.specs.Ends.Outcome.{ends, clashes}
 use Rattle.fluid_voice.specs.declared.actions.Act.{Act}
 use Rattle.fluid_voice.specs.declared.actions.Act.TheVariants as act
 use Rattle.fluid_lane.specs.Laws.{first_silent_in}
-use Rattle.fluid_transcript.specs.World.{Document, Container, World, new_document, document, with_entries, farewells, is_open, ledger_of, Effect, Told, says, does}
+use Rattle.fluid_transcript.specs.World.{Document, Container, World, new_document, document, with_entries, farewells, is_open, ledger_of, Effect, says, does}
 use Rattle.fluid_transcript.specs.Lines.{full_line, large_line, stored_line}
 use Rattle.fluid_transcript.specs.Connections.{Hearing, hear, hearing, behind_act, found_by, hear_act, acts_for}
 use Rattle.fluid_transcript.specs.Documents.{version_object, version_objects, objects_for, is_found, reported, scribed_by, stored, checkpointed, checkpoint_of, swept_by}
 use Rattle.fluid_transcript.specs.Containers.{channels, visible, pumped, edited_by, beaten, summarized_by, summarized, showing}
 use Rattle.fluid_transcript.specs.Steps.{about, container_of, on_container, edit_effect, effect, beyond}
-use Rattle.fluid_transcript.specs.Transcript.{readied, done_in, done_on, done, at_line, done_as, taken}
+use Rattle.fluid_transcript.specs.Transcript.{readied, done_in, done_on, done, at_line, done_as}
 use Rattle.fluid_holding.specs.Holding.{HoldsOwn}
 use Rattle.fluid_holding.specs.Laws.{OwnedStaysOwned}
 
@@ -115,6 +115,7 @@ IsOwn o = o.id ≡ sha1 o.bytes
 
 mutual
   unfolding objects keyed
+
   pub objects_own : (s : Summary) → Own (objects s)
   objects_own (blob content) = (refl, tt)
   objects_own (tree nodes) =

@@ -1,8 +1,7 @@
 -- The contents of an edit that is read are no longer and no deeper than the text's value.
-use Rattle.std.proofs.Common.{◌≡◌, ℕ, suc, ◌+◌, ◌<◌, ◌≤◌, max, ℤ, Bool, true, false, cond, if◌then◌else◌, List, [], ◌∷◌, ◌++◌, length, length-append, Option, Some, None, option_and_then, option_map, Result, Ok, Err, bytes_eq, codes, refl, sym, ap, subst, ◌∙◌, arith, find}
+use Rattle.std.proofs.Common.{◌≡◌, ℕ, ◌+◌, ◌≤◌, max, ℤ, Bool, true, false, cond, if◌then◌else◌, List, [], ◌∷◌, ◌++◌, length, length-append, Option, Some, None, option_and_then, option_map, Result, Ok, Err, bytes_eq, codes, refl, sym, ap, subst, ◌∙◌, arith}
 use Rattle.std.specs.List.{AllByRecursion}
-use Rattle.std.specs.Ordering.{is_eq, nat_cmp}
-use Rattle.std.specs.Cmp.Lexicographic.{slice_cmp}
+use Rattle.std.specs.Ordering.{is_eq}
 use Rattle.std.proofs.lemmas.Map.Text.{is_eq-slice_cmp}
 use Rattle.std.proofs.lemmas.Slice.Eq.{bytes_eq-Decides}
 use Rattle.json.specs.Print.{quoted}
@@ -20,11 +19,8 @@ use Rattle.fluid_edits.specs.declared.edit.ChannelKind.TheVariants.{Map, Counter
 use Rattle.fluid_edits.specs.declared.edit.Edit.{Edit}
 use Rattle.fluid_edits.specs.declared.edit.Edit.TheVariants.{Attach, Set, Delete, Clear, Increment}
 use Rattle.fluid_edits.specs.Forms.{kind_word, kind_named, verb_named, text_at, name_at, is_attach, attaching, plain, plain_value, setting, deleting, incrementing, by_verb, spoken, speaking, edit_in, to_channel, typed, contents_of}
-use Rattle.fluid_codec.specs.Laws.{IsNested}
-use Rattle.fluid_readback.specs.Laws.{longest_text}
 use Rattle.fluid_readback.proofs.Values.{read_below}
-use Rattle.fluid_steps.specs.Ops.{held_back, contents_spelled, op_of, op_spelled}
-use Rattle.fluid_loader.specs.Fitting.{most_contents}
+use Rattle.fluid_steps.specs.Ops.{held_back, op_of, op_spelled}
 use Rattle.fluid_holding.specs.Laws.{OpsAreShort}
 
 -- ---- a value under another one

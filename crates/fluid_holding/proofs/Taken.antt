@@ -29,8 +29,7 @@ use Rattle.fluid_store.specs.Fetching.{◌>>=◌, child_by, fetched, found, node
 use Rattle.fluid_store.specs.Following.{AnEarlier, at_end, earlier_at, onward, place_of, places_in, places_of}
 use Rattle.fluid_store.specs.Parts.{Leads, Named, blob_part, leads_in, part_or, part_over, part_within, parts_within, place_part, tree_part, unrefused, objects_over}
 use Rattle.fluid_store.specs.declared.fault.StoreFault.{StoreFault}
-use Rattle.fluid_loader.specs.Container.{AContainer}
-use Rattle.fluid_loader.specs.Laws.{AreNamed, IsBased, IsBasedOn, IsSinceTree}
+use Rattle.fluid_loader.specs.Laws.{AreNamed, IsBasedOn, IsSinceTree}
 use Rattle.fluid_loader.proofs.Fetched.{of_blob, of_tree}
 use Rattle.fluid_holding.specs.Laws.{BasedTreesAreTaken, IsTaken}
 

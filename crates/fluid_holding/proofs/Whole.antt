@@ -1,5 +1,5 @@
 -- The tree that a container uploads over its base is the whole one, where each object is held under its own id.
-use Rattle.std.proofs.Common.{◌≡◌, ◌⊎◌, inl, inr, ℕ, suc, Bool, true, false, cond, not, if◌then◌else◌, List, [], ◌∷◌, ◌++◌, length, map, fold, Option, Some, None, is_some, Result, Ok, Err, bytes_eq, codes, refl, sym, ap, subst, ◌∙◌, append_assoc}
+use Rattle.std.proofs.Common.{◌≡◌, ◌⊎◌, inl, inr, ℕ, suc, Bool, true, false, cond, not, if◌then◌else◌, List, [], ◌∷◌, ◌++◌, map, fold, Option, Some, None, is_some, Result, Ok, Err, bytes_eq, refl, sym, ap, subst, ◌∙◌, append_assoc}
 use Rattle.std.specs.List.{AllByRecursion}
 use Rattle.std.specs.Option.{unwrap_or}
 use Rattle.std.specs.FinMap.{empty, entries, get, get-empty, insert}
@@ -12,7 +12,7 @@ use Rattle.fluid_table.specs.Table.{Values, byte_order}
 use Rattle.fluid_table.proofs.Places.{get_inserted}
 use Rattle.fluid_tree.specs.Names.{first_refused}
 use Rattle.fluid_tree.specs.Object.{is_tree_object, object_bytes, tree_bytes}
-use Rattle.fluid_tree.specs.Summary.{Summary, blob, tree, handle, Children, no_children, child, children, is_tree, names}
+use Rattle.fluid_tree.specs.Summary.{Summary, blob, tree, handle, Children, no_children, child, children, is_tree}
 use Rattle.fluid_tree.specs.declared.object.Object.{Object}
 use Rattle.fluid_tree.specs.declared.object.Object.TheVariants.{Blob, Tree}
 use Rattle.fluid_tree.specs.declared.object.ObjectEntry.{ObjectEntry}
@@ -24,18 +24,17 @@ use Rattle.fluid_store.specs.Fetching.{◌>>=◌, child_by, fetched, found, is_o
 use Rattle.fluid_store.specs.Following.{at_end, onward, place_of, places_of}
 use Rattle.fluid_store.specs.Laws.{HeldOnesAreLeftOut, IsFetchedStanding, IsLeftOut}
 use Rattle.fluid_store.specs.Listed.{Keyed, object_of, in_key_order, joined, keyed, objects, own_bytes, own_entries}
-use Rattle.fluid_store.specs.Parts.{Leads, Named, bytes_of, entry_of, keyed_parts, leads_in, objects_over, part_or, part_over, part_within, parts_within, tree_part, unrefused}
+use Rattle.fluid_store.specs.Parts.{Leads, Named, bytes_of, entry_of, keyed_parts, leads_in, objects_over, part_or, part_within, parts_within}
 use Rattle.fluid_store.specs.Putting.{putting}
 use Rattle.fluid_store.specs.Standing.{Stands, AllStand}
 use Rattle.fluid_store.specs.declared.fault.StoreFault.{StoreFault}
 use Rattle.fluid_store.specs.declared.fault.StoreFault.TheVariants.{BadObject}
 use Rattle.fluid_store.specs.declared.listing.StoredObject.{StoredObject}
-use Rattle.fluid_loader.specs.Container.{AContainer}
-use Rattle.fluid_loader.specs.Laws.{AreNamed, IsBased, IsBasedOn, IsSinceTree}
+use Rattle.fluid_loader.specs.Laws.{AreNamed, IsBasedOn, IsSinceTree}
 use Rattle.fluid_loader.proofs.Fetched.{of_blob}
 use Rattle.fluid_transcript.specs.Containers.{app_id}
 use Rattle.fluid_holding.specs.Holding.{HoldsOwn}
-use Rattle.fluid_holding.specs.Laws.{BasedTreesAreWhole, IsWhole}
+use Rattle.fluid_holding.specs.Laws.{BasedTreesAreWhole}
 use Rattle.fluid_holding.proofs.Owned.{each_append, in_order_each}
 use Rattle.fluid_holding.proofs.Taken.{Has, earlier, earlier_is, each_found, each_so, first_with, has_name, has_place, names_good, no_ok, ok_same, root, tree_is}
 
@@ -50,6 +49,7 @@ IsHeld held o = get held o.id ≡ Some o.bytes
 module _ (held : Held) (own : HoldsOwn held) where
   mutual
     unfolding own_bytes own_entries
+
     stands_own : (s : Summary) (id : List ℕ) → Stands held id s → (get held id ≡ Some (own_bytes s)) × (id ≡ sha1 (own_bytes s))
     stands_own (blob content) id stands = (stands, own id (object_bytes (Blob content)) stands)
     stands_own (tree nodes) id stands =
@@ -71,6 +71,7 @@ module _ (held : Held) (own : HoldsOwn held) where
 
   mutual
     unfolding objects keyed
+
     objects_held : (s : Summary) (id : List ℕ) → Stands held id s → AllByRecursion (IsHeld held) (objects s)
     objects_held (blob content) id stands = (own_held (blob content) id stands, tt)
     objects_held (tree nodes) id stands =

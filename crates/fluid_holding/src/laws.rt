@@ -4,8 +4,8 @@ ghost use Rattle.fluid_holding.specs.Laws.{BasedTreesAreTaken, BasedTreesAreWhol
 
 use fluid_edits::laws::replay_goes_on;
 use fluid_loader::laws::messages_are_replayed;
-use fluid_runtime::laws::unmarked_apps_give_no_handle;
 use fluid_rules::laws::{acks_are_summary_acks, orders_are_answered_in_turn};
+use fluid_runtime::laws::unmarked_apps_give_no_handle;
 use fluid_store::laws::{held_objects_are_left_out, what_is_fetched_stands};
 use fluid_transcript::laws::containers;
 
