@@ -32,7 +32,7 @@ use Rattle.fluid_lane.specs.Faults.{IsOutside, IsLogFailed}
 use Rattle.fluid_lane.specs.Steps.{ledger, fault_steps}
 use Rattle.fluid_lane.specs.Standing.{Standing, AreNamed, LaneStands, Goes, is_worn}
 use Rattle.fluid_lane.specs.Refusals.{IsGated, IsCause, IsCutFailed, first_refusal, is_full, is_full_for, has_too_many}
-use Rattle.fluid_lane.specs.Calls.{Enters, settled}
+use Rattle.fluid_lane.specs.Calls.{Enters, cut_back}
 use Rattle.fluid_lane.specs.Laws.{SaysOf, LaneSays}
 use Rattle.fluid_voice.specs.declared.actions.Act.{Act}
 use Rattle.fluid_voice.specs.declared.actions.Act.TheVariants as act
@@ -71,21 +71,21 @@ keeps_record bytes k = record { count = refl; texts = texts_map (add_record byte
 keeps_roomed : (d : Pushed) (k : Keeping) → KeepsCheckpoints k (roomed d k)
 keeps_roomed d k = record { count = refl; texts = texts_map (put_behind (for_room d k.deltas)) k.content (λ c. refl) }
 
-keeps_settled : (s : Standing) → KeepsCheckpoints s.keeping (settled s)
+keeps_settled : (s : Standing) → KeepsCheckpoints s.keeping (cut_back s)
 keeps_settled s = by s.owed
   where
     by : (owed : Bool) → KeepsCheckpoints s.keeping (if owed then cut_to s.entries.entered s.keeping else s.keeping)
     by true = record { count = refl; texts = texts_map (keep_records s.entries.entered) s.keeping.content (λ c. refl) }
     by false = record { count = refl; texts = refl }
 
-pub keeps_entered : (bytes : List ℕ) (old new : Standing) → KeepsSame (with_record bytes (roomed old.messages (settled old))) new.keeping → KeepsCheckpoints old.keeping new.keeping
+pub keeps_entered : (bytes : List ℕ) (old new : Standing) → KeepsSame (with_record bytes (roomed old.messages (cut_back old))) new.keeping → KeepsCheckpoints old.keeping new.keeping
 keeps_entered bytes old new same =
-    keeps_then old.keeping (settled old) new.keeping (keeps_settled old)
-    (keeps_then (settled old) (roomed old.messages (settled old)) new.keeping (keeps_roomed old.messages (settled old))
-    (keeps_then (roomed old.messages (settled old)) (with_record bytes (roomed old.messages (settled old))) new.keeping (keeps_record bytes (roomed old.messages (settled old))) (keeps_same _ new.keeping same)))
+    keeps_then old.keeping (cut_back old) new.keeping (keeps_settled old)
+    (keeps_then (cut_back old) (roomed old.messages (cut_back old)) new.keeping (keeps_roomed old.messages (cut_back old))
+    (keeps_then (roomed old.messages (cut_back old)) (with_record bytes (roomed old.messages (cut_back old))) new.keeping (keeps_record bytes (roomed old.messages (cut_back old))) (keeps_same _ new.keeping same)))
 
-pub keeps_refused : (old new : Standing) → KeepsSame (settled old) new.keeping → KeepsCheckpoints old.keeping new.keeping
-keeps_refused old new same = keeps_then old.keeping (settled old) new.keeping (keeps_settled old) (keeps_same (settled old) new.keeping same)
+pub keeps_refused : (old new : Standing) → KeepsSame (cut_back old) new.keeping → KeepsCheckpoints old.keeping new.keeping
+keeps_refused old new same = keeps_then old.keeping (cut_back old) new.keeping (keeps_settled old) (keeps_same (cut_back old) new.keeping same)
 
 -- ---- refused entries
 

@@ -16,7 +16,7 @@ use Rattle.fluid_clients.specs.declared.table.Row.{Row}
 use Rattle.fluid_clients.specs.declared.table.Seat.{Seat}
 use Rattle.fluid_clients.specs.Table.{Rows, least}
 use Rattle.fluid_clients.specs.Index.{Holds, IsLeastHeld, itself}
-use Rattle.fluid_clients.specs.Seats.{id_of, row_of, slots_of, times, AreHeld, IsIndexed, IsKept}
+use Rattle.fluid_clients.specs.Seats.{id_of, row_of, slots_of, times, AreHeld, IsIndexed, AreSeated}
 use Rattle.fluid_clients.proofs.Winners.{within}
 use Rattle.fluid_clients.proofs.Indexed.{hit-same, hit-other, empty-held, seat-slot, left, reseated, unmoved, free-slot, seated, slot-more}
 
@@ -113,7 +113,7 @@ least-indexed seats index free (Some m) order indexed least_is =
 
 -- ---- changes of a client's seat
 
-module _ (seats : List Seat) (index : List (Option ℕ)) (free : List ℕ) (room more : ℕ) (kept : IsKept seats index free room more) (id : List ℕ) (at : ℕ) (is : IsAt id_of seats id at) (s : Seat) (read : s ≡ get_or seats at s) where
+module _ (seats : List Seat) (index : List (Option ℕ)) (free : List ℕ) (room more : ℕ) (kept : AreSeated seats index free room more) (id : List ℕ) (at : ℕ) (is : IsAt id_of seats id at) (s : Seat) (read : s ≡ get_or seats at s) where
   same_slot : s.slot ≡ (get_or seats at s).slot
   same_slot = ap (λ (seat : Seat). seat.slot) read
 
@@ -126,7 +126,7 @@ module _ (seats : List Seat) (index : List (Option ℕ)) (free : List ℕ) (room
   pub rows-left : rows_in (remove seats at) ≡ finite.remove (rows_in seats) id
   rows-left = remove_there id_of row_of seats kept.order id at is s
 
-  pub kept-left : IsKept (remove seats at) (set index s.slot None) (free ++ s.slot ∷ []) room more
+  pub kept-left : AreSeated (remove seats at) (set index s.slot None) (free ++ s.slot ∷ []) room more
   kept-left = record {
     order = in_order_removed id_of row_of seats kept.order id at is s;
     indexed = subst (λ i. IsIndexed (remove seats at) (set index i None) (free ++ i ∷ [])) (sym same_slot) (left seats index free at s kept.indexed is.in_range);
@@ -159,7 +159,7 @@ module _ (seats : List Seat) (index : List (Option ℕ)) (free : List ℕ) (room
     pub rows-changed : rows_in (set seats at reseat) ≡ finite.insert (rows_in seats) id new
     rows-changed = insert_there id_of row_of seats kept.order id at is reseat same_id
 
-    pub kept-changed : IsKept (set seats at reseat) (set index s.slot (Some new.reference)) free room more
+    pub kept-changed : AreSeated (set seats at reseat) (set index s.slot (Some new.reference)) free room more
     kept-changed = record {
       order = in_order_set id_of row_of seats kept.order id at is reseat same_id;
       indexed = subst (λ i. IsIndexed (set seats at reseat) (set index i (Some new.reference)) free) (sym same_slot) (reseated seats index free at s kept.indexed is.in_range reseat same_slot);
@@ -167,7 +167,7 @@ module _ (seats : List Seat) (index : List (Option ℕ)) (free : List ℕ) (room
       freed = (let le = kept.freed in omega (arith, le, length-set index s.slot (Some new.reference)));
     }
 
-    pub kept-heard : new.reference ≡ s.row.reference → IsKept (set seats at reseat) index free room more
+    pub kept-heard : new.reference ≡ s.row.reference → AreSeated (set seats at reseat) index free room more
     kept-heard same = record {
       order = in_order_set id_of row_of seats kept.order id at is reseat same_id;
       indexed = unmoved seats index free at s kept.indexed is.in_range reseat same_slot (same ∙ ap (λ (seat : Seat). seat.row.reference) read);
@@ -177,14 +177,14 @@ module _ (seats : List Seat) (index : List (Option ℕ)) (free : List ℕ) (room
 
 -- ---- a client that joins
 
-pub slot-free : (seats : List Seat) (index : List (Option ℕ)) (free : List ℕ) (slot room more : ℕ) → IsKept seats index (free ++ slot ∷ []) room more → slot < length index
+pub slot-free : (seats : List Seat) (index : List (Option ℕ)) (free : List ℕ) (slot room more : ℕ) → AreSeated seats index (free ++ slot ∷ []) room more → slot < length index
 slot-free seats index free slot room more kept = free-slot seats index free slot kept.indexed
 
-module _ (seats : List Seat) (index : List (Option ℕ)) (free : List ℕ) (slot room more : ℕ) (kept : IsKept seats index (free ++ slot ∷ []) room more) (at : ℕ) (s : Seat) (same : s.slot ≡ slot) (gap : IsGap id_of seats (id_of s) at) where
+module _ (seats : List Seat) (index : List (Option ℕ)) (free : List ℕ) (slot room more : ℕ) (kept : AreSeated seats index (free ++ slot ∷ []) room more) (at : ℕ) (s : Seat) (same : s.slot ≡ slot) (gap : IsGap id_of seats (id_of s) at) where
   pub rows-joined : rows_in (insert seats at s) ≡ finite.insert (rows_in seats) (id_of s) s.row
   rows-joined = insert_gap id_of row_of seats kept.order (id_of s) at gap s refl
 
-  pub kept-joined : IsKept (insert seats at s) (set index slot (Some s.row.reference)) free room more
+  pub kept-joined : AreSeated (insert seats at s) (set index slot (Some s.row.reference)) free room more
   kept-joined = record {
     order = in_order_inserted id_of row_of seats kept.order (id_of s) at gap s refl;
     indexed = seated seats index free slot kept.indexed at s same gap.in_range;
@@ -199,8 +199,8 @@ module _ (seats : List Seat) (index : List (Option ℕ)) (free : List ℕ) (slot
 
 -- ---- one slot more
 
-pub kept-more : (seats : List Seat) (index : List (Option ℕ)) (free : List ℕ) (room more new_room new_more : ℕ) → IsKept seats index free room more → suc (length index) ≤ new_room → suc (length index) ≤ new_more →
-    IsKept seats (index ++ None ∷ []) (free ++ length index ∷ []) new_room new_more
+pub kept-more : (seats : List Seat) (index : List (Option ℕ)) (free : List ℕ) (room more new_room new_more : ℕ) → AreSeated seats index free room more → suc (length index) ≤ new_room → suc (length index) ≤ new_more →
+    AreSeated seats (index ++ None ∷ []) (free ++ length index ∷ []) new_room new_more
 kept-more seats index free room more new_room new_more kept le le_more =
     let sum = length-append index (None ∷ []) in
     record {
@@ -211,7 +211,7 @@ kept-more seats index free room more new_room new_more kept le le_more =
     }
 
 -- more room
-pub roomier : (seats : List Seat) (index : List (Option ℕ)) (free : List ℕ) (room more new_room new_more : ℕ) → IsKept seats index free room more → room ≤ new_room → more ≤ new_more → IsKept seats index free new_room new_more
+pub roomier : (seats : List Seat) (index : List (Option ℕ)) (free : List ℕ) (room more new_room new_more : ℕ) → AreSeated seats index free room more → room ≤ new_room → more ≤ new_more → AreSeated seats index free new_room new_more
 roomier seats index free room more new_room new_more kept le le_more = record {
   order = kept.order;
   indexed = kept.indexed;

@@ -42,7 +42,7 @@ pub record IsIndexed (seats : List Seat) (index : List (Option ℕ)) (free : Lis
   pub count : length seats + length free ≡ length index
 
 -- the seats are in order and indexed, and for each slot there is room for a seat, and in the list of free slots
-pub record IsKept (seats : List Seat) (index : List (Option ℕ)) (free : List ℕ) (room more : ℕ) : Type 0 where
+pub record AreSeated (seats : List Seat) (index : List (Option ℕ)) (free : List ℕ) (room more : ℕ) : Type 0 where
   pub order : IsInOrder id_of row_of seats
   pub indexed : IsIndexed seats index free
   pub seated : length index ≤ room

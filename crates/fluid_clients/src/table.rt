@@ -5,7 +5,7 @@ ghost use Rattle.std.specs.FinMap.{empty, get, insert, remove, len, keys};
 ghost use Rattle.fluid_table.specs.Keyed.{IsInOrder, IsAt, IsGap, table_of};
 ghost use Rattle.fluid_clients.specs.Table.{change_row, least, least_with, rows_up_to, IsFewSteps};
 ghost use Rattle.fluid_clients.specs.Index.{IsLeastHeld, itself};
-ghost use Rattle.fluid_clients.specs.Seats.{id_of, row_of, seat_up_to, IsIndexed, IsKept};
+ghost use Rattle.fluid_clients.specs.Seats.{id_of, row_of, seat_up_to, IsIndexed, AreSeated};
 
 use crate::index::{Least, Rank};
 use crate::steps::Steps;
@@ -52,7 +52,7 @@ impl Model for Clients {
     ghost use Rattle.std.specs.Prelude.{length, vec_capacity};
     ghost use Rattle.fluid_table.specs.Keyed.{table_of};
     ghost use Rattle.fluid_clients.specs.Table.{Table, table_code};
-    ghost use Rattle.fluid_clients.specs.Seats.{IsKept, id_of, row_of};
+    ghost use Rattle.fluid_clients.specs.Seats.{AreSeated, id_of, row_of};
 
     ghost Value = { Table };
 
@@ -60,7 +60,7 @@ impl Model for Clients {
 
     ghost view = { λ c. record { rows = table_of id_of row_of c.seats.items; spare = length c.free.items } };
 
-    ghost invariant = { λ c. IsKept c.seats.items c.index c.free.items (vec_capacity c.seats) (vec_capacity c.free) };
+    ghost invariant = { λ c. AreSeated c.seats.items c.index c.free.items (vec_capacity c.seats) (vec_capacity c.free) };
 }
 
 impl Clients {

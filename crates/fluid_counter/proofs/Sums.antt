@@ -6,7 +6,7 @@ use Rattle.std.proofs.lemmas.Int.{ints, fits_signed_from_abs}
 use Rattle.std.proofs.lemmas.List.Sums.{sum-map, sum_by-cons, sum_by_push}
 use Rattle.fluid_counter.specs.Counter.{sum_of, replay, greatest_size}
 use Rattle.fluid_counter.specs.Laws.{IsReplayedOn, IsIncrement, IsRoomy}
-use Rattle.fluid_counter.specs.Totals.{IsKept}
+use Rattle.fluid_counter.specs.Totals.{AreTotals}
 
 pub sum_of-append : (before behind : List ℤ) → sum_of (before ++ behind) ≡ sum_of before +ℤ sum_of behind
 sum_of-append [] behind = omega (arith, ints)
@@ -33,7 +33,7 @@ fits z small = fits_signed_from_abs w128 z small
 
 -- ---- what is kept
 
-module _ {total : ℤ} {pending : List ℤ} {sum_kept : ℤ} {size_kept : ℕ} (kept : IsKept total pending sum_kept size_kept) where
+module _ {total : ℤ} {pending : List ℤ} {sum_kept : ℤ} {size_kept : ℕ} (kept : AreTotals total pending sum_kept size_kept) where
   pub size-sum_kept : unsigned_abs sum_kept ≤ size_kept
   size-sum_kept = rw (kept.sum_is, kept.size_is) (size-sum_of pending)
 
@@ -46,7 +46,7 @@ module _ {total : ℤ} {pending : List ℤ} {sum_kept : ℤ} {size_kept : ℕ} (
   pub shown-fits : FitsSigned w128 (total +ℤ sum_kept)
   shown-fits = fits (total +ℤ sum_kept) (omega (arith, kept.bounded, kept.size_is, size-sum_kept, size-add total sum_kept))
 
-module _ {total : ℤ} {pending : List ℤ} {sum_kept : ℤ} {size_kept : ℕ} (kept : IsKept total pending sum_kept size_kept) (amount : ℤ)
+module _ {total : ℤ} {pending : List ℤ} {sum_kept : ℤ} {size_kept : ℕ} (kept : AreTotals total pending sum_kept size_kept) (amount : ℤ)
     (room : (unsigned_abs total + sum (map unsigned_abs pending)) + unsigned_abs amount ≤ greatest_size) where
   pub remote-fits : FitsSigned w128 (total +ℤ amount)
   remote-fits = fits (total +ℤ amount) (omega (arith, room, size-add total amount))
@@ -54,10 +54,10 @@ module _ {total : ℤ} {pending : List ℤ} {sum_kept : ℤ} {size_kept : ℕ} (
   pub local-fits : FitsSigned w128 (sum_kept +ℤ amount)
   local-fits = fits (sum_kept +ℤ amount) (omega (arith, room, kept.size_is, size-sum_kept kept, size-add sum_kept amount))
 
-  pub kept-remote : IsKept (total +ℤ amount) pending sum_kept size_kept
+  pub kept-remote : AreTotals (total +ℤ amount) pending sum_kept size_kept
   kept-remote = record { sum_is = kept.sum_is; size_is = kept.size_is; bounded = omega (arith, room, kept.size_is, size-add total amount) }
 
-  pub kept-local : IsKept total (pending ++ amount ∷ []) (sum_kept +ℤ amount) (size_kept + unsigned_abs amount)
+  pub kept-local : AreTotals total (pending ++ amount ∷ []) (sum_kept +ℤ amount) (size_kept + unsigned_abs amount)
   kept-local = record {
     sum_is = omega (arith, ints, kept.sum_is, sum_of-push pending amount);
     size_is = omega (arith, kept.size_is, sizes-push pending amount);
@@ -65,7 +65,7 @@ module _ {total : ℤ} {pending : List ℤ} {sum_kept : ℤ} {size_kept : ℕ} (
   }
 
 module _ {total : ℤ} {pending : List ℤ} {sum_kept : ℤ} {size_kept : ℕ} (amount : ℤ) (rest : List ℤ) (is : pending ≡ amount ∷ rest)
-    (kept : IsKept total pending sum_kept size_kept) where
+    (kept : AreTotals total pending sum_kept size_kept) where
   sizes : size_kept ≡ unsigned_abs amount + sum (map unsigned_abs rest)
   sizes = kept.size_is ∙ ap (λ l. sum (map unsigned_abs l)) is ∙ sizes-cons amount rest
 
@@ -84,7 +84,7 @@ module _ {total : ℤ} {pending : List ℤ} {sum_kept : ℤ} {size_kept : ℕ} (
   pub left-fits : FitsSigned w128 (sum_kept -ℤ amount)
   left-fits = rw left (fits (sum_of rest) (omega (arith, sizes, kept.bounded, kept.size_is, size-sum_of rest)))
 
-  pub kept-acknowledged : IsKept (total +ℤ amount) rest (sum_kept -ℤ amount) (size_kept - unsigned_abs amount)
+  pub kept-acknowledged : AreTotals (total +ℤ amount) rest (sum_kept -ℤ amount) (size_kept - unsigned_abs amount)
   kept-acknowledged = record {
     sum_is = left;
     size_is = omega (arith, sizes);

@@ -40,11 +40,11 @@ impl Model for SharedCounter {
 
     ghost coded = { shared_code };
 
-    ghost use Rattle.fluid_counter.specs.Totals.{IsKept};
+    ghost use Rattle.fluid_counter.specs.Totals.{AreTotals};
 
     ghost view = { λ c. record { acknowledged = c.acknowledged; pending = c.pending.items } };
 
-    ghost invariant = { λ c. IsKept c.acknowledged c.pending.items c.pending_sum c.pending_size };
+    ghost invariant = { λ c. AreTotals c.acknowledged c.pending.items c.pending_sum c.pending_size };
 }
 
 impl SharedCounter {

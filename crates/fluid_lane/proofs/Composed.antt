@@ -27,7 +27,7 @@ use Rattle.fluid_lane.specs.Steps.{ledger, last_side}
 use Rattle.fluid_lane.specs.Faults.{IsCausedBy, IsLogFailed, IsOutside, IsReadFault}
 use Rattle.fluid_lane.specs.Standing.{Standing, LaneStands, Goes}
 use Rattle.fluid_lane.specs.Refusals.{IsCutFailed}
-use Rattle.fluid_lane.specs.Calls.{settled, TakesUp, OwesBy, AddKept, EnterKept, Enters, IsFlushFault, IsOutsideLog, IsBeside, missing, flushed, HasCheckpoint, SettledBy, Stores}
+use Rattle.fluid_lane.specs.Calls.{cut_back, TakesUp, OwesBy, AddKept, EnterKept, Enters, IsFlushFault, IsOutsideLog, IsBeside, missing, flushed, HasCheckpoint, SettledBy, Stores}
 use Rattle.fluid_lane.specs.Restarts.{IsAtDeltas, RefusesRestart, IsRestarted, RestartKept, Restarts}
 use Rattle.fluid_lane.proofs.Caused.{caused_earlier}
 
@@ -107,7 +107,7 @@ IsEarly TooManyClients = Unit {0}
 IsEarly NoMemory = Unit {0}
 IsEarly other = ⊥
 
-pub enters_early : {A : Type 0} (raw : Raw) (old new : Standing) (fault : LaneFault) → IsEarly fault → KeepsSame (settled old) new.keeping → new.entries ≡ old.entries → new.owed ≡ false → new.keeping.reads ≡ old.keeping.reads → Enters {A = A} raw old new (Err fault)
+pub enters_early : {A : Type 0} (raw : Raw) (old new : Standing) (fault : LaneFault) → IsEarly fault → KeepsSame (cut_back old) new.keeping → new.entries ≡ old.entries → new.owed ≡ false → new.keeping.reads ≡ old.keeping.reads → Enters {A = A} raw old new (Err fault)
 enters_early raw old new (LogFailed note) early same entries level reads = absurd early
 enters_early raw old new (Full n) early same entries level reads = record { entries = entries; owes = level; cause = tt; reads = reads; kept = same }
 enters_early raw old new (BadRecord place) early same entries level reads = absurd early
@@ -116,13 +116,13 @@ enters_early raw old new CheckpointsFull early same entries level reads = absurd
 enters_early raw old new TooManyClients early same entries level reads = record { entries = entries; owes = level; cause = tt; reads = reads; kept = same }
 enters_early raw old new (DeltaFailed note) early same entries level reads = absurd early
 enters_early raw old new NoMemory early same entries level reads =
-    record { entries = entries; owes = level; cause = tt; reads = reads; kept = puts_nothing (for_room old.messages (settled old).deltas) (settled old) new.keeping same }
+    record { entries = entries; owes = level; cause = tt; reads = reads; kept = puts_nothing (for_room old.messages (cut_back old).deltas) (cut_back old) new.keeping same }
 enters_early raw old new (BadCheckpoint number bad) early same entries level reads = absurd early
 enters_early raw old new (TooLarge bytes) early same entries level reads = absurd early
 enters_early raw old new Worn early same entries level reads = absurd early
 
 -- the cut was made, and the entry was given to the log
-pub enters_on : {A : Type 0} (raw : Raw) (old mid new : Standing) (result : Result A LaneFault) → KeepsSame (settled old) mid.keeping → mid.entries ≡ old.entries → mid.messages ≡ old.messages → mid.keeping.reads ≡ old.keeping.reads
+pub enters_on : {A : Type 0} (raw : Raw) (old mid new : Standing) (result : Result A LaneFault) → KeepsSame (cut_back old) mid.keeping → mid.entries ≡ old.entries → mid.messages ≡ old.messages → mid.keeping.reads ≡ old.keeping.reads
     → old.keeping.faults ≤ mid.keeping.faults → TakesUp mid.entries new.entries raw result → OwesBy new result → IfErr result IsOutside → IfErr result (IsCausedBy mid.keeping.faults new.keeping.faults) → new.keeping.reads ≡ mid.keeping.reads
     → AddKept raw mid mid.keeping new.keeping result → Enters raw old new result
 enters_on raw old mid new (Ok a) same entries messages reads later takes owes outside cause more kept = record {
@@ -130,7 +130,7 @@ enters_on raw old mid new (Ok a) same entries messages reads later takes owes ou
   owes = owes;
   cause = tt;
   reads = more ∙ reads;
-  kept = record_on old.messages (raw_printed raw) (settled old) mid.keeping new.keeping same (subst (λ d. KeepsSame (with_record (raw_printed raw) (roomed d mid.keeping)) new.keeping) messages kept);
+  kept = record_on old.messages (raw_printed raw) (cut_back old) mid.keeping new.keeping same (subst (λ d. KeepsSame (with_record (raw_printed raw) (roomed d mid.keeping)) new.keeping) messages kept);
 }
 enters_on {A = A} raw old mid new (Err fault) same entries messages reads later takes owes outside cause more kept = record {
   entries = takes ∙ entries;
@@ -140,13 +140,13 @@ enters_on {A = A} raw old mid new (Err fault) same entries messages reads later 
   kept = by fault outside kept;
 }
   where
-    some : PutsSome (for_room mid.messages mid.keeping.deltas) mid.keeping new.keeping → PutsSome (for_room old.messages (settled old).deltas) (settled old) new.keeping
-    some puts = puts_on old.messages (settled old) mid.keeping new.keeping same (subst (λ d. PutsSome (for_room d mid.keeping.deltas) mid.keeping new.keeping) messages puts)
+    some : PutsSome (for_room mid.messages mid.keeping.deltas) mid.keeping new.keeping → PutsSome (for_room old.messages (cut_back old).deltas) (cut_back old) new.keeping
+    some puts = puts_on old.messages (cut_back old) mid.keeping new.keeping same (subst (λ d. PutsSome (for_room d mid.keeping.deltas) mid.keeping new.keeping) messages puts)
 
     torn : KeepsSame (roomed mid.messages mid.keeping) new.keeping ⊎ KeepsSame (with_record (raw_printed raw) (roomed mid.messages mid.keeping)) new.keeping
-        → KeepsSame (roomed old.messages (settled old)) new.keeping ⊎ KeepsSame (with_record (raw_printed raw) (roomed old.messages (settled old))) new.keeping
-    torn (inl left) = inl (rooms_on old.messages (settled old) mid.keeping new.keeping same (subst (λ d. KeepsSame (roomed d mid.keeping) new.keeping) messages left))
-    torn (inr left) = inr (record_on old.messages (raw_printed raw) (settled old) mid.keeping new.keeping same (subst (λ d. KeepsSame (with_record (raw_printed raw) (roomed d mid.keeping)) new.keeping) messages left))
+        → KeepsSame (roomed old.messages (cut_back old)) new.keeping ⊎ KeepsSame (with_record (raw_printed raw) (roomed old.messages (cut_back old))) new.keeping
+    torn (inl left) = inl (rooms_on old.messages (cut_back old) mid.keeping new.keeping same (subst (λ d. KeepsSame (roomed d mid.keeping) new.keeping) messages left))
+    torn (inr left) = inr (record_on old.messages (raw_printed raw) (cut_back old) mid.keeping new.keeping same (subst (λ d. KeepsSame (with_record (raw_printed raw) (roomed d mid.keeping)) new.keeping) messages left))
 
     by : (f : LaneFault) → IsOutside f → AddKept {A = A} raw mid mid.keeping new.keeping (Err f) → EnterKept {A = A} raw old new (Err f)
     by (LogFailed note) out is = inr (torn is)
@@ -186,7 +186,7 @@ stores_cut old new (BadCheckpoint number bad) log cut same reads cause = absurd 
 stores_cut old new (TooLarge bytes) log cut same reads cause = absurd log
 stores_cut old new Worn log cut same reads cause = absurd log
 
-pub stores_full : (old new : Standing) → KeepsSame (settled old) new.keeping → (new.entries ≡ old.entries) × (new.messages ≡ old.messages) → new.owed ≡ false → new.keeping.reads ≡ old.keeping.reads → Stores old new (Err CheckpointsFull)
+pub stores_full : (old new : Standing) → KeepsSame (cut_back old) new.keeping → (new.entries ≡ old.entries) × (new.messages ≡ old.messages) → new.owed ≡ false → new.keeping.reads ≡ old.keeping.reads → Stores old new (Err CheckpointsFull)
 stores_full old new kept same level reads = record { same = same; settled_by = level; cause = tt; reads = reads; kept = kept; stored = tt }
 
 -- what a flush put behind the cut
@@ -201,19 +201,19 @@ lacks_on d one other new same puts = record {
   };
 }
 
-deltas_stay : (s : Standing) → (settled s).deltas ≡ s.keeping.deltas
+deltas_stay : (s : Standing) → (cut_back s).deltas ≡ s.keeping.deltas
 deltas_stay s = by s.owed
   where
     by : (b : Bool) → (if b then cut_to s.entries.entered s.keeping else s.keeping).deltas ≡ s.keeping.deltas
     by true = refl
     by false = refl
 
-missing_on : (old mid new : Standing) → KeepsSame (settled old) mid.keeping → mid.messages ≡ old.messages → PutsSome (missing mid) mid.keeping new.keeping → PutsSome (missing old) (settled old) new.keeping
+missing_on : (old mid new : Standing) → KeepsSame (cut_back old) mid.keeping → mid.messages ≡ old.messages → PutsSome (missing mid) mid.keeping new.keeping → PutsSome (missing old) (cut_back old) new.keeping
 missing_on old mid new same messages puts =
-    subst (λ n. PutsSome (lacking old.messages n) (settled old) new.keeping) (deltas_stay old)
-    (lacks_on old.messages (settled old) mid.keeping new.keeping same (subst (λ d. PutsSome (lacking d mid.keeping.deltas) mid.keeping new.keeping) messages puts))
+    subst (λ n. PutsSome (lacking old.messages n) (cut_back old) new.keeping) (deltas_stay old)
+    (lacks_on old.messages (cut_back old) mid.keeping new.keeping same (subst (λ d. PutsSome (lacking d mid.keeping.deltas) mid.keeping new.keeping) messages puts))
 
-pub flushed_on : (old mid new : Standing) → KeepsSame (settled old) mid.keeping → mid.messages ≡ old.messages → KeepsSame (with_deltas (missing mid) mid.keeping) new.keeping → KeepsSame (flushed old) new.keeping
+pub flushed_on : (old mid new : Standing) → KeepsSame (cut_back old) mid.keeping → mid.messages ≡ old.messages → KeepsSame (with_deltas (missing mid) mid.keeping) new.keeping → KeepsSame (flushed old) new.keeping
 flushed_on old mid new same messages kept =
     let all : KeepsSame (with_deltas (lacking old.messages mid.keeping.deltas) mid.keeping) new.keeping = subst (λ d. KeepsSame (with_deltas (lacking d mid.keeping.deltas) mid.keeping) new.keeping) messages kept in
     let count : mid.keeping.deltas ≡ old.keeping.deltas = same.deltas ∙ deltas_stay old in
@@ -224,7 +224,7 @@ flushed_on old mid new same messages kept =
       checkpoints = all.checkpoints ∙ same.checkpoints;
     }
 
-pub stores_flush : (old mid new : Standing) (fault : LaneFault) → IsFlushFault fault → KeepsSame (settled old) mid.keeping → mid.messages ≡ old.messages → PutsSome (missing mid) mid.keeping new.keeping
+pub stores_flush : (old mid new : Standing) (fault : LaneFault) → IsFlushFault fault → KeepsSame (cut_back old) mid.keeping → mid.messages ≡ old.messages → PutsSome (missing mid) mid.keeping new.keeping
     → (new.entries ≡ old.entries) × (new.messages ≡ old.messages) → new.owed ≡ false → new.keeping.reads ≡ old.keeping.reads → IsCausedBy old.keeping.faults new.keeping.faults fault → Stores old new (Err fault)
 stores_flush old mid new (LogFailed note) flush settles messages puts same level reads cause = absurd flush
 stores_flush old mid new (Full n) flush settles messages puts same level reads cause = absurd flush
@@ -253,7 +253,7 @@ all_put ms old new same = record {
 
 -- memory was wanting behind a flush
 pub stores_memory : (old new : Standing) → KeepsSame (flushed old) new.keeping → (new.entries ≡ old.entries) × (new.messages ≡ old.messages) → new.owed ≡ false → new.keeping.reads ≡ old.keeping.reads → Stores old new (Err NoMemory)
-stores_memory old new kept same level reads = record { same = same; settled_by = level; cause = tt; reads = reads; kept = all_put (missing old) (settled old) new.keeping kept; stored = tt }
+stores_memory old new kept same level reads = record { same = same; settled_by = level; cause = tt; reads = reads; kept = all_put (missing old) (cut_back old) new.keeping kept; stored = tt }
 
 pub stores_large : (old new : Standing) (bytes : ℕ) → KeepsSame (flushed old) new.keeping → (new.entries ≡ old.entries) × (new.messages ≡ old.messages) → new.owed ≡ false → new.keeping.reads ≡ old.keeping.reads → Stores old new (Err (TooLarge bytes))
 stores_large old new bytes kept same level reads = record { same = same; settled_by = level; cause = tt; reads = reads; kept = kept; stored = tt }
@@ -329,7 +329,7 @@ restarts_worn number old new same = record {
   settled_by = tt;
   cause = tt;
   kept = subst (λ s. KeepsSame old.keeping s.keeping) (sym same) (same_itself old.keeping);
-  loads = tells_each (settled old).content _ (λ c. tt);
+  loads = tells_each (cut_back old).content _ (λ c. tt);
   early = tt;
   lacked = omega (arith, ap (λ s. s.keeping.deltas) same);
   at_deltas = tt;
@@ -342,7 +342,7 @@ restarts_cut number old new (LogFailed note) log cut same cause = record {
   settled_by = tt;
   cause = cause;
   kept = inl cut;
-  loads = tells_each (settled old).content _ (λ c. tt);
+  loads = tells_each (cut_back old).content _ (λ c. tt);
   early = tt;
   lacked = omega (arith, cut.kept.deltas);
   at_deltas = tt;
@@ -358,13 +358,13 @@ restarts_cut number old new (BadCheckpoint bad why) log cut same cause = absurd 
 restarts_cut number old new (TooLarge bytes) log cut same cause = absurd log
 restarts_cut number old new Worn log cut same cause = absurd log
 
-pub restarts_none : {A : Type 0} (number : ℕ) (old new : Standing) (asked stored : ℕ) → KeepsSame (settled old) new.keeping → (new.entries ≡ old.entries) × (new.messages ≡ old.messages) → new.owed ≡ false → Restarts {A = A} number old new (Err (NoCheckpoint asked stored))
+pub restarts_none : {A : Type 0} (number : ℕ) (old new : Standing) (asked stored : ℕ) → KeepsSame (cut_back old) new.keeping → (new.entries ≡ old.entries) × (new.messages ≡ old.messages) → new.owed ≡ false → Restarts {A = A} number old new (Err (NoCheckpoint asked stored))
 restarts_none number old new asked stored kept same level = record {
   stays = same;
   settled_by = level;
   cause = tt;
   kept = kept;
-  loads = tells_each (settled old).content _ (λ c. tt);
+  loads = tells_each (cut_back old).content _ (λ c. tt);
   early = tt;
   lacked = omega (arith, kept.deltas, deltas_stay old);
   at_deltas = tt;
@@ -385,7 +385,7 @@ deltas_on one other new same puts = record {
   };
 }
 
-pub restarts_bad : {A : Type 0} (number : ℕ) (old mid new : Standing) (fault : LaneFault) → IsReadFault fault → KeepsSame (settled old) mid.keeping → PutsDeltas mid.keeping new.keeping → mid.entries ≡ old.entries → (new.entries ≡ old.entries) × (new.messages ≡ old.messages)
+pub restarts_bad : {A : Type 0} (number : ℕ) (old mid new : Standing) (fault : LaneFault) → IsReadFault fault → KeepsSame (cut_back old) mid.keeping → PutsDeltas mid.keeping new.keeping → mid.entries ≡ old.entries → (new.entries ≡ old.entries) × (new.messages ≡ old.messages)
     → new.owed ≡ false → old.keeping.faults ≤ mid.keeping.faults → IsCausedBy mid.keeping.faults new.keeping.faults fault → Tells mid.keeping.content (λ content. RefusesRestart number mid.entries content fault)
     → PutsFew mid.entries.entered mid.keeping new.keeping → IsAtDeltas mid.entries.entered fault → Restarts {A = A} number old new (Err fault)
 restarts_bad {A = A} number old mid new fault read kept puts entries same level later cause loads lacked at = record {
@@ -399,8 +399,8 @@ restarts_bad {A = A} number old mid new fault read kept puts entries same level 
   at_deltas = subst (λ e. IsAtDeltas e.entered fault) entries at;
 }
   where
-    put : PutsDeltas (settled old) new.keeping
-    put = deltas_on (settled old) mid.keeping new.keeping kept puts
+    put : PutsDeltas (cut_back old) new.keeping
+    put = deltas_on (cut_back old) mid.keeping new.keeping kept puts
 
     settles : (f : LaneFault) → SettledBy {A = A} new (Err f)
     settles (LogFailed note) = tt
@@ -428,7 +428,7 @@ restarts_bad {A = A} number old mid new fault read kept puts entries same level 
     by (TooLarge bytes) is = absurd is
     by Worn is = absurd is
 
-pub restarts_on : (number : ℕ) (old mid new : Standing) → KeepsSame (settled old) mid.keeping → PutsDeltas mid.keeping new.keeping → mid.entries ≡ old.entries → mid.keeping.reads ≡ old.keeping.reads → mid.keeping.records ≡ old.entries.entered
+pub restarts_on : (number : ℕ) (old mid new : Standing) → KeepsSame (cut_back old) mid.keeping → PutsDeltas mid.keeping new.keeping → mid.entries ≡ old.entries → mid.keeping.reads ≡ old.keeping.reads → mid.keeping.records ≡ old.entries.entered
     → (new.entries.entered ≡ old.entries.entered) × (keys new.entries.state.sequencer.rows ≡ keys old.entries.state.sequencer.rows) → new.owed ≡ false → Tells mid.keeping.content (λ content. loaded content (Some number) ≡ Ok new.entries)
     → Tells mid.keeping.content (ReadsBehind (Some number) mid.keeping.records mid.keeping.reads new.keeping.reads) → PutsFirst new.messages.before mid.keeping new.keeping → PutsFew mid.entries.entered mid.keeping new.keeping
     → Restarts {A = Unit {0}} number old new (Ok tt)
@@ -436,7 +436,7 @@ restarts_on number old mid new kept puts entries reads records stays level loads
   stays = stays;
   settled_by = level;
   cause = tt;
-  kept = deltas_on (settled old) mid.keeping new.keeping kept puts;
+  kept = deltas_on (cut_back old) mid.keeping new.keeping kept puts;
   loads = tells_along _ _ (λ content. IsRestarted number old new content) kept.content
       (tells_both mid.keeping.content (λ content. loaded content (Some number) ≡ Ok new.entries) (ReadsBehind (Some number) mid.keeping.records mid.keeping.reads new.keeping.reads) (IsRestarted number old new)
       (λ c is read. record { loads = is; reads = subst (λ n. ReadsBehind (Some number) n old.keeping.reads new.keeping.reads c) records (subst (λ n. ReadsBehind (Some number) mid.keeping.records n new.keeping.reads c) reads read) })

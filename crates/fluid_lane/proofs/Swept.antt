@@ -9,7 +9,7 @@ use Rattle.fluid_lane.specs.declared.fault.LaneFault.TheVariants.{LogFailed, Ful
 use Rattle.fluid_lane.specs.Faults.{IsCausedBy, IsLogFailed, IsOutside}
 use Rattle.fluid_lane.specs.Standing.{Standing, is_worn}
 use Rattle.fluid_lane.specs.Refusals.{IsCutFailed}
-use Rattle.fluid_lane.specs.Calls.{settled}
+use Rattle.fluid_lane.specs.Calls.{cut_back}
 use Rattle.fluid_lane.specs.Sweeps.{first_silent, SweepsBy}
 use Rattle.fluid_lane.proofs.Ids.{length-keys}
 use Rattle.fluid_lane.proofs.Quiet.{at_place}
@@ -58,7 +58,7 @@ sweeps_cut moment silence old new place fault stands worn log cut entries reads 
     (record { gate = gated_cut old new [] IsOutside fault worn log cut (log_outside fault log) reads; enters = enters_cut (Leave one.id moment) old new fault log cut entries reads cause; gives = tt })
 
 -- no memory for the id
-pub sweeps_early : (moment silence : ℕ) (old new : Standing) (place : ℕ) → StandsIn moment silence old place → is_worn old ≡ false → KeepsSame (settled old) new.keeping → new.entries ≡ old.entries → new.owed ≡ false → new.keeping.reads ≡ old.keeping.reads
+pub sweeps_early : (moment silence : ℕ) (old new : Standing) (place : ℕ) → StandsIn moment silence old place → is_worn old ≡ false → KeepsSame (cut_back old) new.keeping → new.entries ≡ old.entries → new.owed ≡ false → new.keeping.reads ≡ old.keeping.reads
     → SweepsBy moment (first_silent moment silence old.entries.state.sequencer.rows) old new (Err NoMemory)
 sweeps_early moment silence old new place stands worn kept entries level reads =
     let one = found moment silence old place stands in

@@ -21,8 +21,8 @@ use Rattle.fluid_lane.specs.Standing.{Standing}
 use Rattle.fluid_lane.specs.Refusals.{IsCutFailed}
 
 -- the keeper behind the cut that is owed, where one is
-abbrev pub settled : Standing → Keeping
-settled s = if s.owed then cut_to s.entries.entered s.keeping else s.keeping
+abbrev pub cut_back : Standing → Keeping
+cut_back s = if s.owed then cut_to s.entries.entered s.keeping else s.keeping
 
 -- ---- calls that enter
 
@@ -45,12 +45,12 @@ AddKept raw s old new (Err (LogFailed note)) = KeepsSame (roomed s.messages old)
 AddKept raw s old new (Err other) = PutsSome (for_room s.messages old.deltas) old new
 
 abbrev pub EnterKept : {A : Type 0} → Raw → Standing → Standing → Result A LaneFault → Type 0
-EnterKept raw old new (Err (LogFailed note)) = IsCutFailed old new ⊎ AddKept {A = Unit {0}} raw old (settled old) new.keeping (Err (LogFailed note))
+EnterKept raw old new (Err (LogFailed note)) = IsCutFailed old new ⊎ AddKept {A = Unit {0}} raw old (cut_back old) new.keeping (Err (LogFailed note))
 EnterKept raw old new (Err Worn) = KeepsSame old.keeping new.keeping
-EnterKept raw old new (Err (DeltaFailed note)) = AddKept {A = Unit {0}} raw old (settled old) new.keeping (Err (DeltaFailed note))
-EnterKept raw old new (Err NoMemory) = AddKept {A = Unit {0}} raw old (settled old) new.keeping (Err NoMemory)
-EnterKept raw old new (Err other) = KeepsSame (settled old) new.keeping
-EnterKept raw old new (Ok a) = KeepsSame (with_record (raw_printed raw) (roomed old.messages (settled old))) new.keeping
+EnterKept raw old new (Err (DeltaFailed note)) = AddKept {A = Unit {0}} raw old (cut_back old) new.keeping (Err (DeltaFailed note))
+EnterKept raw old new (Err NoMemory) = AddKept {A = Unit {0}} raw old (cut_back old) new.keeping (Err NoMemory)
+EnterKept raw old new (Err other) = KeepsSame (cut_back old) new.keeping
+EnterKept raw old new (Ok a) = KeepsSame (with_record (raw_printed raw) (roomed old.messages (cut_back old))) new.keeping
 
 -- a call that enters this entry
 pub record Enters {A : Type 0} (raw : Raw) (old new : Standing) (result : Result A LaneFault) : Type 0 where
@@ -97,7 +97,7 @@ missing s = lacking s.messages s.keeping.deltas
 
 -- the keeper behind the cut and a flush
 abbrev pub flushed : Standing → Keeping
-flushed s = with_deltas (missing s) (settled s)
+flushed s = with_deltas (missing s) (cut_back s)
 
 -- the checkpoint of this number has this text
 abbrev pub HasCheckpoint : ℕ → List ℕ → Content → Type 0
@@ -121,10 +121,10 @@ SettledBy new (Err other) = new.owed ≡ false
 abbrev pub StoreKept : {A : Type 0} → Standing → Standing → Result A LaneFault → Type 0
 StoreKept old new (Ok number) = KeepsSame (with_checkpoint (checkpoint_text old.entries) (flushed old)) new.keeping
 StoreKept old new (Err (LogFailed note)) = IsCutFailed old new ⊎ ((length (checkpoint_text old.entries) ≤ old.limits.bytes) × ((new.owed ≡ false) × KeepsSame (flushed old) new.keeping))
-StoreKept old new (Err CheckpointsFull) = KeepsSame (settled old) new.keeping
+StoreKept old new (Err CheckpointsFull) = KeepsSame (cut_back old) new.keeping
 StoreKept old new (Err (TooLarge bytes)) = KeepsSame (flushed old) new.keeping
 StoreKept old new (Err Worn) = KeepsSame old.keeping new.keeping
-StoreKept old new (Err other) = PutsSome (missing old) (settled old) new.keeping
+StoreKept old new (Err other) = PutsSome (missing old) (cut_back old) new.keeping
 
 -- what was stored has the next number, and it is what the entries made
 pub record IsStored (old new : Standing) (number : ℕ) : Type 0 where

@@ -15,7 +15,7 @@ use Rattle.fluid_lane.specs.declared.fault.LaneFault.TheVariants.{LogFailed, Bad
 use Rattle.fluid_lane.specs.Faults.{IsCausedBy}
 use Rattle.fluid_lane.specs.Standing.{Standing}
 use Rattle.fluid_lane.specs.Refusals.{IsCutFailed}
-use Rattle.fluid_lane.specs.Calls.{settled, SettledBy}
+use Rattle.fluid_lane.specs.Calls.{cut_back, SettledBy}
 
 -- what was read has other clients than the lane
 pub record HasOthers (number : ℕ) (old : Entries) (content : Content) (answer : LaneFault) : Type 0 where
@@ -42,10 +42,10 @@ RestartsBy number old new (Err fault) content = RefusesRestart number old.entrie
 
 -- deltas may be put to make room, and nothing else is changed
 abbrev pub RestartKept : {A : Type 0} → Standing → Standing → Result A LaneFault → Type 0
-RestartKept old new (Err (LogFailed note)) = IsCutFailed old new ⊎ ((new.owed ≡ false) × PutsDeltas (settled old) new.keeping)
+RestartKept old new (Err (LogFailed note)) = IsCutFailed old new ⊎ ((new.owed ≡ false) × PutsDeltas (cut_back old) new.keeping)
 RestartKept old new (Err Worn) = KeepsSame old.keeping new.keeping
-RestartKept old new (Err (NoCheckpoint asked stored)) = KeepsSame (settled old) new.keeping
-RestartKept old new other = PutsDeltas (settled old) new.keeping
+RestartKept old new (Err (NoCheckpoint asked stored)) = KeepsSame (cut_back old) new.keeping
+RestartKept old new other = PutsDeltas (cut_back old) new.keeping
 
 -- after a fault the lane is as it was
 abbrev pub StaysBy : {A : Type 0} → Standing → Standing → Result A LaneFault → Type 0
@@ -63,7 +63,7 @@ pub record Restarts {A : Type 0} (number : ℕ) (old new : Standing) (result : R
   pub settled_by : SettledBy new result
   pub cause : IfErr result (IsCausedBy old.keeping.faults new.keeping.faults)
   pub kept : RestartKept old new result
-  pub loads : Tells (settled old).content (RestartsBy number old new result)
+  pub loads : Tells (cut_back old).content (RestartsBy number old new result)
   -- the deltas that are put are those that the keeper lacked before the messages that are in memory then, and after a fault at most
   -- those behind which so many entries stand
   pub early : OnOk result (PutsFirst new.messages.before old.keeping new.keeping)

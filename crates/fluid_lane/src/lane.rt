@@ -23,7 +23,7 @@ ghost use Rattle.fluid_lane.specs.Faults.{IsCausedBy, IsLogFailed, IsOutside, Is
 ghost use Rattle.fluid_lane.specs.Steps.{ledger, steps_of, range_steps, entered_by, joined_by, stored_by, restarted_by, nothing_by, swept_by};
 ghost use Rattle.fluid_lane.specs.Standing.{LaneStands, AreNamed, IsSafe, IsLeftFor, Goes, IsOwn, IsLeaveOrSubmission, is_worn};
 ghost use Rattle.fluid_lane.specs.Refusals.{IsGated, IsCutFailed, is_full, is_full_for, has_too_many, has_checkpoints, has_no_checkpoint};
-ghost use Rattle.fluid_lane.specs.Calls.{Enters, AddKept, OwesBy, TakesUp, Stores, IsStoreFault, IsFlushFault, IsOutsideLog, FlushKept, IsBeside, HasCheckpoint, missing, settled};
+ghost use Rattle.fluid_lane.specs.Calls.{Enters, AddKept, OwesBy, TakesUp, Stores, IsStoreFault, IsFlushFault, IsOutsideLog, FlushKept, IsBeside, HasCheckpoint, missing, cut_back};
 ghost use Rattle.fluid_lane.specs.Restarts.{Restarts, Reloads, IsAtDeltas, IsNotBad};
 ghost use Rattle.fluid_lane.specs.Ranges.{Ranges};
 ghost use Rattle.fluid_lane.specs.Sweeps.{first_silent, SweepsBy};
@@ -458,7 +458,7 @@ impl<K: Keeper> Lane<K> {
         ensures needed { OnErr result (self.old.owed ≡ true) }
         ensures fails { IfErr result IsLogFailed }
         ensures cause { IfErr result (IsCausedBy self.old.keeping.faults self.new.keeping.faults) }
-        ensures kept { MatchResult result (λ _. KeepsSame (settled self.old) self.new.keeping) (λ _. IsCutFailed self.old self.new) }
+        ensures kept { MatchResult result (λ _. KeepsSame (cut_back self.old) self.new.keeping) (λ _. IsCutFailed self.old self.new) }
         ensures goes { Goes self.old self.new (steps_of nothing_by result) }
     {
         if !self.owed {

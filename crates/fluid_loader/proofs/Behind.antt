@@ -7,7 +7,7 @@ use Rattle.fluid_types.specs.Quorum.{Quorum, quorum_of}
 use Rattle.fluid_types.specs.declared.messages.Message.{Message}
 use Rattle.fluid_quorum.specs.After.{after}
 use Rattle.fluid_loader.specs.Calls.{IsBehindFront}
-use Rattle.fluid_loader.specs.Container.{AContainer, IsKept, taken_by, behind}
+use Rattle.fluid_loader.specs.Container.{AContainer, IsAbreast, taken_by, behind}
 use Rattle.fluid_loader.specs.declared.following.Following.{Following}
 
 -- ---- the quorum
@@ -22,12 +22,12 @@ none_yet = refl
 
 pub kept_behind : {A E : Type 0} (r : Result A E) (room number last : ℕ) (q : Quorum) (m : Message) (behind : Following)
     → OnOk r (behind ≡ record { quorum = after q m; owed = None }) → OnErr r (behind ≡ record { quorum = q; owed = Some m }) → m.number ≡ q.number + 1 → m.number ≡ number
-    → 2 ^ 64 ≤ room + number → number < 2 ^ 53 → last < 2 ^ 53 → IsKept room number last behind
+    → 2 ^ 64 ≤ room + number → number < 2 ^ 53 → last < 2 ^ 53 → IsAbreast room number last behind
 kept_behind (Ok a) room number last q m behind is other next own roomy fits last_fits =
-    subst (IsKept room number last) (sym is)
+    subst (IsAbreast room number last) (sym is)
     (record { owed_next = tt; abreast = after_number q m ∙ own; roomy = roomy; number_fits = fits; last_fits = last_fits })
 kept_behind (Err e) room number last q m behind other is next own roomy fits last_fits =
-    subst (IsKept room number last) (sym is)
+    subst (IsAbreast room number last) (sym is)
     (record { owed_next = next; abreast = after_number q m ∙ own; roomy = roomy; number_fits = fits; last_fits = last_fits })
 
 -- ---- one message more

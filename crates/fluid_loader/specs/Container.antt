@@ -64,9 +64,9 @@ behind client c messages = fold (taken_by client) c messages
 -- ---- as it is kept
 
 -- the quorum once it has taken the message that it is owed
-abbrev pub settled : Quorum → Option Message → Quorum
-settled quorum None = quorum
-settled quorum (Some message) = after quorum message
+abbrev pub brought_abreast : Quorum → Option Message → Quorum
+brought_abreast quorum None = quorum
+brought_abreast quorum (Some message) = after quorum message
 
 -- it is owed the next message
 abbrev pub IsOwed : Quorum → Option Message → Type 0
@@ -74,9 +74,9 @@ IsOwed quorum None = Unit {0}
 IsOwed quorum (Some message) = message.number ≡ quorum.number + 1
 
 -- the quorum is that of this number, with the message that it is owed
-pub record IsKept (room number last : ℕ) (following : Following) : Type 0 where
+pub record IsAbreast (room number last : ℕ) (following : Following) : Type 0 where
   pub owed_next : IsOwed following.quorum following.owed
-  pub abreast : (settled following.quorum following.owed).number ≡ number
+  pub abreast : (brought_abreast following.quorum following.owed).number ≡ number
   pub roomy : 2 ^ 64 ≤ room + number
   pub number_fits : number < 2 ^ 53
   pub last_fits : last < 2 ^ 53

@@ -51,15 +51,15 @@ pub struct Container {
 
 impl Model for Container {
     ghost use Rattle.fluid_loader.specs.Codes.{container_code};
-    ghost use Rattle.fluid_loader.specs.Container.{AContainer, settled, IsKept};
+    ghost use Rattle.fluid_loader.specs.Container.{AContainer, brought_abreast, IsAbreast};
 
     ghost Value = { AContainer };
 
     ghost coded = { container_code };
 
-    ghost view = { λ c. record { channels = c.app.channels; changed = c.app.changed; pending = c.app.pending; quorum = settled c.following.quorum c.following.owed; number = c.number; last = c.last; head = c.head; base = c.base } };
+    ghost view = { λ c. record { channels = c.app.channels; changed = c.app.changed; pending = c.app.pending; quorum = brought_abreast c.following.quorum c.following.owed; number = c.number; last = c.last; head = c.head; base = c.base } };
 
-    ghost invariant = { λ c. IsKept c.app.room c.number c.last c.following };
+    ghost invariant = { λ c. IsAbreast c.app.room c.number c.last c.following };
 }
 
 impl Container {

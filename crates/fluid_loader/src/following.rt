@@ -1,6 +1,6 @@
 //! A quorum that may find no memory for the last message.
 ghost use Rattle.std.specs.Prelude.{◌≡◌, None, OnOk, OnErr};
-ghost use Rattle.fluid_loader.specs.Container.{IsOwed, settled};
+ghost use Rattle.fluid_loader.specs.Container.{IsOwed, brought_abreast};
 
 use fluid_json::NoMemory;
 use fluid_quorum::Quorum;
@@ -18,7 +18,7 @@ impl Following {
     /// The quorum takes the message that it is owed. After `NoMemory` it is still owed.
     pub(crate) fn settle(&mut self, alloc: Global) -> Result<(), NoMemory>
         requires { IsOwed self.old.quorum self.old.owed }
-        ensures settled { OnOk result (self.new ≡ record { quorum = settled self.old.quorum self.old.owed; owed = None }) }
+        ensures settled { OnOk result (self.new ≡ record { quorum = brought_abreast self.old.quorum self.old.owed; owed = None }) }
         ensures unchanged { OnErr result (self.new ≡ self.old) }
     {
         let Some(message) = &self.owed else {

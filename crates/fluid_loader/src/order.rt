@@ -5,13 +5,13 @@ ghost use Rattle.fluid_loader.specs.Link.{IsOrder};
 ghost use Rattle.fluid_loader.specs.Listed.{IsPushed};
 
 use fluid_codec::{print_message, read_message};
-use fluid_json::NoMemory;
+use fluid_json::{LARGEST, NoMemory};
 use fluid_types::{CodecFault, Message};
 use std::alloc::Global;
 use std::marker::Model;
 
 /// An order has at most so many messages.
-const MOST: usize = (1 << 53) - 1;
+const MOST: usize = LARGEST as usize;
 
 /// The messages of an order: numbered one by one from 1, each is read back from its printed text, which is UTF-8, as itself, and
 /// none refers to one behind it. Contracts see the list.

@@ -20,21 +20,21 @@ pub record IsNumber (last n : ℕ) : Type 0 where
   pub most : n ≤ last
 
 -- a value that may stand in a blob: lists and objects stand at most 120 deep there
-pub record IsKept (value : Tree) : Type 0 where
+pub record IsStoredValue (value : Tree) : Type 0 where
   pub canonical : IsCanonical value
   pub shallow : depth value ≤ 118
 
 abbrev pub MembersKept : ℕ → List Member → Type 0
 MembersKept last [] = Unit {0}
-MembersKept last (m ∷ ms) = (IsName m.id × (IsNumber last m.number × IsKept m.detail)) × MembersKept last ms
+MembersKept last (m ∷ ms) = (IsName m.id × (IsNumber last m.number × IsStoredValue m.detail)) × MembersKept last ms
 
 abbrev pub ProposalsKept : ℕ → List Proposal → Type 0
 ProposalsKept last [] = Unit {0}
-ProposalsKept last (p ∷ ps) = (IsNumber last p.number × IsKept p.value) × ProposalsKept last ps
+ProposalsKept last (p ∷ ps) = (IsNumber last p.number × IsStoredValue p.value) × ProposalsKept last ps
 
 abbrev pub ValuesKept : ℕ → List KeyValue → Type 0
 ValuesKept last [] = Unit {0}
-ValuesKept last (v ∷ vs) = (IsNumber last v.accepted.approval × (IsNumber last v.accepted.number × IsKept v.accepted.value)) × ValuesKept last vs
+ValuesKept last (v ∷ vs) = (IsNumber last v.accepted.approval × (IsNumber last v.accepted.number × IsStoredValue v.accepted.value)) × ValuesKept last vs
 
 -- the quorum of these parts
 abbrev pub of_parts : ℕ → ℕ → List Member → List Proposal → List KeyValue → Quorum

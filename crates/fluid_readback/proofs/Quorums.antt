@@ -16,7 +16,7 @@ use Rattle.fluid_quorum.specs.Order.{AreFirst}
 use Rattle.fluid_quorum.specs.Lists.{members_of, values_of}
 use Rattle.fluid_quorum.specs.Node.{node_of, AreTexts}
 use Rattle.fluid_quorum.specs.Reading.{greatest_minimum, answer}
-use Rattle.fluid_quorum.specs.Stored.{IsKept, MembersKept, ProposalsKept, ValuesKept, of_parts, IsStored}
+use Rattle.fluid_quorum.specs.Stored.{IsStoredValue, MembersKept, ProposalsKept, ValuesKept, of_parts, IsStored}
 use Rattle.std.specs.List.{All}
 use Rattle.fluid_types.specs.Texts.{name_of}
 use Rattle.fluid_types.specs.Blobs.{attributes_tree, member_tree, proposal_tree, value_tree, blob_tree}
@@ -29,7 +29,7 @@ use Rattle.fluid_readback.proofs.Said.{IsDeep, in_range}
 use Rattle.fluid_readback.proofs.Parts.{IsAmong, among, last_below, IsMemberAt, members_kept, proposals_kept, IsProposalKept, pending_kept, IsValueAt, accepted_kept, AreFrom, pending_rising}
 
 -- what is read may stand in a blob
-deep_kept : (value : Tree) → IsDeep value → IsKept value
+deep_kept : (value : Tree) → IsDeep value → IsStoredValue value
 deep_kept value is = record { canonical = is.canonical; shallow = omega (arith, is.shallow) }
 
 -- ---- the parts as lists

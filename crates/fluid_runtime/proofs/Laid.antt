@@ -15,7 +15,7 @@ use Rattle.fluid_edits.specs.Forms.{edit_of}
 use Rattle.fluid_edits.proofs.Replays.{replayed_on_law}
 use Rattle.fluid_runtime.specs.App.{AnApp, StandsFor, after_any, after_message, left}
 use Rattle.fluid_runtime.specs.Kinds.{first_attached}
-use Rattle.fluid_runtime.specs.Slots.{Slots, each, settled, IsSound}
+use Rattle.fluid_runtime.specs.Slots.{Slots, each, settled_slot, IsSound}
 use Rattle.fluid_runtime.specs.declared.slots.Slot.{Slot}
 use Rattle.fluid_runtime.proofs.Each.{get_each, each_alike}
 use Rattle.fluid_runtime.proofs.Told.{settled_alike}
@@ -70,7 +70,7 @@ itself None = refl
 itself (Some slot) = refl
 
 -- nothing is pending in what is kept, so a copy without it is the same
-pub settled_same : (taken : ℕ) (slots : Slots) → IsSound taken slots → each settled slots ≡ slots
+pub settled_same : (taken : ℕ) (slots : Slots) → IsSound taken slots → each settled_slot slots ≡ slots
 settled_same taken slots sound =
-    each_alike settled (λ slot. slot) slots (λ at slot found. settled_alike taken slot (sound at slot found))
+    each_alike settled_slot (λ slot. slot) slots (λ at slot found. settled_alike taken slot (sound at slot found))
     ∙ same_values _ _ (λ at. get_each (λ slot. slot) slots at ∙ itself (get slots at))

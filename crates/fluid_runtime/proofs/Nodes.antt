@@ -13,7 +13,7 @@ use Rattle.fluid_table.proofs.Ordered.{first, second, less, find_at}
 use Rattle.fluid_tree.specs.Summary.{Summary, handle}
 use Rattle.fluid_runtime.specs.AppTree.{channel_node, node_since}
 use Rattle.fluid_runtime.specs.Shown.{shown_channel}
-use Rattle.fluid_runtime.specs.Slots.{Slots, each, channel_of, channels_of, changed_of, is_changed, settled, node_at}
+use Rattle.fluid_runtime.specs.Slots.{Slots, each, channel_of, channels_of, changed_of, is_changed, settled_slot, node_at}
 use Rattle.fluid_runtime.specs.declared.slots.Slot.{Slot}
 use Rattle.fluid_runtime.proofs.Each.{mapped, in_order_each, entries_each, get_found}
 
@@ -36,7 +36,7 @@ at_end f xs so_far n is all = is ∙ ap (map f) (take_all n xs all)
 pub listed : {V : Type 0} (m : Values V) (es : List (List ℕ × V)) → map (λ e. (e.0, e.1)) es ≡ entries m → es ≡ entries m
 listed m es is = sym (same_pairs es) ∙ is
 
-pub copies_are : (slots : Slots) (items : List (List ℕ × Slot)) → items ≡ map (λ e. (e.0, settled e.1)) (entries slots) → from_sorted items ≡ each settled slots
+pub copies_are : (slots : Slots) (items : List (List ℕ × Slot)) → items ≡ map (λ e. (e.0, settled_slot e.1)) (entries slots) → from_sorted items ≡ each settled_slot slots
 copies_are slots items is = ap from_sorted is
 
 -- ---- the members of an object, one at a time

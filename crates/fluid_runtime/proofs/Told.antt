@@ -11,7 +11,7 @@ use Rattle.fluid_types.specs.Names.{IsName}
 use Rattle.fluid_table.proofs.Places.{get_inserted, get_own, insert_again}
 use Rattle.fluid_edits.specs.Replay.{Channel, fresh, told_attach, put_if_any}
 use Rattle.fluid_runtime.specs.App.{marked_if}
-use Rattle.fluid_runtime.specs.Slots.{Slots, channel_of, channel_of_object, channels_of, changed_of, is_changed, settled, settled_object, IsQuiet, IsSoundSlot, IsSound, IsToldSlot, IsTold, IsKnown, AreNamed}
+use Rattle.fluid_runtime.specs.Slots.{Slots, channel_of, channel_of_object, channels_of, changed_of, is_changed, settled_slot, settled_object, IsQuiet, IsSoundSlot, IsSound, IsToldSlot, IsTold, IsKnown, AreNamed}
 use Rattle.fluid_runtime.specs.declared.slots.Object.{Object}
 use Rattle.fluid_runtime.specs.declared.slots.Object.TheVariants.{Map, Counter}
 use Rattle.fluid_runtime.specs.declared.slots.Slot.{Slot}
@@ -146,7 +146,7 @@ told_changed number at before behind (Some channel) mark known some is =
 
 -- ---- copies
 
-pub settled_alike : (taken : ℕ) (slot : Slot) → IsSoundSlot taken slot → settled slot ≡ slot
+pub settled_alike : (taken : ℕ) (slot : Slot) → IsSoundSlot taken slot → settled_slot slot ≡ slot
 settled_alike taken slot is = ap (λ o. record slot { object = o }) (same_object slot.object is.quiet)
   where
     same_object : (object : Object) → IsQuiet taken object → settled_object object ≡ object

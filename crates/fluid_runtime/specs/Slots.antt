@@ -36,8 +36,8 @@ settled_object (Map shared) = Map (record shared { pending = [] })
 settled_object (Counter shared) = Counter (record shared { pending = [] })
 
 -- the same without anything pending, which nothing is
-abbrev pub settled : Slot → Slot
-settled slot = record slot { object = settled_object slot.object }
+abbrev pub settled_slot : Slot → Slot
+settled_slot slot = record slot { object = settled_object slot.object }
 
 pub record IsSoundSlot (taken : ℕ) (slot : Slot) : Type 0 where
   pub quiet : IsQuiet taken slot.object

@@ -3,7 +3,7 @@ ghost use Rattle.std.specs.Prelude.{◌≡◌, ◌+◌, ◌-◌, ◌^◌, ◌<�
 ghost use Rattle.std.specs.FinMap.{get};
 ghost use Rattle.fluid_edits.specs.Forms.{address_of, is_in_range};
 ghost use Rattle.fluid_edits.specs.Replay.{kind_of, fresh, told_map, told_counter, told_attach, told, replay_edits};
-ghost use Rattle.fluid_runtime.specs.Slots.{each, settled, settled_object, channel_of, channel_of_object, channels_of, IsQuiet, IsSound, IsToldSlot, IsTold};
+ghost use Rattle.fluid_runtime.specs.Slots.{each, settled_slot, settled_object, channel_of, channel_of_object, channels_of, IsQuiet, IsSound, IsToldSlot, IsTold};
 
 use fluid_counter::{CounterOp, SharedCounter};
 use fluid_edits::{ChannelKind, Edit, is_in_range};
@@ -249,14 +249,14 @@ pub(crate) fn copy_slots(
     alloc: Global,
     slots: &SortedMap<Text, Slot>,
 ) -> Result<SortedMap<Text, Slot>, NoMemory>
-    ensures { IfOk result (λ copy. copy.values ≡ each settled slots.now.values) }
+    ensures { IfOk result (λ copy. copy.values ≡ each settled_slot slots.now.values) }
 {
     let pairs = copy_pairs(alloc, slots.as_slice())?;
     Ok(SortedMap::of_sorted(pairs))
 }
 
 fn copy_pairs(alloc: Global, slots: &[(Text, Slot)]) -> Result<Vec<(Text, Slot)>, NoMemory>
-    ensures { IfOk result (λ copies. copies.items ≡ map (λ e. (e.0, settled e.1)) slots.now) }
+    ensures { IfOk result (λ copies. copies.items ≡ map (λ e. (e.0, settled_slot e.1)) slots.now) }
 {
     let mut copies = Vec::with_capacity(alloc, slots.len())?;
     for (address, slot) in slots {

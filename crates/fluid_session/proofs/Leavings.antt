@@ -32,7 +32,7 @@ use Rattle.fluid_session.specs.Ends.{end_of, wire_end, unless_refused, behind_le
 use Rattle.fluid_session.specs.Events.{Event, AreWhole, IsReached}
 use Rattle.fluid_session.specs.Running.{Stops}
 use Rattle.fluid_session.specs.Running.Stops.{at_end, at_long, at_receive, at_feed, at_reply, at_text, at_collection, at_count}
-use Rattle.fluid_session.specs.Lines.{entered, entered_in, steps_of, steps_of_round, HasNote, IsKept, HasLeft, IsQuietEnd}
+use Rattle.fluid_session.specs.Lines.{entered, entered_in, steps_of, steps_of_round, HasNote, MissesLeave, HasLeft, IsQuietEnd}
 use Rattle.fluid_session.specs.Events.Event.{brings, hears}
 use Rattle.fluid_session.proofs.Passes.{goes_refl, goes_then}
 
@@ -154,7 +154,7 @@ refused_last end.NoMemory = refl
 refused_last (end.Abused unread) = refl
 
 -- why a leave isn't entered
-kept_by : (p q : Knowing) (before last : SessionEnd) (fault : TalkFault) → Goes p q (talk_steps fault) → IsLeaveCause q fault → last ≡ behind_leave before (Err fault) → IsKept q last
+kept_by : (p q : Knowing) (before last : SessionEnd) (fault : TalkFault) → Goes p q (talk_steps fault) → IsLeaveCause q fault → last ≡ behind_leave before (Err fault) → MissesLeave q last
 kept_by p q before last (Lane (lane.LogFailed note)) goes cause is = inl (subst HasNote (sym goes.mine) (note_last p.mine (Failed note) tt))
 kept_by p q before last (Lane (lane.DeltaFailed note)) goes cause is = inl (subst HasNote (sym goes.mine) (note_last p.mine (Failed note) tt))
 kept_by p q before last (Lane lane.Worn) goes cause is = inr (inl cause)
@@ -224,7 +224,7 @@ module _ (m t u : Talking) (moment : ℕ) (before last : SessionEnd) (halts : Ha
         same = λ apart. err_ok fault (leaves.nothing (ap (λ v. leave_of moment v) halts.voice ∙ none_apart moment m.voice apart));
       }
     where
-      by : (raw : Option Raw) → IsKept u.pass last → HasLeft raw [] u.pass last
+      by : (raw : Option Raw) → MissesLeave u.pass last → HasLeft raw [] u.pass last
       by None kept = refl
       by (Some raw) kept = inr (refl, kept)
 

@@ -204,12 +204,12 @@ HasNote (Aside (Failed note) ∷ steps) = ⊤
 HasNote (step ∷ steps) = HasNote steps
 
 -- why a leave isn't entered: a keeper failed, the document has as many steps as it may have, or memory was wanting
-abbrev pub IsKept : Knowing → SessionEnd → Type 0
-IsKept p end = HasNote p.mine ⊎ ((length p.seen ≡ most) ⊎ (end ≡ NoMemory))
+abbrev pub MissesLeave : Knowing → SessionEnd → Type 0
+MissesLeave p end = HasNote p.mine ⊎ ((length p.seen ≡ most) ⊎ (end ≡ NoMemory))
 
 abbrev pub HasLeft : Option Raw → List Raw → Knowing → SessionEnd → Type 0
 HasLeft None left p end = left ≡ []
-HasLeft (Some raw) left p end = (left ≡ raw ∷ []) ⊎ ((left ≡ []) × IsKept p end)
+HasLeft (Some raw) left p end = (left ≡ raw ∷ []) ⊎ ((left ≡ []) × MissesLeave p end)
 
 -- ---- what replies are read from
 

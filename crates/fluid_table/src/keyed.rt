@@ -1,5 +1,5 @@
 ghost use Rattle.std.specs.Prelude.{◌≡◌, ◌+◌, ◌<◌, ◌≤◌, IfOk, IfErr, IfSome, option_map, vec_len, vec_capacity};
-ghost use Rattle.std.specs.FinMap.{get, insert, remove, is_sorted};
+ghost use Rattle.std.specs.FinMap.{get, insert, is_sorted};
 ghost use Rattle.fluid_table.specs.Table.{byte_order};
 ghost use Rattle.fluid_table.specs.Keyed.{pairs_of, IsInOrder, table_of, IsAt, IsGap};
 
@@ -41,20 +41,6 @@ pub fn put<T: Entry + Drop>(entries: &mut Vec<T>, entry: T)
     match place(entries, entry.key()) {
         Ok(at) => entries[at] = entry,
         Err(at) => entries.insert(at, entry).unwrap(),
-    }
-}
-
-/// Takes the entry of a key out, where there is one.
-pub fn take_out<T: Entry + Drop>(entries: &mut Vec<T>, key: &str)
-    requires { IsInOrder T.key_of T.value_of entries.old.items }
-    ensures order { IsInOrder T.key_of T.value_of entries.new.items }
-    ensures table { table_of T.key_of T.value_of entries.new.items ≡ remove (table_of T.key_of T.value_of entries.old.items) key.now }
-    ensures len { vec_len entries.new ≤ vec_len entries.old }
-    ensures capacity { vec_capacity entries.old ≤ vec_capacity entries.new }
-{
-    match place(entries, key) {
-        Ok(at) => drop(entries.remove(at)),
-        Err(_) => {}
     }
 }
 

@@ -10,5 +10,5 @@
 mod keyed;
 mod map;
 
-pub use keyed::{Entry, find, is_in_order, put, take_out};
+pub use keyed::{Entry, find, is_in_order, put};
 pub use map::{Key, SortedMap};

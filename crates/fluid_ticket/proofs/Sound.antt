@@ -5,7 +5,7 @@ use Rattle.std.specs.FinMap.{empty, get, get-empty, insert, remove}
 use Rattle.fluid_clients.specs.declared.table.Row.{Row}
 use Rattle.fluid_clients.specs.Table.{Rows, byte_order, least}
 use Rattle.fluid_clients.proofs.Laws.{lesser, least-insert, least-reached, least-below, least-none, least-there, remove-absent}
-use Rattle.fluid_ticket.specs.State.{State, start, minimum, IsSound, IsKept}
+use Rattle.fluid_ticket.specs.State.{State, start, minimum, IsSound, IsSoundWith}
 
 pub minimum-le-sequence : (s : State) → IsSound s → minimum s ≤ s.sequence
 minimum-le-sequence s sound =
@@ -63,7 +63,7 @@ least-empty n =
           absurd (let no : None ≡ Some reached.row = sym (get-empty byte_order reached.id) ∙ reached.there in cc)
     ] refl
 
-pub start-kept : IsKept start 0
+pub start-kept : IsSoundWith start 0
 start-kept = record {
   sound = record { few = omega arith; rows = λ id row there. absurd (let no : None ≡ Some row = sym (get-empty byte_order id) ∙ there in cc) };
   is_minimum = least-empty 0;

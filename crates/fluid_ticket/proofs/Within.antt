@@ -20,7 +20,7 @@ use Rattle.fluid_rules.proofs.Verdicts.{verdict-is_message}
 use Rattle.fluid_clients.specs.declared.table.Row.{Row}
 use Rattle.fluid_clients.specs.Table.{Rows, rows_up_to}
 use Rattle.fluid_clients.proofs.Down.{rows_up_to-low, rows_up_to-same}
-use Rattle.fluid_ticket.specs.State.{State, minimum, after, verdict_in, minimum_up_to, within_order, IsSound, IsKept}
+use Rattle.fluid_ticket.specs.State.{State, minimum, after, verdict_in, minimum_up_to, within_order, IsSound, IsSoundWith}
 use Rattle.fluid_ticket.specs.Ledger.{state_of, StandsFor, IsAnswered}
 use Rattle.fluid_ticket.proofs.Sound.{start-kept}
 use Rattle.fluid_ticket.proofs.Ledgers.{number_of, sequence-state_of, verdict-state_of, start-stands}
@@ -30,7 +30,7 @@ within-sound : (s : State) → IsSound (within_order s)
 within-sound s = record { few = omega arith; rows = λ id row there. rows_up_to-low (min s.sequence (2 ^ 53 - 1)) s.rows id row there }
 
 -- a state that is another one within the order is sound
-pub within-kept : (s t : State) (least : ℕ) → t ≡ within_order s → least ≡ minimum t → IsKept t least
+pub within-kept : (s t : State) (least : ℕ) → t ≡ within_order s → least ≡ minimum t → IsSoundWith t least
 within-kept s t least is minimum_is = record { sound = subst IsSound (sym is) (within-sound s); is_minimum = minimum_is }
 
 pub within_order-is : (sequence minimum : ℕ) (rows : Rows) (last low : ℕ) (down : Rows) → last ≡ min sequence (2 ^ 53 - 1) → low ≡ minimum_up_to last minimum → down ≡ rows_up_to last rows →

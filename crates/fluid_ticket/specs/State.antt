@@ -236,6 +236,6 @@ within_order s =
     record { sequence = last; last_minimum = minimum_up_to last s.last_minimum; rows = rows_up_to last s.rows }
 
 -- a sound state with its minimum
-pub record IsKept (s : State) (least : ℕ) : Type 0 where
+pub record IsSoundWith (s : State) (least : ℕ) : Type 0 where
   pub sound : IsSound s
   pub is_minimum : least ≡ minimum s

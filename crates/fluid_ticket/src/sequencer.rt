@@ -16,16 +16,13 @@ use crate::messages::{
 use crate::outcome::{Outcome, outcome_by};
 use crate::ready::{Change, Ready};
 use fluid_clients::{Clients, Row, SequencerState, Steps};
-use fluid_json::{Json, NoMemory};
+use fluid_json::{Json, LARGEST, NoMemory};
 use fluid_rules::{Answer, SummaryRule};
 use fluid_tree::Id;
 use fluid_types::{ClientId, Kind, NackRule, Offered, Raw, Scopes, Submission, Verdict};
 use std::alloc::Global;
 use std::marker::{Brand, Model};
 use std::sync::ledger::{Blank, Ledger};
-
-// The largest number of the protocol.
-const LARGEST: u64 = (1 << 53) - 1;
 
 /// The sequencer of one document.
 #[derive(Drop)]
@@ -39,7 +36,7 @@ pub struct Sequencer {
 
 impl Model for Sequencer {
     ghost use Rattle.std.specs.Prelude.{◌≡◌};
-    ghost use Rattle.fluid_ticket.specs.State.{Sequencing, sequencing_code, IsKept};
+    ghost use Rattle.fluid_ticket.specs.State.{Sequencing, sequencing_code, IsSoundWith};
 
     ghost Value = { Sequencing };
 
@@ -50,7 +47,7 @@ impl Model for Sequencer {
       spare = s.clients.spare;
     } };
 
-    ghost invariant = { λ s. IsKept (record { sequence = s.sequence; last_minimum = s.last_minimum; rows = s.clients.rows }) s.minimum };
+    ghost invariant = { λ s. IsSoundWith (record { sequence = s.sequence; last_minimum = s.last_minimum; rows = s.clients.rows }) s.minimum };
 }
 
 impl Sequencer {

@@ -3,7 +3,7 @@ use Rattle.std.specs.Vec.{vec_capacity}
 use Rattle.std.specs.FinMap.{insert, get, len}
 use Rattle.std.proofs.lemmas.Option.{same_Some}
 use Rattle.fluid_clients.specs.declared.table.Row.{Row}
-use Rattle.fluid_clients.specs.Seats.{IsKept}
+use Rattle.fluid_clients.specs.Seats.{AreSeated}
 use Rattle.fluid_clients.proofs.Seating.{rows_in, slot-there, row-there, rows-changed, kept-changed, slots-count}
 use Rattle.fluid_clients.proofs.table.Clients.accept.Goals as goal
 

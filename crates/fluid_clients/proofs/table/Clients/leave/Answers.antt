@@ -3,7 +3,7 @@ use Rattle.std.specs.Vec.{vec_capacity}
 use Rattle.std.proofs.lemmas.Bool.{false≢true}
 use Rattle.std.proofs.lemmas.Option.{none-some}
 use Rattle.fluid_table.proofs.KeyedPlaces.{get_gap, remove_gap}
-use Rattle.fluid_clients.specs.Seats.{id_of, row_of, IsKept}
+use Rattle.fluid_clients.specs.Seats.{id_of, row_of, AreSeated}
 use Rattle.fluid_clients.proofs.Seating.{slot-there, row-there, rows-left, kept-left, slots-count, roomier}
 use Rattle.fluid_clients.proofs.table.Clients.leave.Goals as goal
 

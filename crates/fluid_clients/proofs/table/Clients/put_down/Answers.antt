@@ -1,6 +1,6 @@
 use Rattle.std.proofs.Common.{◌∙◌, arith, sym}
 use Rattle.std.specs.Vec.{vec_capacity}
-use Rattle.fluid_clients.specs.Seats.{IsKept}
+use Rattle.fluid_clients.specs.Seats.{AreSeated}
 use Rattle.fluid_clients.proofs.Down.{in_order_down, rows_down}
 use Rattle.fluid_clients.proofs.table.Clients.put_down.Goals as goal
 

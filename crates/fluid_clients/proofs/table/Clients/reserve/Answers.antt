@@ -1,6 +1,6 @@
 use Rattle.std.proofs.Common.{◌≡◌, ◌+◌, ◌≤◌, ◌++◌, ◌∷◌, [], suc, length, ap, arith}
 use Rattle.std.specs.Vec.{vec_capacity}
-use Rattle.fluid_clients.specs.Seats.{IsKept}
+use Rattle.fluid_clients.specs.Seats.{AreSeated}
 use Rattle.fluid_clients.proofs.Seating.{kept-more}
 use Rattle.fluid_clients.proofs.table.Clients.reserve.Goals as goal
 

@@ -3,7 +3,7 @@ use Rattle.std.specs.Option.{unwrap_or}
 use Rattle.fluid_types.specs.declared.messages.Message.{Message}
 use Rattle.fluid_types.specs.declared.verdicts.Verdict.{Verdict}
 use Rattle.fluid_types.specs.declared.verdicts.Verdict.TheVariants.{Sequenced, Absorbed}
-use Rattle.fluid_ticket.specs.State.{Sequencing, prepared, IsKept, IsSound, after}
+use Rattle.fluid_ticket.specs.State.{Sequencing, prepared, IsSoundWith, IsSound, after}
 use Rattle.fluid_ticket.proofs.Commits.{can_apply, parts_of, after_sequenced, after_other, sound_after, minimum_sequenced, minimum_other, stands_after}
 use Rattle.fluid_ticket.proofs.sequencer.Sequencer.commit.Goals as goal
 
@@ -19,7 +19,7 @@ invariant_of-self c =
     let numbered = rw (← c.self.view_is) at c.requires.numbered in
     let parts = parts_of _ c.requires.answer c.requires.raw c.into_parts-verdict.result c.args.ready c.into_parts-verdict.ensures (c.requires.is ∙ ap (λ s. prepared s c.requires.answer c.requires.raw) (sym same)) in
     let behind = after_sequenced _ c.requires.answer c.requires.raw _ _ parts _ c.apply.ensures c.in-Sequenced.message c.in-Sequenced.is in
-    subst (λ s. IsKept s c.in-Sequenced.message.minimum) (sym behind)
+    subst (λ s. IsSoundWith s c.in-Sequenced.message.minimum) (sym behind)
     (record {
       sound = sound_after _ c.self.invariant.sound c.requires.answer c.requires.raw _ parts.verdict_is numbered;
       is_minimum = minimum_sequenced _ c.requires.answer c.requires.raw _ c.in-Sequenced.message parts.verdict_is c.in-Sequenced.is;
@@ -68,7 +68,7 @@ invariant_of-self-in_default c =
     let numbered = rw (← c.self.view_is) at c.requires.numbered in
     let parts = parts_of _ c.requires.answer c.requires.raw c.into_parts-verdict.result c.args.ready c.into_parts-verdict.ensures (c.requires.is ∙ ap (λ s. prepared s c.requires.answer c.requires.raw) (sym same)) in
     let behind = after_other _ c.requires.answer c.requires.raw _ _ parts _ c.apply.ensures c.in_default.not-Sequenced in
-    subst (λ s. IsKept s c.self.inside.minimum) (sym behind)
+    subst (λ s. IsSoundWith s c.self.inside.minimum) (sym behind)
     (record {
       sound = sound_after _ c.self.invariant.sound c.requires.answer c.requires.raw _ parts.verdict_is numbered;
       is_minimum = c.self.invariant.is_minimum ∙ sym (minimum_other _ c.requires.answer c.requires.raw _ parts.verdict_is (c.in_default.not-Sequenced, c.in_default.not-Absorbed));

@@ -1,7 +1,7 @@
 use Rattle.std.proofs.Common.{◌≡◌, ap, sym, subst, ◌∙◌}
 use Rattle.std.specs.Option.{unwrap_or}
 use Rattle.fluid_clients.specs.Table.{rows_up_to, least}
-use Rattle.fluid_ticket.specs.State.{State, within_order, IsKept}
+use Rattle.fluid_ticket.specs.State.{State, within_order, IsSoundWith}
 use Rattle.fluid_ticket.proofs.Within.{within_order-is, within-kept, sound-within, stands-within}
 use Rattle.fluid_ticket.proofs.sequencer.Sequencer.of_parts.Goals as goal
 
