@@ -12,6 +12,7 @@ use crate::answers::{answered, counted, few, note, picked};
 use crate::calling::{enter, get, put, read};
 use crate::course::{Begun, Course};
 use crate::handles::{handles_in, keep};
+use crate::notes::Notes;
 use crate::told_objects::ToldObjects;
 use fluid_json::{Bytes, NoMemory};
 use fluid_lane::Lane;
@@ -26,26 +27,19 @@ use fluid_voice::front_nack;
 use std::alloc::Global;
 
 /// One client's way to a document whose lane is lent, at one moment, in milliseconds. It counts each fault of the lane and of the store
-/// but want of memory; the course keeps it, and no call is made behind it.
+/// but want of memory; the course keeps it, and no call is made behind it. All that owns memory is lent, too: what a generic struct
+/// leaves behind its references isn't known where it owns something.
 #[derive(Drop)]
 pub struct DoorLink<'a, K: Keeper, O: Objects, W: Begun> {
-    pub client: ClientId,
     pub moment: u64,
     pub lane: &'a mut Lane<K>,
     pub objects: &'a mut ToldObjects<O>,
     pub course: &'a mut Course<K, O, W>,
+    pub notes: &'a mut Notes,
     pub faults: u64,
     pub refusals: u64,
-    /// How many trees were refused by what is held.
+    /// How many trees what is held refused.
     pub bad_trees: u64,
-    /// The numbers of the messages that were fetched.
-    pub messages: Vec<u64>,
-    /// The ids of the objects that were fetched.
-    pub fetched: Vec<Id>,
-    /// How many nodes of each tree that was to be put were handles.
-    pub handles: Vec<u64>,
-    /// The submissions that were taken.
-    pub taken: Vec<Submission>,
     pub ghost in_time: { moment < 2 ^ 53 },
     pub ghost at: { course.now ≡ record { lane = lane.now; store = objects.now; stop = course.now.stop } } by { Coded-set along_code course.now (record { lane = lane.now; store = objects.now; stop = course.now.stop }) },
     pub ghost trees: { IsTreeCounted course.now.stop bad_trees },
@@ -54,36 +48,30 @@ pub struct DoorLink<'a, K: Keeper, O: Objects, W: Begun> {
 impl<'a, K: Keeper, O: Objects, W: Begun> DoorLink<'a, K, O, W> {
     /// A link by which nothing was done yet. Takes no memory.
     pub fn new(
-        alloc: Global,
-        client: ClientId,
         moment: u64,
         lane: &'a mut Lane<K>,
         objects: &'a mut ToldObjects<O>,
         course: &'a mut Course<K, O, W>,
+        notes: &'a mut Notes,
     ) -> DoorLink<'a, K, O, W>
         requires moment { moment < 2 ^ 53 }
         requires at { course.old ≡ record { lane = lane.old; store = objects.old; stop = None } }
-        ensures client { result.client ≡ client }
         ensures moment { result.moment ≡ moment }
         ensures lane { (result.lane.ghost_name ≡ lane.entry.ghost_name) × (result.lane.now ≡ lane.old) }
         ensures objects { (result.objects.ghost_name ≡ objects.entry.ghost_name) × (result.objects.now ≡ objects.old) }
         ensures course { (result.course.ghost_name ≡ course.entry.ghost_name) × (result.course.now ≡ course.old) }
+        ensures notes { (result.notes.ghost_name ≡ notes.entry.ghost_name) × (result.notes.now ≡ notes.old) }
         ensures counts { (result.faults ≡ 0) × ((result.refusals ≡ 0) × (result.bad_trees ≡ 0)) }
-        ensures lists { (result.messages.items ≡ []) × ((result.fetched.items ≡ []) × ((result.handles.items ≡ []) × (result.taken.items ≡ []))) }
     {
         DoorLink {
-            client,
             moment,
             lane,
             objects,
             course,
+            notes,
             faults: 0,
             refusals: 0,
             bad_trees: 0,
-            messages: Vec::new(alloc),
-            fetched: Vec::new(alloc),
-            handles: Vec::new(alloc),
-            taken: Vec::new(alloc),
         }
     }
 
@@ -102,25 +90,25 @@ impl<'a, K: Keeper, O: Objects, W: Begun> Link for DoorLink<'a, K, O, W> {
     ghost use Rattle.fluid_door_link.specs.Telling.{told_by};
 
     ghost seen = { λ l. record {
-      client = l.client;
+      client = l.notes.now.client;
       moment = l.moment;
       told = told_by W.good l.lane.now l.objects.now;
       faults = l.faults;
       refusals = l.refusals;
       bad_trees = l.bad_trees;
-      messages = l.messages.items;
-      objects = l.fetched.items;
-      handles = l.handles.items;
-      taken = l.taken.items;
+      messages = l.notes.now.messages.items;
+      objects = l.notes.now.fetched.items;
+      handles = l.notes.now.handles.items;
+      taken = l.notes.now.taken.items;
     } };
 
-    ghost lent = { λ l. l.lane.ghost_name ∷ l.objects.ghost_name ∷ l.course.ghost_name ∷ [] };
+    ghost lent = { λ l. l.lane.ghost_name ∷ l.objects.ghost_name ∷ l.course.ghost_name ∷ l.notes.ghost_name ∷ [] };
 
     fn id(&self) -> &ClientId {
         orders_are_told();
         self.course.know();
         self.objects.know();
-        &self.client
+        &self.notes.client
     }
 
     fn summary(&mut self, _alloc: Global, pick: &Pick) -> Result<Option<SummaryRef>, LinkFault> {
@@ -138,7 +126,7 @@ impl<'a, K: Keeper, O: Objects, W: Begun> Link for DoorLink<'a, K, O, W> {
             return Err(LinkFault::NoMemory);
         }
         match get(alloc, self.lane, self.objects, self.course, id) {
-            Ok(bytes) => match self.fetched.push(*id) {
+            Ok(bytes) => match self.notes.fetched.push(*id) {
                 Ok(()) => Ok(bytes),
                 Err(_) => Err(LinkFault::NoMemory),
             },
@@ -151,7 +139,7 @@ impl<'a, K: Keeper, O: Objects, W: Begun> Link for DoorLink<'a, K, O, W> {
             return Err(LinkFault::NoMemory);
         }
         match read(alloc, self.lane, self.objects, self.course, from) {
-            Ok(messages) => match note(alloc, &mut self.messages, messages.as_slice()) {
+            Ok(messages) => match note(alloc, &mut self.notes.messages, messages.as_slice()) {
                 Ok(()) => Ok(messages),
                 Err(NoMemory) => Err(LinkFault::NoMemory),
             },
@@ -163,7 +151,7 @@ impl<'a, K: Keeper, O: Objects, W: Begun> Link for DoorLink<'a, K, O, W> {
         if self.course.is_stopped() {
             return Err(LinkFault::NoMemory);
         }
-        let id = match self.client.copy(alloc) {
+        let id = match self.notes.client.copy(alloc) {
             Ok(id) => id,
             Err(NoMemory) => return Err(LinkFault::NoMemory),
         };
@@ -173,7 +161,7 @@ impl<'a, K: Keeper, O: Objects, W: Begun> Link for DoorLink<'a, K, O, W> {
             moment: self.moment,
         };
         match enter(alloc, self.lane, self.objects, self.course, &raw) {
-            Ok(Some(verdict)) => answered(&mut self.refusals, &mut self.taken, raw, verdict),
+            Ok(Some(verdict)) => answered(&mut self.refusals, &mut self.notes.taken, raw, verdict),
             Ok(None) => {
                 self.refusals = self.refusals.saturating_add(1);
                 Ok(Given::Nacked(front_nack(NackRule::Full)))
@@ -186,7 +174,7 @@ impl<'a, K: Keeper, O: Objects, W: Begun> Link for DoorLink<'a, K, O, W> {
         if self.course.is_stopped() {
             return Err(LinkFault::NoMemory);
         }
-        if !keep(&mut self.handles, handles_in(tree)) {
+        if !keep(&mut self.notes.handles, handles_in(tree)) {
             return Err(LinkFault::NoMemory);
         }
         match put(
