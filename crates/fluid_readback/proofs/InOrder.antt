@@ -55,17 +55,17 @@ abbrev mutual
   HasSorted serde.no_members = ⊤
   HasSorted (serde.member k d ms) = IsBelowEach k ms × (IsSorted d × HasSorted ms)
 
-pub record IsKept (size deep : ℕ) (d : serde.Data) : Type 0 where
+pub record IsBoundedAndSorted (size deep : ℕ) (d : serde.Data) : Type 0 where
   pub short : data_size d ≤ size
   pub shallow : serde.depth d ≤ deep
   pub sorted : IsSorted d
 
-record AreKept (size deep : ℕ) (ds : serde.Items) : Type 0 where
+record AreBoundedAndSorted (size deep : ℕ) (ds : serde.Items) : Type 0 where
   pub short : data_items_size ds ≤ size
   pub shallow : serde.items_depth ds ≤ deep
   pub sorted : AreSorted ds
 
-record HasKept (size deep : ℕ) (ms : serde.Members) : Type 0 where
+record HasBoundedAndSorted (size deep : ℕ) (ms : serde.Members) : Type 0 where
   pub short : data_members_size ms ≤ size
   pub shallow : serde.members_depth ms ≤ deep
   pub sorted : HasSorted ms
@@ -88,10 +88,10 @@ below_put l k d (serde.member m e ms) h g = of (slice_cmp nat_cmp k m) (below_pu
     of Equal more = g
     of Greater more = (g.0, more)
 
-put_on : (size deep : ℕ) (k l : List ℕ) (d e : serde.Data) (ms : serde.Members) → IsKept size deep d → (o : Ordering) → slice_cmp nat_cmp k l ≡ o
-    → (n : ℕ) → HasKept n deep (serde.member l e ms)
-    → HasKept (length (quoted k) + (size + (n - (length (quoted l) + data_size e)))) deep (serde.put k d ms)
-    → HasKept (length (quoted k) + (size + n)) deep (match_ordering o (serde.member k d (serde.member l e ms)) (serde.member l d ms) (serde.member l e (serde.put k d ms)))
+put_on : (size deep : ℕ) (k l : List ℕ) (d e : serde.Data) (ms : serde.Members) → IsBoundedAndSorted size deep d → (o : Ordering) → slice_cmp nat_cmp k l ≡ o
+    → (n : ℕ) → HasBoundedAndSorted n deep (serde.member l e ms)
+    → HasBoundedAndSorted (length (quoted k) + (size + (n - (length (quoted l) + data_size e)))) deep (serde.put k d ms)
+    → HasBoundedAndSorted (length (quoted k) + (size + n)) deep (match_ordering o (serde.member k d (serde.member l e ms)) (serde.member l d ms) (serde.member l e (serde.put k d ms)))
 put_on size deep k l d e ms h Less is n g more = record {
   short = omega (arith, h.short, g.short);
   shallow = omega (arith, h.shallow, g.shallow);
@@ -108,7 +108,7 @@ put_on size deep k l d e ms h Greater is n g more = record {
   sorted = (below_put l k d ms (reversed k l is) g.sorted.0, (g.sorted.1.0, more.sorted));
 }
 
-put_kept : (size deep : ℕ) (k : List ℕ) (d : serde.Data) (ms : serde.Members) (n : ℕ) → IsKept size deep d → HasKept n deep ms → HasKept (length (quoted k) + (size + n)) deep (serde.put k d ms)
+put_kept : (size deep : ℕ) (k : List ℕ) (d : serde.Data) (ms : serde.Members) (n : ℕ) → IsBoundedAndSorted size deep d → HasBoundedAndSorted n deep ms → HasBoundedAndSorted (length (quoted k) + (size + n)) deep (serde.put k d ms)
 put_kept size deep k d serde.no_members n h g = record { short = omega (arith, h.short); shallow = omega (arith, h.shallow); sorted = (tt, (h.sorted, tt)) }
 put_kept size deep k d (serde.member l e ms) n h g =
     put_on size deep k l d e ms h (slice_cmp nat_cmp k l) refl n g
@@ -118,15 +118,15 @@ put_kept size deep k d (serde.member l e ms) n h g =
 
 abbrev pub Kept : ℕ → ℕ → Option serde.Data → Type 0
 Kept size deep None = ⊤
-Kept size deep (Some d) = IsKept size deep d
+Kept size deep (Some d) = IsBoundedAndSorted size deep d
 
 abbrev ItemsKept : ℕ → ℕ → Option serde.Items → Type 0
 ItemsKept size deep None = ⊤
-ItemsKept size deep (Some ds) = AreKept size deep ds
+ItemsKept size deep (Some ds) = AreBoundedAndSorted size deep ds
 
 abbrev MembersKept : ℕ → ℕ → Option serde.Members → Type 0
 MembersKept size deep None = ⊤
-MembersKept size deep (Some ms) = HasKept size deep ms
+MembersKept size deep (Some ms) = HasBoundedAndSorted size deep ms
 
 number_kept : (s : List ℕ) (o : Option serde.Num) → ((n : serde.Num) → o ≡ Some n → IsNumber (length s) n) → Kept (length s) 0 (option_map serde.number o)
 number_kept s None h = tt
@@ -140,7 +140,7 @@ object_kept : (size deep : ℕ) (o : Option serde.Members) → MembersKept size 
 object_kept size deep None h = tt
 object_kept size deep (Some ms) h = record { short = omega (arith, h.short); shallow = omega (arith, h.shallow); sorted = h.sorted }
 
-item_kept : (size deep more most : ℕ) (d : serde.Data) (o : Option serde.Items) → IsKept size deep d → ItemsKept more most o → ItemsKept (size + more) (max deep most) (option_map (serde.item d) o)
+item_kept : (size deep more most : ℕ) (d : serde.Data) (o : Option serde.Items) → IsBoundedAndSorted size deep d → ItemsKept more most o → ItemsKept (size + more) (max deep most) (option_map (serde.item d) o)
 item_kept size deep more most d None h g = tt
 item_kept size deep more most d (Some ds) h g = record { short = omega (arith, h.short, g.short); shallow = omega (arith, h.shallow, g.shallow); sorted = (h.sorted, g.sorted) }
 
@@ -153,7 +153,7 @@ longer : (size more deep : ℕ) (o : Option serde.Members) → MembersKept size 
 longer size more deep None h k = tt
 longer size more deep (Some ms) h k = record { short = omega (arith, h.short); shallow = h.shallow; sorted = h.sorted }
 
-then_members : (deep : ℕ) (size more : ℕ) (o : Option serde.Data) (f : serde.Data → Option serde.Members) → Kept size deep o → ((d : serde.Data) → IsKept size deep d → MembersKept more deep (f d)) → MembersKept more deep (option_and_then f o)
+then_members : (deep : ℕ) (size more : ℕ) (o : Option serde.Data) (f : serde.Data → Option serde.Members) → Kept size deep o → ((d : serde.Data) → IsBoundedAndSorted size deep d → MembersKept more deep (f d)) → MembersKept more deep (option_and_then f o)
 then_members deep size more None f h g = tt
 then_members deep size more (Some d) f h g = g d h
 
@@ -177,7 +177,7 @@ mutual
   items_kept json.no_items = record { short = omega arith; shallow = omega arith; sorted = tt }
   items_kept (json.item j js) = items_kept_then (json_size j) (tree.depth j) (items_size js) (tree.items_depth js) (of_json j) (of_items js) (kept j) (items_kept js)
 
-  members_kept : (ms : json.Members) (found : serde.Members) (n deep : ℕ) → tree.members_depth ms ≤ deep → HasKept n deep found → MembersKept (members_size ms + n) deep (of_members ms found)
+  members_kept : (ms : json.Members) (found : serde.Members) (n deep : ℕ) → tree.members_depth ms ≤ deep → HasBoundedAndSorted n deep found → MembersKept (members_size ms + n) deep (of_members ms found)
   members_kept json.no_members found n deep k h = record { short = omega (arith, h.short); shallow = h.shallow; sorted = h.sorted }
   members_kept (json.member key j ms) found n deep k h =
       then_members deep (json_size j) (length (quoted key) + (json_size j + members_size ms) + n) (of_json j) (λ d. of_members ms (serde.put key d found))

@@ -22,7 +22,7 @@ use Rattle.fluid_readback.specs.Laws.{ValuesAreBounded}
 use Rattle.fluid_readback.proofs.Numerals.{number_size, IsNegative}
 use Rattle.fluid_readback.proofs.Punctuated.{tokens_short, tokens_shallow}
 use Rattle.fluid_readback.proofs.Parsed.{json_size, parsed}
-use Rattle.fluid_readback.proofs.InOrder.{data_size, data_items_size, data_members_size, IsBelowEach, IsSorted, AreSorted, HasSorted, IsKept, Kept, kept}
+use Rattle.fluid_readback.proofs.InOrder.{data_size, data_items_size, data_members_size, IsBelowEach, IsSorted, AreSorted, HasSorted, IsBoundedAndSorted, Kept, kept}
 
 -- ---- what is made of a value's data
 
@@ -175,7 +175,7 @@ read_below top s t above test read_as =
     let parse = then_some (λ p. json.if_last p.0 p.1) (json.value max_depth (tokens s)) tree.0 tree.1 in
     let same : parse.0.0 ≡ tree.0 = only parse.0.0 tree.0 parse.0.1 parse.2 in
     let bounds = parsed top max_depth (tokens s) parse.0.1 parse.0.0 above (tokens_shallow top s test) parse.1 in
-    let is_kept : IsKept (json_size tree.0) (parse_tree.depth tree.0) value.0 = subst (Kept (json_size tree.0) (parse_tree.depth tree.0)) tree.2 (kept tree.0) in
+    let is_kept : IsBoundedAndSorted (json_size tree.0) (parse_tree.depth tree.0) value.0 = subst (Kept (json_size tree.0) (parse_tree.depth tree.0)) tree.2 (kept tree.0) in
     let is_made : IsMade (data_size value.0) (serde.depth value.0) t = subst (Made (data_size value.0) (serde.depth value.0)) value.2 (made value.0 is_kept.sorted) in
     let deep : parse_tree.depth tree.0 < top = subst (λ j. parse_tree.depth j < top) same (omega (arith, bounds.0)) in
     let long : json_size tree.0 ≤ length s = subst (λ j. json_size j ≤ length s) same (omega (arith, bounds.1, tokens_short s)) in
