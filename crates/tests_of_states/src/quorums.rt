@@ -186,17 +186,17 @@ const NAMES: [&str; 4] = [
     "quorumValues",
 ];
 
-// The blobs of the joins above, a pending proposal and a value.
+// The blobs of the joins above, of a key's value and of a second proposal of that key, which is pending.
 const GOOD: [&str; 4] = [
     r#"{"minimumSequenceNumber":7,"sequenceNumber":8}"#,
     r#"[{"clientId":"a","detail":null,"sequenceNumber":2},{"clientId":"b","detail":2,"sequenceNumber":4}]"#,
-    r#"[{"key":"mode","sequenceNumber":8,"value":[1]}]"#,
+    r#"[{"key":"code","sequenceNumber":8,"value":[1]}]"#,
     r#"[{"approvalSequenceNumber":8,"key":"code","sequenceNumber":7,"value":"v2"}]"#,
 ];
 
 const NEWS: &[Step] = &[
     Step::Propose(7, 5, CODE),
-    Step::Propose(8, 7, r#"{"key":"mode","value":[1]}"#),
+    Step::Propose(8, 7, r#"{"key":"code","value":[1]}"#),
 ];
 
 fn content(tree: &Node, place: usize) -> Option<&str> {
@@ -408,6 +408,17 @@ const ONE_OF_TWO: &[Step] = &[
     Step::Last(9, 4),
 ];
 
+// Behind the good blobs: the pending proposal takes the place of the value that its key has.
+const SECOND: &[Step] = &[
+    Step::Value("code", Some((7, 8))),
+    Step::Advance(9, 7),
+    Step::Value("code", Some((7, 8))),
+    Step::Pending(1),
+    Step::Advance(10, 8),
+    Step::Value("code", Some((8, 10))),
+    Step::Pending(0),
+];
+
 fn assert_advanced(rt: &impl Abort, alloc: Global, tree: &Node, steps: &[Step]) {
     let mut quorum = Quorum::from_blobs(alloc, tree).ok().expect(rt, "a quorum");
     assert_steps(rt, alloc, &mut quorum, steps);
@@ -422,4 +433,7 @@ fn noops_bring_a_quorum_to_a_number(rt: HostRuntime) {
     assert_advanced(&rt, alloc, &tree, AT_ONCE);
     assert_advanced(&rt, alloc, &tree, ONE_OF_TWO);
     drop(tree);
+    let good = Node::tree(tree_without(&rt, alloc, &GOOD, 4));
+    assert_advanced(&rt, alloc, &good, SECOND);
+    drop(good);
 }

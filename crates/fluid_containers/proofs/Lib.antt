@@ -1,0 +1,12 @@
+mod Lanes
+mod Ends
+mod Submitted
+mod Stepped
+mod OnDesk
+mod Counts
+mod Joined
+mod Fitted
+mod Loads
+mod LoadedDesk
+mod Stored
+mod Summarized

@@ -1,0 +1,42 @@
+use Rattle.std.proofs.Common.{rules, refl, sym, ap, subst, ◌∙◌}
+use Rattle.fluid_loader.specs.Link.{Fits}
+use Rattle.fluid_loader.specs.Calls.{noop_of}
+use Rattle.fluid_containers.specs.Saying.{SaysBeaten}
+use Rattle.fluid_containers.proofs.Counts.{beat_counts, submit_trees}
+use Rattle.fluid_containers.proofs.Stepped.{beats_left}
+use Rattle.fluid_containers.proofs.Ends.{left_well, left_honest, left_links, left_wants, unlent_links, beaten_wants}
+use Rattle.fluid_containers.proofs.Stored.{told_good, seen_as}
+use Rattle.fluid_containers.proofs.stepping.beat_lane.Goals as goal
+
+pub beat-answer-requires : goal.beat-answer-requires
+beat-answer-requires g c = subst (λ id. Fits id (noop_of c.args.holder.now.container)) (sym (ap (λ n. n.client) c.new-link.ensures.notes.1 ∙ c.new-notes.ensures.client)) ((c.known_to_fit.ensures c.in_ok-own.own c.as_str.ensures.name).noop)
+
+pub returns-in_err-own-clause-runs : goal.returns-in_err-own-clause-runs
+returns-in_err-own-clause-runs g c = unlent_links c.args.lane.now c.args.objects.now _ (search rules)
+
+pub returns-in-Some-clause-does : goal.returns-in-Some-clause-does
+returns-in-Some-clause-does g c = λ good limits w d k of store at stands is.
+    left_honest g.W.Begun.good g.W.Begun.began c.args.lane.now _ g.W.Begun.before c.args.objects.now _ c.beat-answer.new.link.course.now c.into_stop.result c.beat-answer.new.link.bad_trees c.in-Some.fault c.stop_for.result c.requires.lane c.requires.store c.know.ensures.at (search rules) c.know.ensures.along good c.know.ensures.trees (submit_trees (noop_of c.args.holder.now.container) (seen_as g.W.Begun.good c.new-link.result.lane.now c.new-link.result.objects.now c.new-link.result.notes.now.client c.new-link.result.moment c.new-link.result.faults c.new-link.result.refusals c.new-link.result.bad_trees c.new-link.result.notes.now.messages.items c.new-link.result.notes.now.fetched.items c.new-link.result.notes.now.handles.items c.new-link.result.notes.now.taken.items) (seen_as g.W.Begun.good c.beat-answer.new.link.lane.now c.beat-answer.new.link.objects.now c.beat-answer.new.link.notes.now.client c.beat-answer.new.link.moment c.beat-answer.new.link.faults c.beat-answer.new.link.refusals c.beat-answer.new.link.bad_trees c.beat-answer.new.link.notes.now.messages.items c.beat-answer.new.link.notes.now.fetched.items c.beat-answer.new.link.notes.now.handles.items c.beat-answer.new.link.notes.now.taken.items) c.beat-answer.result c.beat-answer.ensures.says ∙ c.new-link.ensures.counts.1.1) c.in-Some.is c.stop_for.ensures
+
+pub returns-in-Some-clause-runs : goal.returns-in-Some-clause-runs
+returns-in-Some-clause-runs g c = left_links g.W.Begun.good g.W.Begun.began c.args.lane.now _ g.W.Begun.before c.args.objects.now _ c.beat-answer.new.link.course.now c.into_stop.result c.in-Some.fault c.stop_for.result c.requires.lane c.requires.store (search rules) (search rules) c.know.ensures.along c.in-Some.is c.stop_for.ensures
+
+pub returns-in-Some-clause-numbers : goal.returns-in-Some-clause-numbers
+returns-in-Some-clause-numbers g c = beat_counts c.args.holder.now.container c.beat-answer.new.self c.beat-answer.result c.beat-answer.ensures.leaves
+
+pub returns-clause-does : goal.returns-clause-does
+returns-clause-does g c = λ good limits w d k of store at stands is.
+    let before = c.new-link.result in
+    let after = c.beat-answer.new.link in
+    beats_left g.W.Begun.good good limits w c.args.lane.now d of c.args.objects.now store _ _ (left_well g.W.Begun.good g.W.Begun.began c.args.lane.now _ g.W.Begun.before c.args.objects.now _ c.beat-answer.new.link.course.now c.into_stop.result c.requires.lane c.requires.store (search rules) (search rules) c.know.ensures.along good c.in-None.is) k c.args.holder.now is stands c.args.name.now
+    (seen_as g.W.Begun.good before.lane.now before.objects.now before.notes.now.client before.moment before.faults before.refusals before.bad_trees before.notes.now.messages.items before.notes.now.fetched.items before.notes.now.handles.items before.notes.now.taken.items)
+    (seen_as g.W.Begun.good after.lane.now after.objects.now after.notes.now.client after.moment after.faults after.refusals after.bad_trees after.notes.now.messages.items after.notes.now.fetched.items after.notes.now.handles.items after.notes.now.taken.items)
+    (ap (λ n. n.client) c.new-link.ensures.notes.1 ∙ c.new-notes.ensures.client ∙ c.in_ok-own.ensures) (told_good g.W.Begun.good good before.lane.now _ before.objects.now _ c.new-link.ensures.lane.1 c.new-link.ensures.objects.1)
+    after.lane.now after.objects.now refl (search rules) (search rules)
+    c.beat-answer.new.self c.beat-answer.ensures.stays c.submissions_are_counted.ensures (c.new-link.ensures.moment ∙ sym at) c.beat-answer.result c.beaten.result c.beat-answer.ensures.leaves c.beat-answer.ensures.says (subst (λ n. SaysBeaten c.args.name.now n c.beat-answer.result c.beaten.result) c.seq.ensures c.beaten.ensures)
+
+pub returns-clause-runs : goal.returns-clause-runs
+returns-clause-runs g c = left_wants g.W.Begun.good g.W.Begun.began c.args.lane.now _ g.W.Begun.before c.args.objects.now _ c.beat-answer.new.link.course.now c.into_stop.result c.beaten.result c.requires.lane c.requires.store (search rules) (search rules) c.know.ensures.along (beaten_wants c.args.name.now c.seq.result c.beat-answer.result c.beaten.result c.beaten.ensures)
+
+pub returns-clause-numbers : goal.returns-clause-numbers
+returns-clause-numbers g c = beat_counts c.args.holder.now.container c.beat-answer.new.self c.beat-answer.result c.beat-answer.ensures.leaves
