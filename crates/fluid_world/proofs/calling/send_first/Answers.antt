@@ -1,0 +1,28 @@
+use Rattle.std.proofs.Common.{refl, sym, ap, subst}
+use Rattle.std.specs.FinMap.{insert}
+use Rattle.fluid_table.proofs.Places.{get_own}
+use Rattle.fluid_steps.specs.declared.steps.Step.TheVariants as step
+use Rattle.fluid_transcript.specs.Transcript.{done}
+use Rattle.fluid_world.specs.declared.named.Named.TheVariants as a
+use Rattle.fluid_world.specs.Standing.{StepTakes}
+use Rattle.std.proofs.Common.{◌+◌}
+use Rattle.fluid_world.specs.Naming.{sender_refusal, AreCounted}
+use Rattle.fluid_world.proofs.Linked.{hearing_links}
+use Rattle.fluid_world.proofs.Stepped.{new_voice_in, call_takes, given_stay, voice_counted, counted_ok}
+use Rattle.fluid_world.proofs.calling.send_first.Goals as goal
+
+pub returns-clause-does : goal.returns-clause-does
+returns-clause-does g c = λ w stands at.
+    let s = step.Send c.args.name c.args.text.now in
+    let has = new_voice_in c.args.lanes.now c.args.objects.now c.args.names.now.table.values w c.args.name c.new-voice.result stands c.requires.new c.new-voice.ensures in
+    subst (λ given. StepTakes (done c.args.lanes.now.limits w s) c.send-lines.new.lanes c.send-lines.new.objects given c.send-lines.result) (sym c.give.ensures)
+    (call_takes c.args.lanes.now.limits w s c.args.lanes.now c.args.objects.now c.args.names.now.table.values stands (ap sender_refusal c.requires.new) c.steps_leave_others.ensures.others c.others_leave_containers.ensures c.containers_stay_based.ensures c.args.name
+    (insert c.args.names.now.table.values c.args.name (a.Connection c.send-lines.new.voice)) c.send-lines.new.voice c.send-lines.new.lanes c.send-lines.new.objects c.send-lines.result refl
+    (given_stay c.args.names.now.table.values c.args.name (a.Connection c.send-lines.new.voice)) (get_own c.args.names.now.table.values c.args.name (a.Connection c.send-lines.new.voice))
+    (c.send-lines.ensures.does w stands.desk stands.held has.sound has.is at))
+
+pub returns-clause-runs : goal.returns-clause-runs
+returns-clause-runs g c = λ first run. hearing_links first c.args.objects.now c.send-lines.new.objects c.send-lines.new.lanes c.send-lines.result (c.send-lines.ensures.runs first run)
+
+pub returns-clause-numbers : goal.returns-clause-numbers
+returns-clause-numbers g c = counted_ok c.send-lines.result (λ n few. subst (AreCounted (n + 1)) (sym c.give.ensures) (voice_counted c.args.names.now.table.values c.args.name c.send-lines.new.voice n few))
