@@ -19,6 +19,8 @@ usage: fluidd COMMAND
 commands:
   serve       serve documents to clients over WebSockets, or over lines
   sequence    order the raw records of one document
+  script      do the steps of a script, and write what each says
+  load        do the steps of a script, and show a document then
 
 help:
   fluidd --help            this page
@@ -29,12 +31,14 @@ The exit status is 0 where what was asked for is done: all of the input was read
 and all of the output written, all connections were served, or a page was
 written. It is 2 where the words ask for nothing, 3 where a line of the input is
 refused, 4 where reading failed, 5 where writing failed, 6 where memory was
-wanting, 9 where no connection can be taken, as at a port that is in use, and 10
-where a thread was refused.
+wanting, 7 where the log of a document failed, 8 where the store of objects
+failed, 9 where no connection can be taken, as at a port that is in use, 10
+where a thread was refused, and 11 where what is stored is refused.
 
 examples:
   $ fluidd serve 7070
   $ fluidd sequence < records.jsonl > verdicts.jsonl
+  $ fluidd script < steps.txt
 ";
 
 const SEQUENCE: &str = "\
@@ -53,6 +57,59 @@ is refused the run ends with `bad line N: WHY` and status 3.
 example:
   $ echo '{\"raw\":\"join\",\"clientId\":\"A\",\"detail\":null,\"scopes\":[\"doc:read\"],\"moment\":5}' | fluidd sequence
   {\"sequenced\":{\"clientId\":null,\"clientSequenceNumber\":-1,\"contents\":null,\"data\":\"{\\\"clientId\\\":\\\"A\\\",\\\"detail\\\":null}\",\"minimumSequenceNumber\":0,\"referenceSequenceNumber\":-1,\"sequenceNumber\":1,\"timestamp\":5,\"type\":\"join\"}}
+";
+
+const SCRIPT: &str = "\
+fluidd script reads steps from standard input, one a line, does them one after
+another on documents of its own, and writes what each says to standard output.
+
+usage: fluidd script
+
+  send C TEXT       connection C hears an event of the protocol; a new C starts
+  collect C         C is given the messages that weren't delivered
+  close C           C leaves; its name can't be used again
+  load P D none     container P joins document D, without a summary; or with
+                    `latest`, the last acknowledged one, or a summary's handle
+  pump P            P takes in the messages up to the last
+  edit P OP         P edits a channel by the JSON contents of an op
+  beat P            P says by a noop where it is
+  summarize P       P uploads its channels, and proposes them as a summary
+  show P            what P shows
+  scribe D          the scribe answers the pending summary of D
+  checkpoint D      a checkpoint of D is stored
+  restart D K       D begins again from its stored checkpoint K
+  reopen D          D is closed, and opened as by a new process
+  sweep D MS        one client that was silent for over MS milliseconds leaves,
+                    the first of them in byte order of ids
+  count D           how many entries D has, and its numbers
+
+A name has 1 to 16 characters of a-z and 0-9. The moment of a step, in
+milliseconds, is its line's number. An input has at most 16,777,216 lines, and a
+line at most 1,048,576 bytes; an empty line is passed over. At the first line
+that is refused the run ends with `bad line N: WHY` and status 3. All is kept in
+memory.
+
+example:
+  $ printf 'load p d none\\nedit p {\"type\":\"attach\",\"address\":\"m\",\"kind\":\"map\"}\\nshow p\\n' | fluidd script
+  p loaded d at 1
+  p edited
+  p at 1: {\"m\":{\"kind\":\"map\",\"value\":{}}}
+";
+
+const LOAD: &str = "\
+fluidd load does the steps of a script, which it reads from standard input as
+`fluidd script` does, without writing what they say. Then a container is loaded
+for document DOC, from its last acknowledged summary where there is one, and
+what it shows is written.
+
+usage: fluidd load DOC
+
+The name of a document has 1 to 64 characters of A-Z, a-z, 0-9, `_` and `-`. At
+the first line that is refused `bad line N: WHY` is all that is written.
+
+example:
+  $ fluidd load d < steps.txt
+  d at 10: {\"m\":{\"kind\":\"map\",\"value\":{}}}
 ";
 
 const SERVE: &str = "\
@@ -92,6 +149,8 @@ fn page_on(name: CommandName) -> Option<&'static str>
 {
     match name {
         CommandName::Sequence => Some(SEQUENCE),
+        CommandName::Script => Some(SCRIPT),
+        CommandName::Load => Some(LOAD),
         CommandName::Serve => Some(SERVE),
         _ => None,
     }

@@ -3,3 +3,4 @@ mod Clients
 mod Statuses
 mod Shown
 mod Served
+mod Scripted

@@ -1,5 +1,5 @@
 -- How `serve` ends, read off its status, and that it is what the words ask for.
-use Rattle.std.proofs.Common.{◌≡◌, ◌≤◌, ℕ, Bool, List, inl, inr, refl, sym, ap, subst, ◌∙◌, arith}
+use Rattle.std.proofs.Common.{◌≡◌, ◌≤◌, ℕ, Bool, true, false, List, Option, Some, None, inl, inr, refl, sym, ap, subst, ◌∙◌, arith}
 use Rattle.fluid_words.specs.declared.command.Command.{Command}
 use Rattle.fluid_words.specs.declared.command.Command.TheVariants.{Sequence, Script, Load, Workload, Serve, Help, Version}
 use Rattle.fluid_front.specs.Fronts.{Fronting}
@@ -10,7 +10,7 @@ use Rattle.fluidd.specs.declared.task.Task.{Task as Taken}
 use Rattle.fluidd.specs.declared.task.Task.TheVariants as taken
 use Rattle.fluidd.specs.Output.{code_of}
 use Rattle.fluidd.specs.Served.{ServesConnections, served_status}
-use Rattle.fluidd.specs.Tasks.{Task, Doing, Showing, Usage, IsTask, IsServing}
+use Rattle.fluidd.specs.Tasks.{Task, Doing, Showing, Usage, IsTask, IsServing, scripting, IsScripting, IsReading, UsesDesk}
 
 -- ---- statuses
 
@@ -62,17 +62,24 @@ wanting connections front refused = record {
 
 -- ---- words
 
+-- what is done for a script
+abbrev pub done_for : Option (List ℕ) → Taken
+done_for None = taken.Script
+done_for (Some document) = taken.Load document
+
 -- what was asked for, where it is done
 abbrev asked : Taken → Task
 asked taken.Sequence = Doing Sequence
+asked taken.Script = Doing Script
+asked (taken.Load document) = Doing (Load document)
 asked (taken.Serve port connections lines) = Doing (Serve port connections lines)
 asked (taken.Show status text) = Usage
 
 -- where `serve` is done it was asked for
 pub serving : (t : Task) (port connections : ℕ) (lines : Bool) → IsTask t (taken.Serve port connections lines) → t ≡ Doing (Serve port connections lines)
 serving (Doing Sequence) port connections lines h = sym (ap asked h)
-serving (Doing Script) port connections lines h = absurd h
-serving (Doing (Load document)) port connections lines h = absurd h
+serving (Doing Script) port connections lines h = sym (ap asked h)
+serving (Doing (Load document)) port connections lines h = sym (ap asked h)
 serving (Doing (Workload number clients ops)) port connections lines h = absurd h
 serving (Doing (Serve p c l)) port connections lines h = sym (ap asked h)
 serving (Doing (Help topic)) port connections lines h = absurd h
@@ -88,3 +95,55 @@ connections_in other = 0
 -- so many were asked for
 pub as_many : (t : Task) (port connections : ℕ) (lines : Bool) (p c : ℕ) (l : Bool) → IsTask t (taken.Serve port connections lines) → t ≡ Doing (Serve p c l) → connections ≡ c
 as_many t port connections lines p c l h is = ap connections_in (sym (serving t port connections lines h) ∙ is)
+
+-- where a script is done it was asked for
+pub scripted : (t : Task) (load : Option (List ℕ)) → IsTask t (done_for load) → t ≡ Doing (scripting load)
+scripted (Doing Sequence) None h = sym (ap asked h)
+scripted (Doing Sequence) (Some document) h = sym (ap asked h)
+scripted (Doing Script) None h = refl
+scripted (Doing Script) (Some document) h = sym (ap asked h)
+scripted (Doing (Load other)) None h = sym (ap asked h)
+scripted (Doing (Load other)) (Some document) h = sym (ap asked h)
+scripted (Doing (Workload number clients ops)) load h = absurd h
+scripted (Doing (Serve p c l)) None h = sym (ap asked h)
+scripted (Doing (Serve p c l)) (Some document) h = sym (ap asked h)
+scripted (Doing (Help topic)) load h = absurd h
+scripted (Doing Version) load h = absurd h
+scripted (Showing text) None h = absurd h
+scripted (Showing text) (Some document) h = absurd h
+scripted Usage None h = absurd h
+scripted Usage (Some document) h = absurd h
+
+-- one of two loads is asked for, and it is this one
+same_load : (one other : Option (List ℕ)) → Doing (scripting one) ≡ Doing (scripting other) → one ≡ other
+same_load None None h = refl
+same_load None (Some document) h = absurd (cc)
+same_load (Some document) None h = absurd (cc)
+same_load (Some a) (Some b) h = let same : a ≡ b = cc in ap Some same
+
+pub as_loaded : (t : Task) (one other : Option (List ℕ)) → IsTask t (done_for one) → t ≡ Doing (scripting other) → one ≡ other
+as_loaded t one other h is = same_load one other (sym (scripted t one h) ∙ is)
+
+pub is_scripting : (t : Task) (load : Option (List ℕ)) → t ≡ Doing (scripting load) → IsScripting t
+is_scripting t None is = subst IsScripting (sym is) tt
+is_scripting t (Some document) is = subst IsScripting (sym is) tt
+
+pub is_reading : (t : Task) (load : Option (List ℕ)) → t ≡ Doing (scripting load) → IsReading t
+is_reading t None is = subst IsReading (sym is) tt
+is_reading t (Some document) is = subst IsReading (sym is) tt
+
+pub uses_desk : (t : Task) (load : Option (List ℕ)) → t ≡ Doing (scripting load) → UsesDesk t
+uses_desk t None is = subst UsesDesk (sym is) tt
+uses_desk t (Some document) is = subst UsesDesk (sym is) tt
+
+-- where a script is asked for it is done
+abbrev is_scripted : Taken → Bool
+is_scripted taken.Sequence = false
+is_scripted taken.Script = true
+is_scripted (taken.Load document) = true
+is_scripted (taken.Serve port connections lines) = false
+is_scripted (taken.Show status text) = false
+
+pub scripted_then : (t : Task) (load : Option (List ℕ)) (done : Taken) → IsTask t done → t ≡ Doing (scripting load) → is_scripted done ≡ true
+scripted_then t None done h is = ap is_scripted (subst (λ t. IsTask t done) is h)
+scripted_then t (Some document) done h is = ap is_scripted (subst (λ t. IsTask t done) is h)

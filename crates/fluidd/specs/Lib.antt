@@ -4,3 +4,4 @@ pub mod Output
 pub mod Documents
 pub mod Served
 pub mod Tasks
+pub mod Scripts

@@ -66,8 +66,11 @@ code_of status.Refused = 3
 code_of status.ReadFault = 4
 code_of status.WriteFault = 5
 code_of status.NoMemory = 6
+code_of status.KeeperFault = 7
+code_of status.StoreFault = 8
 code_of status.FrontFault = 9
 code_of status.SpawnRefused = 10
+code_of status.BadStored = 11
 
 -- the count of faults of something didn't rise
 abbrev pub IsQuiet : ℕ → ℕ → Type 0

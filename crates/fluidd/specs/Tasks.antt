@@ -51,12 +51,16 @@ task_of words = task_for (command_of words)
 -- this text is shown, under this status
 abbrev pub IsShown : Status → List ℕ → Taken → Type 0
 IsShown status text taken.Sequence = ⊥
+IsShown status text taken.Script = ⊥
+IsShown status text (taken.Load document) = ⊥
 IsShown status text (taken.Serve port connections lines) = ⊥
 IsShown status text (taken.Show its_status its_text) = (its_status ≡ status) × (its_text.now ≡ text)
 
--- what is done is what is asked for; of the commands only `sequence` and `serve` are done, so no other may be built
+-- what is done is what is asked for; of the commands all but `workload` are done, so that one may not be built
 abbrev pub IsTask : Task → Taken → Type 0
 IsTask (Doing Sequence) done = done ≡ taken.Sequence
+IsTask (Doing Script) done = done ≡ taken.Script
+IsTask (Doing (Load document)) done = done ≡ taken.Load document
 IsTask (Doing (Serve port connections lines)) done = done ≡ taken.Serve port connections lines
 IsTask (Doing command) done = ⊥
 IsTask (Showing text) done = IsShown status.Done text done
@@ -66,6 +70,29 @@ IsTask Usage done = IsShown status.Usage usage_line done
 abbrev pub IsServing : Task → Type 0
 IsServing (Doing (Serve port connections lines)) = ⊤
 IsServing other = ⊥
+
+-- the words ask for `script`, or for `load` of this document
+abbrev pub scripting : Option (List ℕ) → Command
+scripting None = Script
+scripting (Some document) = Load document
+
+abbrev pub IsScripting : Task → Type 0
+IsScripting (Doing Script) = ⊤
+IsScripting (Doing (Load document)) = ⊤
+IsScripting other = ⊥
+
+-- they ask for a command that reads the input, and for one that uses the desk
+abbrev pub IsReading : Task → Type 0
+IsReading (Doing Sequence) = ⊤
+IsReading (Doing Script) = ⊤
+IsReading (Doing (Load document)) = ⊤
+IsReading other = ⊥
+
+abbrev pub UsesDesk : Task → Type 0
+UsesDesk (Doing Script) = ⊤
+UsesDesk (Doing (Load document)) = ⊤
+UsesDesk (Doing (Serve port connections lines)) = ⊤
+UsesDesk other = ⊥
 
 -- a text is shown under one of two statuses: that it was asked for, or that the words ask for nothing
 abbrev pub IsPage : (status : ℕ) → Type 0

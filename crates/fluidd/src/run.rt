@@ -1,11 +1,15 @@
 //! The top call of the program.
-ghost use Rattle.std.specs.Prelude.{◌≡◌, ℕ, List, Bool};
+ghost use Rattle.std.specs.Prelude.{◌≡◌, ℕ, List, Bool, Option, IfSome, option_map};
+ghost use Rattle.fluid_log.specs.Shelving.{AreWhole};
+ghost use Rattle.fluid_transcript.specs.World.{World};
+ghost use Rattle.fluid_world.specs.Ending.{IsDeskOf};
 ghost use Rattle.fluid_serve.specs.Desks.{AreReady, ShelvesComeBack};
 ghost use Rattle.fluidd.specs.Input.{full};
 ghost use Rattle.fluidd.specs.Output.{Sequences, Shows, code_of};
 ghost use Rattle.fluidd.specs.Served.{ServesConnections, served_status};
 ghost use Rattle.fluid_words.specs.declared.command.Command.TheVariants.{Sequence, Serve};
-ghost use Rattle.fluidd.specs.Tasks.{Doing, IsPage, IsServing, Showing, Usage, task_of, usage_line};
+ghost use Rattle.fluidd.specs.Scripts.{Scripts, script_status};
+ghost use Rattle.fluidd.specs.Tasks.{Doing, IsPage, IsReading, IsScripting, IsServing, Showing, Usage, UsesDesk, scripting, task_of, usage_line};
 
 use crate::sequence::sequence_within;
 use crate::status::Status;
@@ -18,6 +22,8 @@ use fluid_pipe::write_out;
 use fluid_rules::Limits;
 use fluid_serve::{Desk, serve};
 use fluid_store::Objects;
+use fluid_types::DocName;
+use fluid_world::{ScriptEnd, script};
 use std::alloc::Global;
 use std::net::Net;
 use std::sync::Wait;
@@ -25,7 +31,8 @@ use std::thread::Threads;
 
 /// Runs the command that the words ask for, which are those behind the program's name, and gives the exit status. Words
 /// that ask for a page get it, and words that ask for nothing the usage line; the input isn't touched then. The desk, the front
-/// and the spawner come back, and `serve` alone uses them.
+/// and the spawner come back: `serve` uses all of them, `script` and `load` the desk. What these write is said of a world that the
+/// desk tells.
 pub fn run<R, S, K, B, O, C, F, P>(
     rt: &R,
     alloc: Global,
@@ -47,17 +54,24 @@ where
     F: Front + Send + Drop,
     F::W: Send + Drop,
     P: Spawner + Send + Drop,
+    ghost told: { Option World }
+    requires whole { IsScripting (task_of words.now) → AreWhole (B.seen desk.shelves) }
+    requires told { IsScripting (task_of words.now) → IfSome told (IsDeskOf (B.seen desk.shelves) (O.seen desk.objects)) }
     requires ready { IsServing (task_of words.now) → AreReady B.K.seen (B.seen desk.shelves) }
     ensures sequence { task_of words.now ≡ Doing Sequence →
         Sequences full (S.seen input.old) (K.seen output.old) (S.seen input.new) (K.seen output.new) result.0 }
+    ensures script { (load : Option (List ℕ)) → task_of words.now ≡ Doing (scripting load) →
+        Scripts told load (record { source = S.seen input.old; sink = K.seen output.old; shelves = B.seen desk.shelves; store = O.seen desk.objects })
+        (record { source = S.seen input.new; sink = K.seen output.new; shelves = B.seen result.1.shelves; store = O.seen result.1.objects }) result.0 }
     ensures serve { (port connections : ℕ) (lines : Bool) → task_of words.now ≡ Doing (Serve port connections lines) →
         ServesConnections connections (F.seen front) (P.refusals spawner) (F.seen result.2) (P.refusals result.3) result.0 ×
         (ShelvesComeBack (B.seen desk.shelves) (B.seen result.1.shelves) × (K.seen output.new ≡ K.seen output.old)) }
     ensures page { (text : List ℕ) → task_of words.now ≡ Showing text →
         Shows 0 text (K.seen output.old) (K.seen output.new) result.0 }
     ensures usage { task_of words.now ≡ Usage → Shows 2 usage_line (K.seen output.old) (K.seen output.new) result.0 }
-    ensures untouched { (task_of words.now ≡ Doing Sequence → ⊥) → S.seen input.new ≡ S.seen input.old }
-    ensures kept { (IsServing (task_of words.now) → ⊥) → (B.seen result.1.shelves ≡ B.seen desk.shelves) × ((O.seen result.1.objects ≡ O.seen desk.objects) × ((F.seen result.2 ≡ F.seen front) × (P.refusals result.3 ≡ P.refusals spawner))) }
+    ensures untouched { (IsReading (task_of words.now) → ⊥) → S.seen input.new ≡ S.seen input.old }
+    ensures desk { (UsesDesk (task_of words.now) → ⊥) → (B.seen result.1.shelves ≡ B.seen desk.shelves) × (O.seen result.1.objects ≡ O.seen desk.objects) }
+    ensures kept { (IsServing (task_of words.now) → ⊥) → (F.seen result.2 ≡ F.seen front) × (P.refusals result.3 ≡ P.refusals spawner) }
 {
     match read_task(alloc, words) {
         Ok(Task::Sequence) => {
@@ -67,6 +81,14 @@ where
                 ..
             } = Limits::FULL;
             let status = sequence_within(rt, alloc, input, output, entries, clients);
+            (status, desk, front, spawner)
+        }
+        Ok(Task::Script) => {
+            let (status, desk) = run_script(rt, alloc, input, output, desk, None);
+            (status, desk, front, spawner)
+        }
+        Ok(Task::Load(document)) => {
+            let (status, desk) = run_script(rt, alloc, input, output, desk, Some(&document));
             (status, desk, front, spawner)
         }
         Ok(
@@ -90,6 +112,53 @@ where
         }
         Ok(Task::Show(status, text)) => (show(output, status, text), desk, front, spawner),
         Err(NoMemory) => (Status::NoMemory.code(), desk, front, spawner),
+    }
+}
+
+// Does the steps of a script over a desk. With a name a container is loaded behind them, and what it shows is all that is written.
+fn run_script<R, S: Source, K: Sink, B: Shelves, O: Objects, C>(
+    rt: &R,
+    alloc: Global,
+    input: &mut S,
+    output: &mut K,
+    desk: Desk<B, O, C>,
+    load: Option<&DocName>,
+) -> (u8, Desk<B, O, C>)
+where
+    B::K: Drop,
+    ghost told: { Option World }
+    requires whole { AreWhole (B.seen desk.shelves) }
+    requires told { IfSome told (IsDeskOf (B.seen desk.shelves) (O.seen desk.objects)) }
+    ensures { Scripts told (option_map (λ name. name.now) load.entry) (record { source = S.seen input.old; sink = K.seen output.old; shelves = B.seen desk.shelves; store = O.seen desk.objects })
+        (record { source = S.seen input.new; sink = K.seen output.new; shelves = B.seen result.1.shelves; store = O.seen result.1.objects }) result.0 }
+{
+    let Desk {
+        shelves,
+        objects,
+        clock,
+    } = desk;
+    let (end, shelves, objects) = script(rt, alloc, input, output, shelves, objects, load);
+    let desk = Desk {
+        shelves,
+        objects,
+        clock,
+    };
+    (script_status(&end).code(), desk)
+}
+
+// The status with which a script ends.
+fn script_status(end: &ScriptEnd) -> Status
+    ensures { result ≡ script_status end.now }
+{
+    match end {
+        ScriptEnd::Done => Status::Done,
+        ScriptEnd::BadLine(_, _) => Status::Refused,
+        ScriptEnd::ReadFault => Status::ReadFault,
+        ScriptEnd::WriteFault => Status::WriteFault,
+        ScriptEnd::KeeperFault(_) => Status::KeeperFault,
+        ScriptEnd::StoreFault(_) => Status::StoreFault,
+        ScriptEnd::BadStored(_) => Status::BadStored,
+        ScriptEnd::NoMemory => Status::NoMemory,
     }
 }
 

@@ -5,13 +5,18 @@ ghost use Rattle.fluidd.specs.Tasks.{IsTask, task_of, task_by as task_for_comman
 use crate::status::Status;
 use fluid_json::{NoMemory, Text};
 use fluid_pages::{USAGE, VERSION, page};
+use fluid_types::DocName;
 use fluid_words::{Command, WordsFault, read_words};
 use std::alloc::Global;
 
 /// What is done for the words.
-#[derive(Clone, Copy)]
+#[derive(Drop)]
 pub(crate) enum Task {
     Sequence,
+    /// Does the steps of a script.
+    Script,
+    /// Does them without their lines, and shows a container of this document.
+    Load(DocName),
     /// Serves so many connections at this port, over WebSockets or over lines.
     Serve {
         port: u16,
@@ -27,31 +32,33 @@ pub(crate) fn read_task(alloc: Global, words: &[Text]) -> Result<Task, NoMemory>
     ensures { IfOk result (λ task. IsTask (task_of words.now) task) }
 {
     match read_words(alloc, words) {
-        Ok(command) => Ok(task_by(&command)),
+        Ok(command) => Ok(task_by(command)),
         Err(WordsFault::Usage) => Ok(Task::Show(Status::Usage, USAGE)),
         Err(WordsFault::NoMemory) => Err(NoMemory),
     }
 }
 
-fn task_by(command: &Command) -> Task
-    ensures { IsTask (task_for_command command.now) result }
+fn task_by(command: Command) -> Task
+    ensures { IsTask (task_for_command command) result }
 {
     match command {
         Command::Sequence => Task::Sequence,
+        Command::Script => Task::Script,
+        Command::Load(document) => Task::Load(document),
         Command::Serve {
             port,
             connections,
             lines,
         } => Task::Serve {
-            port: *port,
-            connections: *connections,
-            lines: *lines,
+            port,
+            connections,
+            lines,
         },
-        Command::Help(topic) => match page(*topic) {
+        Command::Help(topic) => match page(topic) {
             Some(text) => Task::Show(Status::Done, text),
             None => Task::Show(Status::Usage, USAGE),
         },
         Command::Version => Task::Show(Status::Done, VERSION),
-        _ => Task::Show(Status::Usage, USAGE),
+        Command::Workload { .. } => Task::Show(Status::Usage, USAGE),
     }
 }
