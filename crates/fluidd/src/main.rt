@@ -21,7 +21,7 @@ use fluid_io::{StdClock, StdSink, StdSource};
 use fluid_json::Text;
 use fluid_serve::Desk;
 use fluid_socket::TcpFront;
-use run::run;
+use run::run_untold;
 use status::Status;
 use std::process::ExitCode;
 use std::{env, io};
@@ -41,7 +41,7 @@ fn main(rt: HostRuntime) -> ExitCode {
     let Ok(front) = TcpFront::new(alloc, rt, StdSink::new(rt.stderr())) else {
         return ExitCode::from(Status::NoMemory.code());
     };
-    let (status, _desk, _front, _spawner) = run(
+    let (status, _desk, _front, _spawner) = run_untold(
         &rt,
         alloc,
         &words,

@@ -115,6 +115,33 @@ where
     }
 }
 
+/// The same over a desk of which no world is told.
+pub(crate) fn run_untold<R, S, K, B, O, C, F, P>(
+    rt: &R,
+    alloc: Global,
+    words: &[Text],
+    input: &mut S,
+    output: &mut K,
+    desk: Desk<B, O, C>,
+    front: F,
+    spawner: P,
+) -> (u8, Desk<B, O, C>, F, P)
+where
+    R: Threads + Wait + Net + Sync,
+    S: Source,
+    K: Sink,
+    B: Shelves + Send + Drop,
+    B::K: Send + Drop,
+    O: Objects + Send + Drop,
+    C: Clock + Sync + Drop,
+    F: Front + Send + Drop,
+    F::W: Send + Drop,
+    P: Spawner + Send + Drop,
+    requires ready { AreReady B.K.seen (B.seen desk.shelves) }
+{
+    run(rt, alloc, words, input, output, desk, front, spawner)
+}
+
 // Does the steps of a script over a desk. With a name a container is loaded behind them, and what it shows is all that is written.
 fn run_script<R, S: Source, K: Sink, B: Shelves, O: Objects, C>(
     rt: &R,

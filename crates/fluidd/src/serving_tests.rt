@@ -1,6 +1,6 @@
 //! `serve` through the top call: its statuses, each for its cause, and two connections beside one another.
 
-use crate::run::run;
+use crate::run::run_untold;
 use fluid_front::{Front, FrontFault, MemoryFront, ThreadSpawner};
 use fluid_io::{Failed, FixedClock, MemorySink, MemorySource, Sink, Source};
 use fluid_json::Text;
@@ -35,7 +35,7 @@ where
     F: Front + Send + Drop,
     F::W: Send + Drop,
 {
-    let (status, desk, front, spawner) = run(
+    let (status, desk, front, spawner) = run_untold(
         rt,
         alloc,
         words,
