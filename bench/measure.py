@@ -97,6 +97,7 @@ def run(program, source, written):
 
     GNU time tells the memory, since a child that Python starts would begin with Python's own."""
     figures = OUT / "figures"
+    OUT.mkdir(exist_ok=True)
     with source.open("rb") as into, written.open("wb") as out:
         subprocess.run(["/usr/bin/time", "-f", "%U %S %M", "-o", figures, *program.words], stdin=into, stdout=out, check=True)
     user, system, kilobytes = figures.read_text().split()
