@@ -12,11 +12,10 @@ use Rattle.fluid_edits.specs.declared.edit.ChannelKind.TheVariants.{Map, Counter
 use Rattle.fluid_edits.specs.Forms.{contents_of}
 use Rattle.fluid_loader.specs.Submitting.{numbered}
 use Rattle.fluid_voice.specs.declared.states.VoiceState.TheVariants.{Writing}
-use Rattle.fluid_voice.specs.declared.actions.Act.TheVariants.{Enter}
 use Rattle.fluid_gen.specs.declared.act.Act.TheVariants as gen
-use Rattle.fluid_transcript.specs.World.{World, Document, Name, connection}
+use Rattle.fluid_transcript.specs.World.{Document, Name, connection}
 use Rattle.fluid_transcript.specs.Containers.{all_scopes}
-use Rattle.fluid_workload.specs.Working.{work, m, n, named, deeds, enters}
+use Rattle.fluid_workload.specs.Working.{work, m, n, named, Workload, deeds, submits}
 use Rattle.fluid_workload.specs.Summary.{summary_of}
 
 -- the first container joins and attaches map and counter; a client joins, and has collected the four messages when it submits its
@@ -53,22 +52,26 @@ document_at count = record { raws = take count entries; checkpoints = [] }
 abbrev pub writer : Name
 writer = connection (Writing work (codes "c3") 5)
 
-abbrev pub behind : (count : ℕ) → World
+-- the client set the key, at most
+abbrev pub behind : (count : ℕ) → Workload
 behind count = record {
-  documents = insert empty work (document_at count);
-  opened = work ∷ [];
-  store = empty;
-  names = insert empty (named 0) writer;
-  moment = 0;
+  world = record {
+    documents = insert empty work (document_at count);
+    opened = work ∷ [];
+    store = empty;
+    names = insert empty (named 0) writer;
+    moment = 0;
+  };
+  sent = insert empty (named 0) set;
 }
 
--- each act of the client as the entry that comes next
+-- each act of the client as what it submits next
 pub record Submits : Type 0 where
-  pub noop_is : deeds (behind 4) (gen.Noop 0) ≡ enters 0 (Enter (Submit (codes "c3") noop 0)) ∷ []
-  pub set_is : deeds (behind 5) (gen.Set 0 7 42) ≡ enters 0 (Enter (Submit (codes "c3") set 0)) ∷ []
-  pub again_is : deeds (behind 6) (gen.Again 0) ≡ enters 0 (Enter (Submit (codes "c3") set 0)) ∷ []
-  pub gap_is : deeds (behind 7) (gen.Gap 0) ≡ enters 0 (Enter (Submit (codes "c3") gap 0)) ∷ []
-  pub increment_is : deeds (behind 8) (gen.Increment 0 (negsuc 4)) ≡ enters 0 (Enter (Submit (codes "c3") increment 0)) ∷ []
+  pub noop_is : deeds (behind 4) (gen.Noop 0) ≡ submits 0 (codes "c3") noop ∷ []
+  pub set_is : deeds (behind 5) (gen.Set 0 7 42) ≡ submits 0 (codes "c3") set ∷ []
+  pub again_is : deeds (behind 6) (gen.Again 0) ≡ submits 0 (codes "c3") set ∷ []
+  pub gap_is : deeds (behind 7) (gen.Gap 0) ≡ submits 0 (codes "c3") gap ∷ []
+  pub increment_is : deeds (behind 8) (gen.Increment 0 (negsuc 4)) ≡ submits 0 (codes "c3") increment ∷ []
   -- a client that hasn't joined submits nothing
   pub nobody : deeds (behind 8) (gen.Gap 1) ≡ []
 

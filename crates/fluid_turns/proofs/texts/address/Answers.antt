@@ -1,0 +1,9 @@
+use Rattle.fluid_types.specs.Names.{is_name}
+use Rattle.fluid_turns.proofs.Naming.{read_as, wants_memory}
+use Rattle.fluid_turns.proofs.texts.address.Goals as goal
+
+pub wanting-requires : goal.wanting-requires
+wanting-requires c = wants_memory (is_name c.args.text.now) c.args.text.now c.in-Err.fault c.requires c.in-Err.ensures
+
+pub returns-in-Ok : goal.returns-in-Ok
+returns-in-Ok c = read_as (is_name c.args.text.now) c.args.text.now c.in-Ok.address c.requires c.in-Ok.ensures
