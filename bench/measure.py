@@ -1,10 +1,14 @@
 """Builds, feeds and times the programs of the benchmarks: the proved `fluidd sequence` and the hand-written baseline."""
+import fcntl
 import filecmp
 import os
 import re
 import shutil
+import struct
 import subprocess
 import sys
+import termios
+import time
 from pathlib import Path
 
 TOP = Path(__file__).resolve().parent.parent
@@ -145,3 +149,80 @@ def machine():
     """The processor that this runs on."""
     found = re.search(r"^model name\s*:\s*(.*)$", Path("/proc/cpuinfo").read_text(), re.M)
     return f"{found.group(1) if found else 'unknown processor'}, {os.cpu_count()} processors"
+
+
+class Handed:
+    """A program that is handed its input a part at a time, so that what each part costs is told without the others.
+
+    A part is over where nothing is left in the pipe and the program sleeps. The cost is the processor time of the process meanwhile, by
+    the system's count in nanoseconds, or where `counting` the instructions, by callgrind: these don't depend on what else the machine
+    does."""
+
+    def __init__(self, program, folder, counting=False):
+        self.program = program
+        self.counting = counting
+        self.written = Path(folder) / "written"
+        self.counts = Path(folder) / "counts"
+        valgrind = ["valgrind", "-q", "--tool=callgrind", "--instr-atstart=no", f"--callgrind-out-file={self.counts}"] if counting else []
+        self.process = subprocess.Popen([*valgrind, *program.words], stdin=subprocess.PIPE, stdout=self.written.open("wb"))
+
+    def hand(self, part):
+        """Hands this part over, and waits until it is over."""
+        pipe = self.process.stdin
+        pipe.write(part)
+        pipe.flush()
+        while True:
+            left = struct.unpack("i", fcntl.ioctl(pipe, termios.FIONREAD, struct.pack("i", 0)))[0]
+            state = Path(f"/proc/{self.process.pid}/stat").read_text().rpartition(")")[2].split()[0]
+            if state == "Z":
+                sys.exit(f"bench: {self.program.name} ended early: {self.last()}")
+            if left == 0 and state == "S":
+                return
+            time.sleep(0.0002)
+
+    def cost(self, part):
+        """What this part costs: microseconds, or thousands of instructions."""
+        if not self.counting:
+            before = self._nanoseconds()
+            self.hand(part)
+            return (self._nanoseconds() - before) / 1e3
+        self._count()
+        self.hand(part)
+        return self._counted()
+
+    def cost_of_end(self):
+        """What the program still costs when its input ends."""
+        if self.counting:
+            self._count()
+        before = self._nanoseconds()
+        self.process.stdin.close()
+        _, status, used = os.wait4(self.process.pid, 0)
+        self.process.returncode = os.waitstatus_to_exitcode(status)
+        if self.process.returncode != 0:
+            sys.exit(f"bench: {self.program.name} ended with {self.process.returncode}: {self.last()}")
+        return self._sum(self.counts) if self.counting else (used.ru_utime + used.ru_stime) * 1e6 - before / 1e3
+
+    def last(self):
+        """The last line that it wrote."""
+        return (self.written.read_bytes().splitlines() or [b""])[-1].decode()
+
+    def _nanoseconds(self):
+        return int(Path(f"/proc/{self.process.pid}/schedstat").read_text().split()[0])
+
+    def _count(self):
+        """Counts from here on."""
+        self._control("--instr=on")
+        self._control("--zero")
+
+    def _counted(self):
+        """What was counted since then."""
+        before = set(self.counts.parent.iterdir())
+        self._control("--dump")
+        dumped = set(self.counts.parent.iterdir()) - before
+        return self._sum(*dumped)
+
+    def _control(self, word):
+        subprocess.run(["callgrind_control", word, str(self.process.pid)], stdout=subprocess.DEVNULL, stderr=subprocess.DEVNULL, check=True)
+
+    def _sum(self, file):
+        return int(re.search(r"^(?:totals|summary): (\d+)", file.read_text(), re.M)[1]) / 1e3
