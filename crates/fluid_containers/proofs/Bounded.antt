@@ -1,5 +1,5 @@
 -- A container's call over a link adds one entry at most.
-use Rattle.std.proofs.Common.{◌≡◌, ◌⊎◌, inl, inr, ℕ, ◌+◌, ◌≤◌, arith, Bool, true, List, [], ◌∷◌, ◌++◌, length, Option, Some, None, option_map, Result, Ok, Err, refl, sym, ap, subst, ◌∙◌, length-append}
+use Rattle.std.proofs.Common.{◌≡◌, inl, inr, ℕ, ◌+◌, ◌≤◌, arith, Bool, true, List, [], ◌∷◌, ◌++◌, length, Option, Some, None, option_map, Result, Ok, Err, sym, ap, subst, ◌∙◌, length-append}
 use Rattle.std.specs.Option.{option_map_or}
 use Rattle.std.proofs.lemmas.Bool.{leb-true}
 use Rattle.fluid_edits.specs.declared.edit.Edit.{Edit}
@@ -27,7 +27,7 @@ use Rattle.fluid_loader.specs.declared.link.LinkFault.{LinkFault}
 use Rattle.fluid_loader.specs.declared.link.LinkFault.TheVariants as faults
 use Rattle.fluid_loader.specs.declared.fault.LoadFault.{LoadFault}
 use Rattle.fluid_loader.specs.declared.fault.LoadFault.TheVariants as loads
-use Rattle.fluid_transcript.specs.World.{Document, ledger_of}
+use Rattle.fluid_transcript.specs.World.{Document}
 use Rattle.fluid_desk.specs.declared.stop.Stop.{Stop}
 use Rattle.fluid_desk.specs.Stands.{IsLaneOf}
 use Rattle.fluid_desk.specs.Stopping.{IsHonest, steps_on}

@@ -1,5 +1,5 @@
 -- A lane and a store that are lent, from call to call.
-use Rattle.std.proofs.Common.{◌≡◌, ℕ, ◌+◌, ◌≤◌, arith, Bool, true, false, List, [], ◌++◌, Option, Some, None, is_some, IfSome, MatchOption, refl, sym, ap, subst, ◌∙◌}
+use Rattle.std.proofs.Common.{◌≡◌, ℕ, ◌≤◌, arith, Bool, true, false, List, [], ◌++◌, Option, Some, None, is_some, IfSome, MatchOption, refl, sym, ap, subst, ◌∙◌}
 use Rattle.fluid_io.specs.declared.faults.FaultNote.{FaultNote}
 use Rattle.fluid_deltas.specs.Ranges as ranges
 use Rattle.fluid_deltas.specs.declared.fault.DeltaFault.{DeltaFault}
