@@ -1,7 +1,8 @@
 -- Acts of a connection one after another, on the lane of their document.
-use Rattle.std.proofs.Common.{◌≡◌, ℕ, ◌≤◌, arith, Bool, true, false, if◌then◌else◌, List, [], ◌∷◌, ◌++◌, map, All, Some, option_map, is_some, Result, Ok, Err, refl, sym, ap, ap₂, subst, ◌∙◌, append_assoc}
+use Rattle.std.proofs.Common.{◌≡◌, ℕ, ◌+◌, ◌≤◌, arith, Bool, true, false, if◌then◌else◌, List, [], ◌∷◌, ◌++◌, length, map, All, Some, option_map, is_some, Result, Ok, Err, refl, sym, ap, ap₂, subst, ◌∙◌, append_assoc, length-append}
 use Rattle.std.specs.Prelude.{IsSome, MatchResult}
 use Rattle.std.proofs.lemmas.List.Elements.{All-head, All-tail}
+use Rattle.fluid_types.specs.declared.entries.Raw.{Raw}
 use Rattle.fluid_types.specs.Ledger.{Ledger}
 use Rattle.fluid_rules.specs.declared.limits.Limits.{Limits}
 use Rattle.fluid_deltas.specs.declared.fault.DeltaFault.{DeltaFault}
@@ -13,8 +14,9 @@ use Rattle.fluid_store.specs.declared.fault.StoreFault.TheVariants as store
 use Rattle.fluid_lane.specs.declared.fault.LaneFault.{LaneFault}
 use Rattle.fluid_lane.specs.declared.fault.LaneFault.TheVariants as lane
 use Rattle.fluid_lane.specs.declared.steps.Step.{Step}
-use Rattle.fluid_lane.specs.Steps.{ledger}
-use Rattle.fluid_lane.specs.Standing.{Standing, LaneStands}
+use Rattle.fluid_document.specs.Entries.{most}
+use Rattle.fluid_lane.specs.Steps.{ledger, fault_steps, delta_steps}
+use Rattle.fluid_lane.specs.Standing.{Standing, Goes, LaneStands, is_worn}
 use Rattle.fluid_voice.specs.declared.refusals.ConnectRefusal.TheVariants.{TooManyDocuments}
 use Rattle.fluid_voice.specs.declared.states.VoiceState.{VoiceState}
 use Rattle.fluid_voice.specs.declared.actions.Act.{Act}
@@ -23,7 +25,7 @@ use Rattle.fluid_voice.specs.declared.ends.ActEnd.{ActEnd}
 use Rattle.fluid_voice.specs.declared.ends.ActEnd.TheVariants as end
 use Rattle.fluid_voice.specs.Refusals.{refused}
 use Rattle.fluid_voice.specs.Fitting.{IsFitting}
-use Rattle.fluid_voice.specs.Ends.{outcome, connect_end, held_behind}
+use Rattle.fluid_voice.specs.Ends.{Found, Outcome, outcome, connect_end, held_behind}
 use Rattle.fluid_voice.specs.Ends.Outcome.{ends, clashes}
 use Rattle.fluid_voice.specs.Replies.{replies_to, state_after}
 use Rattle.fluid_ends.specs.declared.fault.TalkFault.{TalkFault}
@@ -39,8 +41,9 @@ use Rattle.fluid_transcript.specs.Transcript.{written}
 use Rattle.fluid_desk.specs.declared.stop.Stop.{Stop}
 use Rattle.fluid_desk.specs.declared.stop.Stop.TheVariants.{StoreFault as StoreFailed, NoMemory}
 use Rattle.fluid_desk.specs.Stands.{IsLaneOf}
-use Rattle.fluid_desk.specs.Stopping.{stop_of, IsHonest}
+use Rattle.fluid_desk.specs.Stopping.{stop_of, IsHonest, steps_on}
 use Rattle.fluid_desk.proofs.Laned.{told_in}
+use Rattle.fluid_desk.proofs.Honest.{honest_more, worn_steps}
 use Rattle.fluid_callers.specs.Reaching.{IsWithin}
 use Rattle.fluid_callers.specs.Ending.{delta_stop}
 use Rattle.fluid_callers.specs.Hearing.{HasHeard, HearsOne, IsUnheard, IsUnstored}
@@ -77,18 +80,22 @@ Says a s store result = (l : List Step) (held : Held) → FindsTold a s l store 
 
 -- ---- faults that a lane that stands for a document doesn't have
 
-lane_honest : (old new : Standing) (fault : LaneFault) → IsLaneCause old new fault → IsHonest (stop_of fault)
-lane_honest old new (lane.LogFailed note) cause = tt
-lane_honest old new (lane.DeltaFailed note) cause = tt
-lane_honest old new lane.Worn cause = tt
-lane_honest old new lane.NoMemory cause = tt
-lane_honest old new (lane.Full n) cause = absurd cause
-lane_honest old new lane.TooManyClients cause = absurd cause
-lane_honest old new (lane.BadRecord n) cause = absurd cause
-lane_honest old new (lane.NoCheckpoint k n) cause = absurd cause
-lane_honest old new lane.CheckpointsFull cause = absurd cause
-lane_honest old new (lane.BadCheckpoint n f) cause = absurd cause
-lane_honest old new (lane.TooLarge n) cause = absurd cause
+-- a fault of a worn lane adds no step
+abbrev pub EndsWorn : (steps : ℕ) → (old : Standing) → (added : List Step) → Type 0
+EndsWorn steps old added = added ≡ [] → is_worn old ≡ true → most ≤ steps + 1
+
+pub lane_honest : (steps : ℕ) (old new : Standing) (added : List Step) (fault : LaneFault) → EndsWorn steps old added → added ≡ fault_steps fault → IsLaneCause old new fault → IsHonest steps (stop_of fault)
+lane_honest steps old new added (lane.LogFailed note) worn adds cause = tt
+lane_honest steps old new added (lane.DeltaFailed note) worn adds cause = tt
+lane_honest steps old new added lane.Worn worn adds cause = worn adds cause
+lane_honest steps old new added lane.NoMemory worn adds cause = tt
+lane_honest steps old new added (lane.Full n) worn adds cause = absurd cause
+lane_honest steps old new added lane.TooManyClients worn adds cause = absurd cause
+lane_honest steps old new added (lane.BadRecord n) worn adds cause = absurd cause
+lane_honest steps old new added (lane.NoCheckpoint k n) worn adds cause = absurd cause
+lane_honest steps old new added lane.CheckpointsFull worn adds cause = absurd cause
+lane_honest steps old new added (lane.BadCheckpoint n f) worn adds cause = absurd cause
+lane_honest steps old new added (lane.TooLarge n) worn adds cause = absurd cause
 
 never_bad : (limits : Limits) (s : Standing) (d : Document) (a : Act) (number : ℕ) → IsLaneOf limits s d → IsBadFor a s number → ⊥
 never_bad limits s d (act.Deltas from to) number of bad = told_in (λ _. ⊥) s.keeping.content of.content of.told (bad.never of.list of.stands)
@@ -99,11 +106,36 @@ never_bad limits s d (act.Summary asked) number of bad = bad
 never_bad limits s d (act.GetObject id) number of bad = bad
 never_bad limits s d (act.PutObject bytes) number of bad = bad
 
-delta_honest : (limits : Limits) (old new : Standing) (d : Document) (a : Act) (fault : DeltaFault) → IsLaneOf limits old d → IsDeltaCause a old new fault → IsHonest (delta_stop fault)
-delta_honest limits old new d a (delta.DeltaFailed note) of cause = tt
-delta_honest limits old new d a (delta.BadDelta number) of cause = absurd (never_bad limits old d a number of cause)
-delta_honest limits old new d a delta.Worn of cause = tt
-delta_honest limits old new d a delta.NoMemory of cause = tt
+delta_honest : (limits : Limits) (steps : ℕ) (old new : Standing) (added : List Step) (d : Document) (a : Act) (fault : DeltaFault) → IsLaneOf limits old d → EndsWorn steps old added → added ≡ delta_steps fault → IsDeltaCause a old new fault
+    → IsHonest steps (delta_stop fault)
+delta_honest limits steps old new added d a (delta.DeltaFailed note) of worn adds cause = tt
+delta_honest limits steps old new added d a (delta.BadDelta number) of worn adds cause = absurd (never_bad limits old d a number of cause)
+delta_honest limits steps old new added d a delta.Worn of worn adds cause = worn adds cause
+delta_honest limits steps old new added d a delta.NoMemory of worn adds cause = tt
+
+-- ---- entries
+
+-- an act takes none away
+behind_more : (c : List ℕ) (f : Found) (a : Act) (h : Hearing) (o : Outcome) → length h.entries ≤ length (behind_act c f a h o).entries
+behind_more c f a h (clashes id kept new) = omega arith
+behind_more c f a h (ends e) = omega (arith, length-append h.entries (raws_added f.ledger a (ends e)))
+
+act_more : (limits : Limits) (opened : List (List ℕ)) (c : List ℕ) (d : Document) (h : Hearing) (a : Act) → length h.entries ≤ length (hear_act limits opened c d h a).entries
+act_more limits opened c d h a = behind_more c (found_by limits opened d h) a h (outcome (found_by limits opened d h) a)
+
+acts_more : (limits : Limits) (opened : List (List ℕ)) (c : List ℕ) (d : Document) (h : Hearing) (acts : List Act) → length h.entries ≤ length (hear limits opened c d h acts).entries
+acts_more limits opened c d h [] = omega arith
+acts_more limits opened c d h (a ∷ acts) = omega (arith, act_more limits opened c d h a, acts_more limits opened c d (hear_act limits opened c d h a) acts)
+
+entries_steps : (d : Document) (some more : List Raw) (s : Standing) → length some ≤ length more → steps_on (with_entries some d) s ≤ steps_on (with_entries more d) s
+entries_steps d some more s le = omega (arith, le, length-append d.raws some, length-append d.raws more)
+
+-- a lane without another step has no more side steps
+same_sides : (old new : Standing) (added : List Step) → Goes old new added → added ≡ [] → new.sides ≡ old.sides
+same_sides old new added goes none = let steps = subst (Goes old new) none goes in omega (arith, steps.sides)
+
+pub worn_on : (limits : Limits) (old new : Standing) (added : List Step) (d : Document) → IsLaneOf limits old d → Goes old new added → EndsWorn (steps_on d new) old added
+worn_on limits old new added d of goes none worn = omega (arith, worn_steps limits old d of worn, same_sides old new added goes none)
 
 -- ---- one act
 
@@ -158,19 +190,27 @@ module _ (limits : Limits) (opened : List (List ℕ)) (c : List ℕ) (d : Docume
 
   -- ---- by the answer of the call
 
+  -- how many entries and side steps there are behind it
+  abbrev steps_behind : Standing → ℕ
+  steps_behind new = steps_on (with_entries (hear_act limits opened c d h a).entries d) new
+
+  worn_behind : (new : Standing) (added : List Step) → Goes old new added → EndsWorn (steps_behind new) old added
+  worn_behind new added goes none worn =
+      omega (arith, worn_on limits old new added so_far heard.stands goes none worn, entries_steps d h.entries (hear_act limits opened c d h a).entries new (act_more limits opened c d h a))
+
   pub replied : (new : Standing) (now : Storing) (e : ActEnd) → OnLane a old new (Ok e) → OnStore a before now (Ok e) → Says a old before (Ok e) → (after : VoiceState) (lines : List ℕ) (result : Result (Unit {0}) Stop)
       → MatchResult result (λ done. (after ≡ state_after voice a e) × (lines ≡ bytes ++ written (map (reply_line c) (replies_to voice a e)))) (λ stop. stop ≡ NoMemory)
       → HearsOne limits d (hear_act limits opened c d h a) new now after lines result
   replied new now e on_lane on_store says after lines (Ok done) took = ended new now e on_lane on_store says after lines took.0 took.1
-  replied new now e on_lane on_store says after lines (Err stop) took = subst IsHonest (sym took) tt
+  replied new now e on_lane on_store says after lines (Err stop) took = subst (IsHonest (steps_behind new)) (sym took) tt
 
   clash_said : (new : Standing) (now : Storing) (id kept other : List ℕ) → OnLane a old new (Err (talk.Store (store.Clash id kept other))) → OnStore a before now (Err (talk.Store (store.Clash id kept other)))
       → a ≡ act.PutObject other → Says a old before (Err (talk.Store (store.Clash id kept other))) → (lines : List ℕ) (result : Result (Unit {0}) Stop)
       → MatchResult result (λ done. lines ≡ bytes ++ written (clash_line c id ∷ [])) (λ stop. stop ≡ NoMemory) → HearsOne limits d (hear_act limits opened c d h a) new now voice lines result
   clash_said new now id kept other on_lane on_store put says lines (Ok done) is = clashed new now id kept other on_lane on_store put says lines is
-  clash_said new now id kept other on_lane on_store put says lines (Err stop) is = subst IsHonest (sym is) tt
+  clash_said new now id kept other on_lane on_store put says lines (Err stop) is = subst (IsHonest (steps_behind new)) (sym is) tt
 
-  ends_so : (new : Standing) (now : Storing) (lines : List ℕ) (stop : Stop) (result : Result (Unit {0}) Stop) → IsHonest stop → result ≡ Err stop → HearsOne limits d (hear_act limits opened c d h a) new now voice lines result
+  ends_so : (new : Standing) (now : Storing) (lines : List ℕ) (stop : Stop) (result : Result (Unit {0}) Stop) → IsHonest (steps_behind new) stop → result ≡ Err stop → HearsOne limits d (hear_act limits opened c d h a) new now voice lines result
   ends_so new now lines stop result honest is = subst (HearsOne limits d (hear_act limits opened c d h a) new now voice lines) (sym is) honest
 
   unstored : (new : Standing) (now : Storing) (fault : StoreFault) → OnLane a old new (Err (talk.Store fault)) → OnStore a before now (Err (talk.Store fault)) → IsTalkCause a old new before now (talk.Store fault)
@@ -185,9 +225,11 @@ module _ (limits : Limits) (opened : List (List ℕ)) (c : List ℕ) (d : Docume
 
   pub unheard : (new : Standing) (now : Storing) (fault : TalkFault) → OnLane a old new (Err fault) → OnStore a before now (Err fault) → IsTalkCause a old new before now fault → Says a old before (Err fault)
       → (lines : List ℕ) (result : Result (Unit {0}) Stop) → IsUnheard c fault bytes lines result → HearsOne limits d (hear_act limits opened c d h a) new now voice lines result
-  unheard new now (talk.Lane fault) on_lane on_store cause says lines result is = ends_so new now lines (stop_of fault) result (lane_honest old new fault cause.1) is
+  unheard new now (talk.Lane fault) on_lane on_store cause says lines result is = ends_so new now lines (stop_of fault) result
+      (lane_honest (steps_behind new) old new on_lane.added fault (worn_behind new on_lane.added on_lane.goes) on_lane.adds cause.1) is
   unheard new now (talk.Delta fault) on_lane on_store cause says lines result is =
-      ends_so new now lines (delta_stop fault) result (delta_honest limits old new so_far a fault heard.stands cause.1) is
+      ends_so new now lines (delta_stop fault) result
+      (delta_honest limits (steps_behind new) old new on_lane.added so_far a fault heard.stands (worn_behind new on_lane.added on_lane.goes) on_lane.adds cause.1) is
   unheard new now (talk.Store fault) on_lane on_store cause says lines result is = unstored new now fault on_lane on_store cause says lines result is
   unheard new now (talk.Door fault) on_lane on_store cause says lines result is = absurd cause
   unheard new now talk.NoMemory on_lane on_store cause says lines result is = ends_so new now lines NoMemory result tt is
@@ -198,6 +240,7 @@ module _ (limits : Limits) (opened : List (List ℕ)) (c : List ℕ) (d : Docume
 pub record HasHeardSome (c : List ℕ) (acts rest : List Act) (lane now : Standing) (before store : Storing) (voice after : VoiceState) (bytes : List ℕ) : Type 0 where
   pub fit : All IsFitting rest
   pub later : lane.keeping.faults ≤ now.keeping.faults
+  pub sides : now.sides ≤ lane.sides
   pub counts : before.faults ≤ store.faults
   pub heard :
       (limits : Limits) (opened : List (List ℕ)) (d : Document) (h : Hearing) → All (IsWithin opened) acts → HasHeard limits d h lane before voice []
@@ -205,7 +248,7 @@ pub record HasHeardSome (c : List ℕ) (acts rest : List Act) (lane now : Standi
 
 module _ (c : List ℕ) (acts : List Act) (lane : Standing) (before : Storing) (voice : VoiceState) where
   pub heard_none : All IsFitting acts → HasHeardSome c acts acts lane lane before before voice voice []
-  heard_none fit = record { fit = fit; later = omega arith; counts = omega arith; heard = λ limits opened d h within is. (h, (is, (within, refl))) }
+  heard_none fit = record { fit = fit; later = omega arith; sides = omega arith; counts = omega arith; heard = λ limits opened d h within is. (h, (is, (within, refl))) }
 
   abbrev pub DoesOne : (now new : Standing) (store held : Storing) (after last : VoiceState) (bytes lines : List ℕ) → Act → Result (Unit {0}) Stop → Type 0
   DoesOne now new store held after last bytes lines a result =
@@ -213,11 +256,12 @@ module _ (c : List ℕ) (acts : List Act) (lane : Standing) (before : Storing) (
       → HearsOne limits d (hear_act limits opened c d h a) new held last lines result
 
   pub heard_more : (a : Act) (rest : List Act) (now new : Standing) (store held : Storing) (after last : VoiceState) (bytes lines : List ℕ) → HasHeardSome c acts (a ∷ rest) lane now before store voice after bytes
-      → now.keeping.faults ≤ new.keeping.faults → store.faults ≤ held.faults → DoesOne now new store held after last bytes lines a (Ok tt)
+      → now.keeping.faults ≤ new.keeping.faults → new.sides ≤ now.sides → store.faults ≤ held.faults → DoesOne now new store held after last bytes lines a (Ok tt)
       → HasHeardSome c acts rest lane new before held voice last lines
-  heard_more a rest now new store held after last bytes lines some later counts does = record {
+  heard_more a rest now new store held after last bytes lines some later sides counts does = record {
     fit = All-tail IsFitting a rest some.fit;
     later = omega (arith, some.later, later);
+    sides = omega (arith, some.sides, sides);
     counts = omega (arith, some.counts, counts);
     heard = λ limits opened d h within is.
         let k = some.heard limits opened d h within is in (
@@ -238,6 +282,12 @@ module _ (c : List ℕ) (acts : List Act) (lane : Standing) (before : Storing) (
   -- one of them ended the script
   pub heard_honest : (a : Act) (rest : List Act) (now new : Standing) (store held : Storing) (after last : VoiceState) (bytes lines : List ℕ) (stop : Stop) → HasHeardSome c acts (a ∷ rest) lane now before store voice after bytes
       → DoesOne now new store held after last bytes lines a (Err stop)
-      → (limits : Limits) (opened : List (List ℕ)) (d : Document) (h : Hearing) → All (IsWithin opened) acts → HasHeard limits d h lane before voice [] → IsHonest stop
+      → (limits : Limits) (opened : List (List ℕ)) (d : Document) (h : Hearing) → All (IsWithin opened) acts → HasHeard limits d h lane before voice []
+      → IsHonest (steps_on (with_entries (hear limits opened c d h acts).entries d) new) stop
   heard_honest a rest now new store held after last bytes lines stop some does limits opened d h within is =
-      let k = some.heard limits opened d h within is in does limits opened d k.0 (All-head (IsWithin opened) a rest k.1.1.0) k.1.0
+      let k = some.heard limits opened d h within is in
+      let one = hear_act limits opened c d k.0 a in
+      let all = hear limits opened c d h acts in
+      honest_more (steps_on (with_entries one.entries d) new) (steps_on (with_entries all.entries d) new) stop
+      (entries_steps d one.entries all.entries new (subst (λ (g : Hearing). length one.entries ≤ length g.entries) k.1.1.1 (acts_more limits opened c d one rest)))
+      (does limits opened d k.0 (All-head (IsWithin opened) a rest k.1.1.0) k.1.0)

@@ -23,18 +23,20 @@ use Rattle.fluid_voice.specs.declared.states.VoiceState.TheVariants.{Fresh, Read
 use Rattle.fluid_voice.specs.States.{document_name, with_next}
 use Rattle.fluid_voice.specs.Feed as feed
 use Rattle.fluid_steps.specs.declared.steps.Step.TheVariants as step
-use Rattle.fluid_transcript.specs.World.{Document, World, new_document, document, is_open, Effect, does, connection, ledger_of}
+use Rattle.fluid_transcript.specs.World.{Document, World, new_document, document, is_open, Effect, grown, does, connection, ledger_of}
 use Rattle.fluid_transcript.specs.Lines.{reply_line}
 use Rattle.fluid_transcript.specs.Connections.{voice_of, delivered}
 use Rattle.fluid_transcript.specs.Sound.{IsSoundVoice}
 use Rattle.fluid_transcript.specs.Transcript.{done_in, done_on, done, written}
 use Rattle.fluid_desk.specs.declared.stop.Stop.{Stop}
 use Rattle.fluid_desk.specs.Stands.{IsLaneOf, DeskStands}
-use Rattle.fluid_desk.specs.Stopping.{IsHonest}
+use Rattle.fluid_desk.specs.Stopping.{IsHonest, steps_on, MayStop}
+use Rattle.fluid_desk.specs.Acting.{IsUnready}
 use Rattle.fluid_desk.proofs.Desks.{acts as acts_desk, stays_desk}
 use Rattle.fluid_desk.proofs.Laned.{told_in, says as lane_of, beside, same}
 use Rattle.fluid_desk.proofs.Opening.{uses, open_is_no_more, readied_same}
-use Rattle.fluid_desk.proofs.Doing.{lane_of_desk, done_within}
+use Rattle.fluid_desk.proofs.Honest.{honest_more, grown_steps, worn_same, may_act}
+use Rattle.fluid_desk.proofs.Doing.{lane_of_desk, done_within, may_unready}
 use Rattle.fluid_callers.specs.Ending.{delta_stop, EndsReading}
 use Rattle.fluid_callers.specs.Hearing.{event_lines, IsNextOf, Fetched, Gathers, GathersBy}
 use Rattle.fluid_callers.specs.Calling.{HasGathered, GatherDoes}
@@ -125,15 +127,17 @@ module _ {V : Type 0} (read : V → List Message) (from to : ℕ) (old new : Sta
       (λ h. reads_by fault on ranges slices h)
 
   module _ (limits : Limits) (d : Document) (of : IsLaneOf limits old d) where
-    honest_by : (f : DeltaFault) → IsSliceOf (Err f) → is_worn old ≡ false → IsHonest (delta_stop f)
-    honest_by (delta.DeltaFailed note) slice_is h = tt
-    honest_by (delta.BadDelta number) slice_is h = absurd (told_in (λ _. ⊥) old.keeping.content of.content of.told (slice_is h of.list of.stands))
-    honest_by delta.NoMemory slice_is h = tt
-    honest_by delta.Worn slice_is h = tt
+    honest_by : (f : DeltaFault) → IsRange (Err f) → IsSliceOf (Err f) → is_worn old ≡ false → IsHonest (steps_on d new) (delta_stop f)
+    honest_by (delta.DeltaFailed note) ranges slice_is h = tt
+    honest_by (delta.BadDelta number) ranges slice_is h = absurd (told_in (λ _. ⊥) old.keeping.content of.content of.told (slice_is h of.list of.stands))
+    honest_by delta.NoMemory ranges slice_is h = tt
+    honest_by delta.Worn ranges slice_is h = absurd (ranges h).reads.cause
 
-    pub range_honest : (fault : DeltaFault) → IsWornSo (Err fault) → IsSliceOf (Err fault) → IsHonest (delta_stop fault)
-    range_honest fault worn slices =
-        worn_or_not (is_worn old) (λ h. subst (λ f. IsHonest (delta_stop f)) (sym (same_fault fault delta.Worn (worn h).0)) tt) (λ h. honest_by fault slices h)
+    pub range_honest : (fault : DeltaFault) → IsWornSo (Err fault) → IsRange (Err fault) → IsSliceOf (Err fault) → IsHonest (steps_on d new) (delta_stop fault)
+    range_honest fault worn ranges slices =
+        worn_or_not (is_worn old)
+        (λ h. subst (λ f. IsHonest (steps_on d new) (delta_stop f)) (sym (same_fault fault delta.Worn (worn h).0)) (worn_same limits old new d of (h, (worn h).1)))
+        (λ h. honest_by fault ranges slices h)
 
     pub range_fetched : (v : V) → Goes old new (range_steps (Ok v)) → IsWornSo (Ok v) → IsRange (Ok v) → IsSliceOf (Ok v) → to ≡ old.entries.state.sequencer.sequence + 1 → 0 < from → Fetched limits d from new (read v)
     range_fetched v on worn ranges slices last some =
@@ -190,7 +194,10 @@ collect_is limits w c name voice is named opened =
 
 gathered_desk : (limits : Limits) (o : Opened) (w : World) (c name : List ℕ) (voice : VoiceState) (one other : Standing) (result : Result (List ℕ × ℕ) Stop) → DeskStands o w → is_open w name ≡ true → get o.lanes name ≡ Some one
     → o.limits ≡ limits → GathersBy limits (document w name) c voice other result → GatherDoes (does (given_to w (document w name) c voice) (Some name) w) c (with_lane o name other) voice result
-gathered_desk limits o w c name voice one other (Err stop) desk opened there limits_are gathers = gathers
+gathered_desk limits o w c name voice one other (Err stop) desk opened there limits_are gathers =
+    let d = document w name in
+    let e = given_to w d c voice in
+    may_act w o name other e stop (honest_more (steps_on d other) (steps_on (grown e d) other) stop (grown_steps e d other) gathers)
 gathered_desk limits o w c name voice one other (Ok gathered) desk opened there limits_are gathers =
     let d = document w name in
     let e = given_to w d c voice in
@@ -209,6 +216,11 @@ gathers_on old mid w c name moment voice one other result desk sound is at named
     let own = lane_of_desk mid w name one ready there in
     subst (λ t. GatherDoes t c (with_lane mid name other) voice result) (sym (collect_is old.limits w c name voice is named opened))
     (gathered_desk old.limits mid w c name voice one other result ready opened there limits (gathers old.limits (document w name) (subst (λ l. IsLaneOf l one (document w name)) limits own.1)))
+
+-- its document wasn't opened
+pub ungathered : (limits : Limits) (o : Opened) (w : World) (c name : List ℕ) (voice : VoiceState) (stop : Stop) → voice_of w c ≡ voice → document_name voice ≡ Some name → IsUnready w name o stop
+    → MayStop (done limits w (step.Collect c)).world o stop
+ungathered limits o w c name voice stop is named unready = may_unready limits w name o (step.Collect c) stop (ap document_name is ∙ named) unready
 
 -- its document is never one too many
 pub gathers_never : (old mid : Opened) (w : World) (name : List ℕ) (voice : VoiceState) (count : ℕ) → DeskStands old w → IsSoundVoice w voice → document_name voice ≡ Some name → IsOneTooMany name old mid count → ⊥

@@ -1,5 +1,5 @@
 -- A connection that leaves.
-use Rattle.std.proofs.Common.{◌≡◌, ℕ, Bool, true, false, ◌&&◌, List, [], ◌∷◌, ◌++◌, Option, Some, None, is_some, Result, Ok, Err, refl, sym, ap, subst, ◌∙◌, append-nil}
+use Rattle.std.proofs.Common.{◌≡◌, ℕ, ◌+◌, ◌≤◌, Bool, true, false, ◌&&◌, List, [], ◌∷◌, ◌++◌, Option, Some, None, is_some, Result, Ok, Err, refl, sym, ap, subst, ◌∙◌, append-nil}
 use Rattle.std.specs.Prelude.{nat_le}
 use Rattle.std.specs.FinMap.{get}
 use Rattle.fluid_table.proofs.Places.{get_own}
@@ -8,6 +8,7 @@ use Rattle.fluid_types.specs.declared.entries.Raw.TheVariants.{Join, Leave, Subm
 use Rattle.fluid_types.specs.declared.verdicts.Verdict.{Verdict}
 use Rattle.fluid_rules.specs.declared.limits.Limits.{Limits}
 use Rattle.fluid_core.specs.Entering.{verdict_in}
+use Rattle.fluid_document.specs.Entries.{most}
 use Rattle.fluid_lane.specs.declared.fault.LaneFault.{LaneFault}
 use Rattle.fluid_lane.specs.declared.fault.LaneFault.TheVariants.{Full, Worn}
 use Rattle.fluid_lane.specs.Faults.{IsCausedBy, IsOutside}
@@ -22,19 +23,20 @@ use Rattle.fluid_voice.specs.declared.states.VoiceState.{VoiceState}
 use Rattle.fluid_voice.specs.declared.states.VoiceState.TheVariants.{Fresh, Reading, Writing, Used}
 use Rattle.fluid_voice.specs.States.{document_name}
 use Rattle.fluid_steps.specs.declared.steps.Step.TheVariants as step
-use Rattle.fluid_transcript.specs.World.{Document, World, document, is_open, Effect, grown, changed, with_entries, does, used_up}
+use Rattle.fluid_transcript.specs.World.{Document, World, document, is_open, Effect, grown, changed, with_entries, does, used_up, Told}
 use Rattle.fluid_transcript.specs.Lines.{closed_line}
 use Rattle.fluid_transcript.specs.Connections.{voice_of}
 use Rattle.fluid_transcript.specs.Sound.{IsSoundVoice}
 use Rattle.fluid_transcript.specs.Transcript.{done_in, done_on, done}
 use Rattle.fluid_desk.specs.declared.stop.Stop.{Stop}
 use Rattle.fluid_desk.specs.Stands.{IsLaneOf, IsDocument, DeskStands}
-use Rattle.fluid_desk.specs.Stopping.{stop_of, IsHonest, LaneEnds}
-use Rattle.fluid_desk.specs.Acting.{IsLine, IsLeave}
+use Rattle.fluid_desk.specs.Stopping.{stop_of, IsHonest, steps_on, MayStop, LaneEnds}
+use Rattle.fluid_desk.specs.Acting.{IsLine, IsLeave, IsUnready}
 use Rattle.fluid_desk.proofs.Laned.{says as lane_of, entered, same}
 use Rattle.fluid_desk.proofs.Gates as gates
 use Rattle.fluid_desk.proofs.Steps.{entering_honest, entering_ends, worn_ends}
 use Rattle.fluid_desk.proofs.Desks.{acts, stays_desk}
+use Rattle.fluid_desk.proofs.Honest.{honest_more, grown_steps, may_want, may_act, may_more}
 use Rattle.fluid_desk.proofs.Opening.{uses, open_is_no_more, readied_same}
 use Rattle.fluid_desk.proofs.Doing.{lane_of_desk, done_within, left_same}
 use Rattle.fluid_callers.specs.Hearing.{EntersLane}
@@ -63,12 +65,12 @@ module _ {A : Type 0} (old new : Standing) (raw : Raw) (fault : LaneFault) (leav
   outside : is_worn old ≡ false → IsOutside fault
   outside is = subst (λ o. IsCause old new IsOutside o fault) (never_full old raw leave) (gate.refuses is)
 
-  pub unentered_honest : IsHonest (stop_of fault)
-  unentered_honest = by (is_worn old) refl
+  pub unentered_honest : (steps : ℕ) → ((is_worn old ≡ true) × (new ≡ old) → most ≤ steps + 1) → IsHonest steps (stop_of fault)
+  unentered_honest steps worn = by (is_worn old) refl
     where
-      by : (b : Bool) → is_worn old ≡ b → IsHonest (stop_of fault)
-      by true is = subst (λ f. IsHonest (stop_of f)) (sym (gates.same_fault {A = A} fault Worn (gate.worn is).0)) tt
-      by false is = entering_honest fault (outside is)
+      by : (b : Bool) → is_worn old ≡ b → IsHonest steps (stop_of fault)
+      by true is = subst (λ f. IsHonest steps (stop_of f)) (sym (gates.same_fault {A = A} fault Worn (gate.worn is).0)) (worn (is, (gate.worn is).1))
+      by false is = entering_honest steps fault (outside is)
 
   pub unentered_ends : IsCausedBy old.keeping.faults new.keeping.faults fault → LaneEnds old new (stop_of fault)
   unentered_ends cause = by (is_worn old) refl
@@ -118,12 +120,19 @@ left_desk old mid w c name id next moment before after result desk sound at used
     by ready opened result (leaves (document w name) (subst (λ l. IsLaneOf l before (document w name)) limits own.1))
   where
     by : DeskStands mid w → is_open w name ≡ true → (r : Result (Unit {0}) Stop) → EntersLane old.limits (document w name) (Leave id moment) after r → LeavesDesk w c (Writing name id next) (with_lane mid name after) r
-    by stands opened (Err stop) left = left
+    by stands opened (Err stop) left =
+        let d = document w name in
+        let e = closed_as w c (Writing name id next) in
+        may_act w mid name after e stop (honest_more (steps_on d after) (steps_on (grown e d) after) stop (grown_steps e d after) left)
     by stands opened (Ok finished) left =
         acts mid w name after (closed_as w c (Writing name id next)) stands (ap is_some there) opened
         (subst (λ l. IsLaneOf l after (grown (closed_as w c (Writing name id next)) (document w name))) (sym limits)
         (subst (λ checkpoints. IsLaneOf old.limits after (record { raws = (document w name).raws ++ Leave id w.moment ∷ []; checkpoints = checkpoints })) (sym (append-nil (document w name).checkpoints))
         (subst (λ m. IsLaneOf old.limits after (with_entries (Leave id m ∷ []) (document w name))) (sym at) left)))
+
+-- its document wasn't opened
+pub unleft : (o : Opened) (w : World) (c name id : List ℕ) (next : ℕ) (stop : Stop) → is_open w name ≡ true → IsUnready w name o stop → MayStop (changed (closed_as w c (Writing name id next)) (Some name) w) o stop
+unleft o w c name id next stop opened unready = may_more w o (closed_as w c (Writing name id next)) name stop (subst (λ v. MayStop v o stop) (readied_same w name opened) unready.may)
 
 pub left_fresh : (o : Opened) (w : World) (c : List ℕ) → DeskStands o w → DeskStands o (changed (closed_as w c Fresh) None w)
 left_fresh o w c desk = stays_desk o w (closed_as w c Fresh) desk
@@ -152,7 +161,12 @@ closes limits o w c voice result is sound stands line = subst (λ t. CloseDoes t
   where
     by : (r : Result (List ℕ) Stop) → IsLine (closed_line c) r → CloseDoes (does (closed_as w c voice) (document_name voice) w) c o r
     by (Ok text) line = record { stands = stands; name = get_own w.names c used_up; says = ap (λ l. l ∷ []) (sym line) }
-    by (Err stop) line = subst IsHonest (sym line) tt
+    by (Err stop) line = may_want (changed (closed_as w c voice) (document_name voice) w) o stop line
+
+-- its client didn't leave
+pub unclosed : (limits : Limits) (o : Opened) (w : World) (c : List ℕ) (voice : VoiceState) (stop : Stop) → voice_of w c ≡ voice → IsSoundVoice w voice → MayStop (changed (closed_as w c voice) (document_name voice) w) o stop
+    → MayStop (done limits w (step.Close c)).world o stop
+unclosed limits o w c voice stop is sound may = subst (λ (t : Told). MayStop t.world o stop) (sym (close_is limits w c voice is sound)) may
 
 -- a leave may be submitted
 pub leave_kind : (raw : Raw) → IsLeave raw → IsLeaveOrSubmission raw

@@ -1,6 +1,6 @@
 mod Bytes
 pub mod Acted
-mod Acts
+pub mod Acts
 mod Apart
 mod Feeds
 pub mod Ends

@@ -30,16 +30,18 @@ use Rattle.fluid_voice.specs.Ends.{is_beyond}
 use Rattle.fluid_voice.specs.Heard.{acts_of, read_acts, refuses}
 use Rattle.fluid_voice.proofs.Each.{each}
 use Rattle.fluid_steps.specs.declared.steps.Step.TheVariants as step
-use Rattle.fluid_transcript.specs.World.{Document, World, new_document, document, is_open, Effect, grown, with_entries, does, connection}
+use Rattle.fluid_transcript.specs.World.{Document, World, new_document, document, is_open, Effect, grown, changed, with_entries, does, connection}
 use Rattle.fluid_transcript.specs.Connections.{Hearing, hear, connects, voice_of, effect_of, sent, sent_to}
 use Rattle.fluid_transcript.specs.Sound.{IsSoundVoice}
 use Rattle.fluid_transcript.specs.Transcript.{readied, done_on, done}
 use Rattle.fluid_desk.specs.declared.stop.Stop.{Stop}
 use Rattle.fluid_desk.specs.Stands.{IsLaneOf, DeskStands, StoreStands}
-use Rattle.fluid_desk.specs.Stopping.{IsHonest}
+use Rattle.fluid_desk.specs.Stopping.{MayStop}
+use Rattle.fluid_desk.specs.Acting.{IsUnready}
 use Rattle.fluid_desk.proofs.Desks.{acts as acts_desk, stays_desk}
 use Rattle.fluid_desk.proofs.Opening.{opened_world, uses, too_many}
-use Rattle.fluid_desk.proofs.Doing.{readied_moment, lane_of_desk, done_within, done_beyond}
+use Rattle.fluid_desk.proofs.Honest.{may_want, may_act}
+use Rattle.fluid_desk.proofs.Doing.{readied_moment, lane_of_desk, done_within, done_beyond, may_unready}
 use Rattle.fluid_callers.specs.Reaching.{connected_to, reached, IsWithin, IsNowhere}
 use Rattle.fluid_callers.specs.Hearing.{HasHeard, HearsBy, HasSaid, SaysBy}
 use Rattle.fluid_callers.specs.Calling.{CallDoesWith}
@@ -184,7 +186,7 @@ pub says_nowhere : (limits : Limits) (o : Opened) (w : World) (d : Document) (c 
     → SaysBy (hear limits w.opened c d (record { entries = []; store = w.store; voice = s; lines = [] }) (acts_of s text w.moment)) after result
     → (hear limits w.opened c d (record { entries = []; store = w.store; voice = s; lines = [] }) (acts_of s text w.moment)).store ≡ w.store
     → CallDoesWith (does (sent_as limits w d c text s) None w) c o store after result
-says_nowhere limits o w d c text s after store (Err stop) desk held says kept = subst IsHonest (sym says) tt
+says_nowhere limits o w d c text s after store (Err stop) desk held says kept = may_want (changed (sent_as limits w d c text s) None w) o stop says
 says_nowhere limits o w d c text s after store (Ok bytes) desk held says kept = record {
   called = record {
     stands = stays_desk o w (sent_as limits w d c text s) desk;
@@ -235,7 +237,7 @@ sends_beyond old new w c name text moment count s after acts store result desk h
 heard_desk : (limits : Limits) (o : Opened) (v : World) (c name text : List ℕ) (s after : VoiceState) (one other : Standing) (store : Storing) (result : Result (List ℕ) Stop) → DeskStands o v → is_open v name ≡ true → get o.lanes name ≡ Some one
     → o.limits ≡ limits → HearsBy limits (document v name) (hear limits v.opened c (document v name) (nothing_heard v s) (acts_of s text v.moment)) other store after result
     → CallDoesWith (does (sent_as limits v (document v name) c text s) (Some name) v) c (with_lane o name other) store after result
-heard_desk limits o v c name text s after one other store (Err stop) desk opened there limits_are heard = heard
+heard_desk limits o v c name text s after one other store (Err stop) desk opened there limits_are heard = may_act v o name other (sent_as limits v (document v name) c text s) stop heard
 heard_desk limits o v c name text s after one other store (Ok bytes) desk opened there limits_are heard =
     let d = document v name in
     let e = sent_as limits v d c text s in
@@ -273,6 +275,13 @@ sends_on old mid w c name text moment s after acts one other before now result d
     (subst (λ a. HearsBy old.limits d (hear old.limits v.opened c d (nothing_heard v s) a) other now after result) acts_now
     (hears old.limits v.opened d (nothing_heard v s) (subst (All (IsWithin v.opened)) (sym same) within)
     (record { stands = lane_is; held = held ∙ ap Some (sym (readied_store w name)); voice_is = refl; says = refl }))))
+
+-- its document wasn't opened
+pub unsent : (limits : Limits) (o : Opened) (w : World) (c name text : List ℕ) (moment : ℕ) (s : VoiceState) (acts : List Act) (stop : Stop) → voice_of w c ≡ s → w.moment ≡ moment → acts ≡ acts_of s text moment
+    → reached acts s ≡ Some name → IsUnready w name o stop → MayStop (done limits w (step.Send c text)).world o stop
+unsent limits o w c name text moment s acts stop is at acts_are to unready =
+    let same : acts ≡ acts_of s text w.moment = acts_are ∙ ap (acts_of s text) (sym at) in
+    may_unready limits w name o (step.Send c text) stop (sent_to_is w c text s is ∙ (ap (λ a. reached a s) (sym same) ∙ to)) unready
 
 -- ---- the first connect among acts
 

@@ -11,7 +11,7 @@ use Rattle.fluid_transcript.specs.Lines.{closed_line}
 use Rattle.fluid_transcript.specs.Transcript.{written}
 use Rattle.fluid_desk.specs.declared.stop.Stop.{Stop}
 use Rattle.fluid_desk.specs.Stands.{DeskStands, StoreStands}
-use Rattle.fluid_desk.specs.Stopping.{IsHonest}
+use Rattle.fluid_desk.specs.Stopping.{MayStop}
 
 -- the desk stands for the world behind the step, in which the name stands for the connection as it is then, and the step writes these
 -- lines
@@ -22,7 +22,7 @@ pub record Called (told : Told) (c : List ℕ) (o : Opened) (voice : VoiceState)
 
 abbrev pub CallDoes : Told → (c : List ℕ) → Opened → VoiceState → Result (List ℕ) Stop → Type 0
 CallDoes told c o voice (Ok bytes) = Called told c o voice bytes
-CallDoes told c o voice (Err stop) = IsHonest stop
+CallDoes told c o voice (Err stop) = MayStop told.world o stop
 
 -- and the store holds what the world has stored then
 pub record CalledWith (told : Told) (c : List ℕ) (o : Opened) (store : Storing) (voice : VoiceState) (bytes : List ℕ) : Type 0 where
@@ -31,7 +31,7 @@ pub record CalledWith (told : Told) (c : List ℕ) (o : Opened) (store : Storing
 
 abbrev pub CallDoesWith : Told → (c : List ℕ) → Opened → Storing → VoiceState → Result (List ℕ) Stop → Type 0
 CallDoesWith told c o store voice (Ok bytes) = CalledWith told c o store voice bytes
-CallDoesWith told c o store voice (Err stop) = IsHonest stop
+CallDoesWith told c o store voice (Err stop) = MayStop told.world o stop
 
 -- ---- parts of a step
 
@@ -43,7 +43,7 @@ pub record HasGathered (told : Told) (c : List ℕ) (o : Opened) (voice : VoiceS
 
 abbrev pub GatherDoes : Told → (c : List ℕ) → Opened → VoiceState → Result (List ℕ × ℕ) Stop → Type 0
 GatherDoes told c o voice (Ok gathered) = HasGathered told c o voice gathered
-GatherDoes told c o voice (Err stop) = IsHonest stop
+GatherDoes told c o voice (Err stop) = MayStop told.world o stop
 
 -- what closing the connection of a name does, by where it stands
 abbrev pub closed_as : World → (c : List ℕ) → VoiceState → Effect
@@ -51,7 +51,7 @@ closed_as w c voice = record (says w (closed_line c ∷ [])) { entries = option_
 
 abbrev pub LeavesDesk : World → (c : List ℕ) → VoiceState → Opened → Result (Unit {0}) Stop → Type 0
 LeavesDesk w c voice o (Ok done) = DeskStands o (changed (closed_as w c voice) (document_name voice) w)
-LeavesDesk w c voice o (Err stop) = IsHonest stop
+LeavesDesk w c voice o (Err stop) = MayStop (changed (closed_as w c voice) (document_name voice) w) o stop
 
 -- the desk stands for the world behind the step, in which the name is used up, and the step writes this one line
 pub record Closed (told : Told) (c : List ℕ) (o : Opened) (line : List ℕ) : Type 0 where
@@ -61,4 +61,4 @@ pub record Closed (told : Told) (c : List ℕ) (o : Opened) (line : List ℕ) : 
 
 abbrev pub CloseDoes : Told → (c : List ℕ) → Opened → Result (List ℕ) Stop → Type 0
 CloseDoes told c o (Ok line) = Closed told c o line
-CloseDoes told c o (Err stop) = IsHonest stop
+CloseDoes told c o (Err stop) = MayStop told.world o stop

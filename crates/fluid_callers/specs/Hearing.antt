@@ -21,7 +21,7 @@ use Rattle.fluid_desk.specs.declared.stop.Stop.{Stop}
 use Rattle.fluid_desk.specs.declared.stop.Stop.TheVariants.{StoreFault as StoreFailed, BadStored, NoMemory}
 use Rattle.fluid_desk.specs.declared.stop.StoredFault.TheVariants.{Object}
 use Rattle.fluid_desk.specs.Stands.{IsLaneOf}
-use Rattle.fluid_desk.specs.Stopping.{stop_of, IsHonest}
+use Rattle.fluid_desk.specs.Stopping.{stop_of, IsHonest, steps_on}
 use Rattle.fluid_callers.specs.Ending.{delta_stop}
 
 -- ---- hearing
@@ -36,12 +36,12 @@ pub record HasHeard (limits : Limits) (d : Document) (h : Hearing) (lane : Stand
 -- acts one after another
 abbrev pub HearsBy : Limits → Document → Hearing → Standing → Storing → VoiceState → Result (List ℕ) Stop → Type 0
 HearsBy limits d h lane store voice (Ok bytes) = HasHeard limits d h lane store voice bytes
-HearsBy limits d h lane store voice (Err stop) = IsHonest stop
+HearsBy limits d h lane store voice (Err stop) = IsHonest (steps_on (with_entries h.entries d) lane) stop
 
 -- one act, behind what was written before
 abbrev pub HearsOne : Limits → Document → Hearing → Standing → Storing → VoiceState → (bytes : List ℕ) → Result (Unit {0}) Stop → Type 0
 HearsOne limits d h lane store voice bytes (Ok done) = HasHeard limits d h lane store voice bytes
-HearsOne limits d h lane store voice bytes (Err stop) = IsHonest stop
+HearsOne limits d h lane store voice bytes (Err stop) = IsHonest (steps_on (with_entries h.entries d) lane) stop
 
 -- what is written of an object that wasn't stored: that other bytes are held under its id
 abbrev pub IsUnstored : (c : List ℕ) → StoreFault → (old new : List ℕ) → Result (Unit {0}) Stop → Type 0
@@ -98,11 +98,11 @@ pub record Gathers (limits : Limits) (d : Document) (c : List ℕ) (voice : Voic
 
 abbrev pub GathersBy : Limits → Document → (c : List ℕ) → VoiceState → Standing → Result (List ℕ × ℕ) Stop → Type 0
 GathersBy limits d c voice lane (Ok gathered) = Gathers limits d c voice lane gathered
-GathersBy limits d c voice lane (Err stop) = IsHonest stop
+GathersBy limits d c voice lane (Err stop) = IsHonest (steps_on d lane) stop
 
 -- ---- closing
 
 -- this entry was entered
 abbrev pub EntersLane : Limits → Document → Raw → Standing → Result (Unit {0}) Stop → Type 0
 EntersLane limits d raw new (Ok done) = IsLaneOf limits new (with_entries (raw ∷ []) d)
-EntersLane limits d raw new (Err stop) = IsHonest stop
+EntersLane limits d raw new (Err stop) = IsHonest (steps_on d new) stop

@@ -1,5 +1,5 @@
 //! A connection leaves.
-ghost use Rattle.std.specs.Prelude.{◌≡◌, ◌≤◌, ℕ, List, IfOk};
+ghost use Rattle.std.specs.Prelude.{◌≡◌, ◌≤◌, ◌+◌, ℕ, List, IfOk};
 ghost use Rattle.fluid_types.specs.Fits.{Fits};
 ghost use Rattle.fluid_document.specs.Entries.{most};
 ghost use Rattle.fluid_rules.specs.declared.limits.Limits.{Limits as ALimits};
@@ -39,7 +39,7 @@ where
     requires moment { moment ≤ most }
     ensures does { (w : World) → DeskStands lanes.old w → IsSoundVoice w voice.now → voice_of w name.now ≡ voice.now → w.moment ≡ moment →
         CloseDoes (done lanes.old.limits w (step.Close name.now)) name.now lanes.new result }
-    ensures runs { (before : ℕ) → HasRun before lanes.old → RunsOn before lanes.new result }
+    ensures runs { (before steps : ℕ) → HasRun before steps lanes.old → RunsOn before (steps + 1) lanes.new result }
     ensures limits { lanes.new.limits ≡ lanes.old.limits }
 {
     match leave(alloc, lanes, voice.state(), moment) {
@@ -59,7 +59,7 @@ where
     B::K: Drop,
     requires moment { moment ≤ most }
     ensures does { (w : World) (c : List ℕ) → DeskStands lanes.old w → IsSoundVoice w state.now → w.moment ≡ moment → LeavesDesk w c state.now lanes.new result }
-    ensures runs { (before : ℕ) → HasRun before lanes.old → RunsOn before lanes.new result }
+    ensures runs { (before steps : ℕ) → HasRun before steps lanes.old → RunsOn before (steps + 1) lanes.new result }
     ensures limits { lanes.new.limits ≡ lanes.old.limits }
 {
     match state {
@@ -83,7 +83,7 @@ where
     requires moment { moment ≤ most }
     ensures does { (w : World) (c : List ℕ) (next : ℕ) → DeskStands lanes.old w → IsSoundVoice w (VoiceState.Writing document.now id.now next) → w.moment ≡ moment →
         LeavesDesk w c (VoiceState.Writing document.now id.now next) lanes.new result }
-    ensures runs { (before : ℕ) → HasRun before lanes.old → RunsOn before lanes.new result }
+    ensures runs { (before steps : ℕ) → HasRun before steps lanes.old → RunsOn before (steps + 1) lanes.new result }
     ensures limits { lanes.new.limits ≡ lanes.old.limits }
 {
     match ready(alloc, lanes, document, moment) {

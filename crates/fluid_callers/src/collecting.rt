@@ -14,7 +14,7 @@ ghost use Rattle.fluid_transcript.specs.Lines.{reply_line};
 ghost use Rattle.fluid_transcript.specs.Sound.{IsSoundVoice};
 ghost use Rattle.fluid_transcript.specs.Transcript.{done, written};
 ghost use Rattle.fluid_desk.specs.Stands.{IsLaneOf, DeskStands};
-ghost use Rattle.fluid_desk.specs.Stopping.{IsHonest, HasRun};
+ghost use Rattle.fluid_desk.specs.Stopping.{IsHonest, steps_on, HasRun};
 ghost use Rattle.fluid_callers.specs.Ending.{LaneReads, RunsReading};
 ghost use Rattle.fluid_callers.specs.Hearing.{event_lines, IsNextOf, Fetched, GathersBy};
 ghost use Rattle.fluid_callers.specs.Calling.{CallDoes, GatherDoes};
@@ -44,7 +44,7 @@ where
     requires moment { moment ≤ most }
     ensures does { (w : World) → DeskStands lanes.old w → IsSoundVoice w voice.old → voice_of w name.now ≡ voice.old → w.moment ≡ moment →
         CallDoes (done lanes.old.limits w (step.Collect name.now)) name.now lanes.new voice.new result }
-    ensures runs { (first : ℕ) → HasRun first lanes.old → RunsReading first lanes.new result }
+    ensures runs { (first steps : ℕ) → HasRun first steps lanes.old → RunsReading first (steps + 1) lanes.new result }
     ensures limits { lanes.new.limits ≡ lanes.old.limits }
 {
     match gather(alloc, lanes, voice, name, moment) {
@@ -69,7 +69,7 @@ where
     requires moment { moment ≤ most }
     ensures does { (w : World) → DeskStands lanes.old w → IsSoundVoice w voice.now → voice_of w name.now ≡ voice.now → w.moment ≡ moment →
         GatherDoes (done lanes.old.limits w (step.Collect name.now)) name.now lanes.new voice.now result }
-    ensures runs { (first : ℕ) → HasRun first lanes.old → RunsReading first lanes.new result }
+    ensures runs { (first steps : ℕ) → HasRun first steps lanes.old → RunsReading first (steps + 1) lanes.new result }
     ensures limits { lanes.new.limits ≡ lanes.old.limits }
 {
     match voice.state() {
@@ -98,7 +98,7 @@ where
     requires moment { moment ≤ most }
     ensures does { (w : World) → IsNextOf document.now next voice.now → DeskStands lanes.old w → IsSoundVoice w voice.now → voice_of w name.now ≡ voice.now →
         w.moment ≡ moment → GatherDoes (done lanes.old.limits w (step.Collect name.now)) name.now lanes.new voice.now result }
-    ensures runs { (first : ℕ) → HasRun first lanes.old → RunsReading first lanes.new result }
+    ensures runs { (first steps : ℕ) → HasRun first steps lanes.old → RunsReading first (steps + 1) lanes.new result }
     ensures limits { lanes.new.limits ≡ lanes.old.limits }
 {
     match ready(alloc, lanes, document, moment) {
@@ -135,7 +135,7 @@ fn messages_from<K: Keeper>(
 ) -> Result<Vec<Message>, Stop>
     requires first { 0 < from }
     requires last { behind ≡ lane.old.entries.state.sequencer.sequence + 1 }
-    ensures does { (limits : ALimits) (d : ADocument) → IsLaneOf limits lane.old d → MatchResult result (λ messages. Fetched limits d from lane.new messages.items) IsHonest }
+    ensures does { (limits : ALimits) (d : ADocument) → IsLaneOf limits lane.old d → MatchResult result (λ messages. Fetched limits d from lane.new messages.items) (IsHonest (steps_on d lane.new)) }
     ensures runs { LaneReads lane.old lane.new result }
 {
     if behind <= from {

@@ -1,5 +1,5 @@
 //! A connection hears a text.
-ghost use Rattle.std.specs.Prelude.{◌≡◌, ◌≤◌, ℕ, List, All, Some, IfOk, length, option_map};
+ghost use Rattle.std.specs.Prelude.{◌≡◌, ◌≤◌, ◌+◌, ℕ, List, All, Some, IfOk, length, option_map};
 ghost use Rattle.fluid_document.specs.Entries.{most};
 ghost use Rattle.fluid_readback.specs.Laws.{longest_text};
 ghost use Rattle.fluid_steps.specs.declared.steps.Step.TheVariants as step;
@@ -46,7 +46,7 @@ where
     requires short { length text.now ≤ longest_text }
     ensures does { (w : World) → DeskStands lanes.old w → StoreStands (O.seen objects.old) w → IsSoundVoice w voice.old → voice_of w name.now ≡ voice.old →
         w.moment ≡ moment → CallDoesWith (done lanes.old.limits w (step.Send name.now text.now)) name.now lanes.new (O.seen objects.new) voice.new result }
-    ensures runs { (first : ℕ) → HasRun first lanes.old → RunsHearing first (O.seen objects.old) (O.seen objects.new) lanes.new result }
+    ensures runs { (first steps : ℕ) → HasRun first steps lanes.old → RunsHearing first (steps + 1) (O.seen objects.old) (O.seen objects.new) lanes.new result }
     ensures limits { lanes.new.limits ≡ lanes.old.limits }
     ensures counts { (O.seen objects.old).faults ≤ (O.seen objects.new).faults }
 {
@@ -76,7 +76,7 @@ where
     ensures does { (w : World) (text : List ℕ) → DeskStands lanes.old w → StoreStands (O.seen objects.old) w → IsSoundVoice w voice.old →
         voice_of w name.now ≡ voice.old → w.moment ≡ moment → acts ≡ acts_of voice.old text moment → reached acts voice.old ≡ Some document.now →
         CallDoesWith (done lanes.old.limits w (step.Send name.now text)) name.now lanes.new (O.seen objects.new) voice.new result }
-    ensures runs { (first : ℕ) → HasRun first lanes.old → RunsHearing first (O.seen objects.old) (O.seen objects.new) lanes.new result }
+    ensures runs { (first steps : ℕ) → HasRun first steps lanes.old → RunsHearing first (steps + 1) (O.seen objects.old) (O.seen objects.new) lanes.new result }
     ensures limits { lanes.new.limits ≡ lanes.old.limits }
     ensures counts { (O.seen objects.old).faults ≤ (O.seen objects.new).faults }
 {

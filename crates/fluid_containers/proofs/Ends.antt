@@ -1,5 +1,5 @@
 -- Why a container's step ends the script: on its lane, and on a desk.
-use Rattle.std.proofs.Common.{◌≡◌, ◌⊎◌, inl, inr, ℕ, ◌≤◌, arith, Bool, true, false, List, [], Option, Some, None, Result, Ok, Err, refl, sym, ap, subst, ◌∙◌}
+use Rattle.std.proofs.Common.{◌≡◌, ◌⊎◌, inl, inr, ℕ, ◌+◌, ◌≤◌, arith, Bool, true, false, List, [], Option, Some, None, Result, Ok, Err, refl, sym, ap, subst, ◌∙◌}
 use Rattle.std.specs.Prelude.{IsSome, IfSome, IfOk, IfErr}
 use Rattle.std.specs.Option.{option_map_or}
 use Rattle.std.specs.FinMap.{get}
@@ -12,7 +12,8 @@ use Rattle.fluid_store.specs.declared.fault.StoreFault.{StoreFault}
 use Rattle.fluid_store.specs.declared.fault.StoreFault.TheVariants as store
 use Rattle.fluid_lane.specs.declared.fault.LaneFault.{LaneFault}
 use Rattle.fluid_lane.specs.declared.fault.LaneFault.TheVariants as lanes
-use Rattle.fluid_lane.specs.Standing.{Standing}
+use Rattle.fluid_document.specs.Entries.{most}
+use Rattle.fluid_lane.specs.Standing.{Standing, is_worn}
 use Rattle.fluid_lanes.specs.Opened.{Opened, with_lane}
 use Rattle.fluid_desk.specs.declared.stop.Stop.{Stop}
 use Rattle.fluid_desk.specs.declared.stop.Stop.TheVariants.{KeeperFault, StoreFault as StoreFailed, BadStored, NoMemory}
@@ -20,12 +21,14 @@ use Rattle.fluid_desk.specs.declared.stop.StoredFault.TheVariants.{Lane as OfLan
 use Rattle.fluid_desk.specs.Stopping as stops
 use Rattle.fluid_desk.specs.Stopping.{stop_of, HasRun, StopsFor, EndsFor, RunsOn}
 use Rattle.fluid_desk.specs.Acting.{IsLine}
-use Rattle.fluid_desk.proofs.Running.{lane_run}
+use Rattle.fluid_desk.proofs.Few.{few_more, lane_few}
+use Rattle.fluid_desk.proofs.Running.{lane_run, run_more, stops_more}
 use Rattle.fluid_loader.specs.declared.fault.LoadFault.{LoadFault}
 use Rattle.fluid_loader.specs.declared.fault.LoadFault.TheVariants as loads
 use Rattle.fluid_transcript.specs.Lines as lines
-use Rattle.fluid_callers.specs.Ending.{delta_stop, EndsHearing, EndsForHearing, StopsForHearing, RefusesMessage}
-use Rattle.fluid_callers.proofs.Ends.{hears_desk, stops_hearing}
+use Rattle.fluid_callers.specs.Ending.{delta_stop, AddsAside, EndsHearing, EndsForHearing, StopsForHearing, RefusesMessage}
+use Rattle.fluid_callers.proofs.Ends.{hears_desk}
+use Rattle.fluid_door_link.specs.Coursing as coursing
 use Rattle.fluid_door_link.specs.Coursing.{Along, IsAlong}
 use Rattle.fluid_door_link.specs.Failing as failing
 use Rattle.fluid_door_link.specs.Failing.{HasCause, IsTreeCounted, is_refusal, RefusesTree}
@@ -51,63 +54,70 @@ left_so good began old new first before now a stop at_first at_before at is alon
 if_some : {A : Type 0} (P : A → Type 0) (o : Option A) (a : A) → o ≡ Some a → IfSome o P → P a
 if_some P o a is h = subst (λ x. IfSome x P) is h
 
+-- one side step at most
+aside_most : (stop : Option LentFault) (old new : Standing) → coursing.AddsAside stop old new → new.sides ≤ old.sides + 1
+aside_most None old new le = omega (arith, le)
+aside_most (Some fault) old new le = le
+
 module _ (good : Bool) (old new : Standing) (before now : Storing) (stop : Option LentFault) (along : IsAlong good old before (record { lane = new; store = now; stop = stop })) where
   -- a call on lane or store failed
   pub fails_links : {A : Type 0} (fault : LentFault) (result : Stop) → stop ≡ Some fault → result ≡ stop_for fault → LaneLinks {A = A} old new before now (Err result)
   fails_links fault result is same = record {
     later = along.gone.goes.later;
+    sides = aside_most stop old new along.sides;
     counts = along.counts;
     ends = inr (fault, (same, if_some (HasCause old new before now) stop fault is along.cause));
   }
 
   -- nothing but memory was wanting
-  pub wants_links : {A : Type 0} (result : Result A Stop) → IfErr result (λ stop. stop ≡ NoMemory) → LaneLinks old new before now result
-  wants_links (Ok a) is = record { later = along.gone.goes.later; counts = along.counts; ends = tt }
-  wants_links (Err stop) is = record { later = along.gone.goes.later; counts = along.counts; ends = inl is }
+  pub wants_links : {A : Type 0} (result : Result A Stop) → stop ≡ None → IfErr result (λ stop. stop ≡ NoMemory) → LaneLinks old new before now result
+  wants_links (Ok a) none is = record { later = along.gone.goes.later; sides = subst (λ s. coursing.AddsAside s old new) none along.sides; counts = along.counts; ends = tt }
+  wants_links (Err end) none is = record { later = along.gone.goes.later; sides = aside_most stop old new along.sides; counts = along.counts; ends = inl is }
 
 -- nothing was lent yet
 pub unlent_links : {A : Type 0} (old : Standing) (before : Storing) (result : Result A Stop) → IfErr result (λ stop. stop ≡ NoMemory) → LaneLinks old old before before result
-unlent_links old before (Ok a) is = record { later = omega arith; counts = omega arith; ends = tt }
-unlent_links old before (Err stop) is = record { later = omega arith; counts = omega arith; ends = inl is }
+unlent_links old before (Ok a) is = record { later = omega arith; sides = omega arith; counts = omega arith; ends = tt }
+unlent_links old before (Err stop) is = record { later = omega arith; sides = omega arith; counts = omega arith; ends = inl is }
 
 -- ---- over a desk that stands for a world
 
 -- a lane that stands for a list refuses nothing but that it is worn
-lane_honest : (old new : Standing) (fault : LaneFault) → failing.LaneFails old new fault → stops.IsHonest (stop_of fault)
-lane_honest old new (lanes.LogFailed note) cause = tt
-lane_honest old new (lanes.DeltaFailed note) cause = tt
-lane_honest old new lanes.Worn cause = tt
-lane_honest old new lanes.NoMemory cause = tt
-lane_honest old new (lanes.Full n) cause = absurd cause
-lane_honest old new lanes.TooManyClients cause = absurd cause
-lane_honest old new (lanes.BadRecord n) cause = absurd cause
-lane_honest old new (lanes.NoCheckpoint k n) cause = absurd cause
-lane_honest old new lanes.CheckpointsFull cause = absurd cause
-lane_honest old new (lanes.BadCheckpoint n f) cause = absurd cause
-lane_honest old new (lanes.TooLarge n) cause = absurd cause
+lane_honest : (steps : ℕ) (old new : Standing) (fault : LaneFault) → (is_worn new ≡ true → most ≤ steps + 1) → failing.LaneFails old new fault → stops.IsHonest steps (stop_of fault)
+lane_honest steps old new (lanes.LogFailed note) worn cause = tt
+lane_honest steps old new (lanes.DeltaFailed note) worn cause = tt
+lane_honest steps old new lanes.Worn worn cause = worn cause
+lane_honest steps old new lanes.NoMemory worn cause = tt
+lane_honest steps old new (lanes.Full n) worn cause = absurd cause
+lane_honest steps old new lanes.TooManyClients worn cause = absurd cause
+lane_honest steps old new (lanes.BadRecord n) worn cause = absurd cause
+lane_honest steps old new (lanes.NoCheckpoint k n) worn cause = absurd cause
+lane_honest steps old new lanes.CheckpointsFull worn cause = absurd cause
+lane_honest steps old new (lanes.BadCheckpoint n f) worn cause = absurd cause
+lane_honest steps old new (lanes.TooLarge n) worn cause = absurd cause
 
-delta_honest : (fault : DeltaFault) → failing.IsHonest (Deltas fault) → stops.IsHonest (delta_stop fault)
-delta_honest (delta.DeltaFailed note) honest = tt
-delta_honest (delta.BadDelta n) honest = absurd honest
-delta_honest delta.Worn honest = tt
-delta_honest delta.NoMemory honest = tt
+delta_honest : (steps : ℕ) (old new : Standing) (fault : DeltaFault) → (is_worn new ≡ true → most ≤ steps + 1) → failing.DeltasFail old new fault → failing.IsHonest (Deltas fault) → stops.IsHonest steps (delta_stop fault)
+delta_honest steps old new (delta.DeltaFailed note) worn cause honest = tt
+delta_honest steps old new (delta.BadDelta n) worn cause honest = absurd honest
+delta_honest steps old new delta.Worn worn cause honest = worn cause
+delta_honest steps old new delta.NoMemory worn cause honest = tt
 
 differ : ◌≡◌ {A = Bool} true false → ⊥
 differ same = cc
 
-store_honest : (fault : StoreFault) → is_refusal (Store fault) ≡ false → stops.IsHonest (store_stop fault)
-store_honest (store.StoreFailed note) mild = tt
-store_honest store.NoMemory mild = tt
-store_honest (store.Clash id kept bytes) mild = absurd (differ mild)
-store_honest (store.Missing id) mild = absurd (differ mild)
-store_honest (store.BadObject id place) mild = absurd (differ mild)
-store_honest (store.Tree f) mild = absurd (differ mild)
-store_honest (store.NoPath path) mild = absurd (differ mild)
+store_honest : (steps : ℕ) (fault : StoreFault) → is_refusal (Store fault) ≡ false → stops.IsHonest steps (store_stop fault)
+store_honest steps (store.StoreFailed note) mild = tt
+store_honest steps store.NoMemory mild = tt
+store_honest steps (store.Clash id kept bytes) mild = absurd (differ mild)
+store_honest steps (store.Missing id) mild = absurd (differ mild)
+store_honest steps (store.BadObject id place) mild = absurd (differ mild)
+store_honest steps (store.Tree f) mild = absurd (differ mild)
+store_honest steps (store.NoPath path) mild = absurd (differ mild)
 
-pub fault_honest : (old new : Standing) (before now : Storing) (fault : LentFault) → HasCause old new before now fault → failing.IsHonest fault → is_refusal fault ≡ false → stops.IsHonest (stop_for fault)
-fault_honest old new before now (Lane fault) cause honest mild = lane_honest old new fault cause
-fault_honest old new before now (Deltas fault) cause honest mild = delta_honest fault honest
-fault_honest old new before now (Store fault) cause honest mild = store_honest fault mild
+pub fault_honest : (steps : ℕ) (old new : Standing) (before now : Storing) (fault : LentFault) → (is_worn new ≡ true → most ≤ steps + 1) → HasCause old new before now fault → failing.IsHonest fault → is_refusal fault ≡ false
+    → stops.IsHonest steps (stop_for fault)
+fault_honest steps old new before now (Lane fault) worn cause honest mild = lane_honest steps old new fault worn cause
+fault_honest steps old new before now (Deltas fault) worn cause honest mild = delta_honest steps old new fault worn cause honest
+fault_honest steps old new before now (Store fault) worn cause honest mild = store_honest steps fault mild
 
 -- no tree was to be put: none was refused
 pub none_refused : (stop : Option LentFault) (trees : ℕ) (fault : LentFault) → IsTreeCounted stop trees → trees ≡ 0 → stop ≡ Some fault → is_refusal fault ≡ false
@@ -121,10 +131,10 @@ none_refused stop trees fault after none is =
     by false same = same
     by true same = absurd (few (subst (λ n. 1 ≤ n) none (after (ap (λ o. option_map_or is_refusal o false) is ∙ same))))
 
-pub stop_honest : (old new : Standing) (before now : Storing) (stop : Option LentFault) (trees : ℕ) (fault : LentFault) → IsAlong true old before (record { lane = new; store = now; stop = stop })
-    → IsTreeCounted stop trees → trees ≡ 0 → stop ≡ Some fault → stops.IsHonest (stop_for fault)
-stop_honest old new before now stop trees fault along after none is =
-    fault_honest old new before now fault (if_some (HasCause old new before now) stop fault is along.cause) (if_some failing.IsHonest stop fault is (along.honest refl)) (none_refused stop trees fault after none is)
+pub stop_honest : (steps : ℕ) (old new : Standing) (before now : Storing) (stop : Option LentFault) (trees : ℕ) (fault : LentFault) → IsAlong true old before (record { lane = new; store = now; stop = stop })
+    → IsTreeCounted stop trees → trees ≡ 0 → stop ≡ Some fault → (is_worn new ≡ true → most ≤ steps + 1) → stops.IsHonest steps (stop_for fault)
+stop_honest steps old new before now stop trees fault along after none is worn =
+    fault_honest steps old new before now fault worn (if_some (HasCause old new before now) stop fault is along.cause) (if_some failing.IsHonest stop fault is (along.honest refl)) (none_refused stop trees fault after none is)
 
 -- where the lane stood, and nothing failed
 pub left_well : (good : Bool) (began old new : Standing) (first before now : Storing) (a : Along) (stop : Option LentFault) → old ≡ began → before ≡ first → a ≡ record { lane = new; store = now; stop = a.stop } → stop ≡ a.stop
@@ -135,11 +145,12 @@ left_well good began old new first before now a stop at_first at_before at is al
 
 -- where the lane stood, an end is one that a desk which stands for a world may have
 pub left_honest : (good : Bool) (began old new : Standing) (first before now : Storing) (a : Along) (stop : Option LentFault) (trees : ℕ) (fault : LentFault) (result : Stop) → old ≡ began → before ≡ first
-    → a ≡ record { lane = new; store = now; stop = a.stop } → stop ≡ a.stop → IsAlong good began first a → good ≡ true → IsTreeCounted a.stop trees → trees ≡ 0 → stop ≡ Some fault → result ≡ stop_for fault → stops.IsHonest result
-left_honest good began old new first before now a stop trees fault result at_first at_before at is along holds counted none there same =
-    subst stops.IsHonest (sym same)
-    (stop_honest old new before now stop trees fault (subst (λ g. IsAlong g old before (record { lane = new; store = now; stop = stop })) holds (left_so good began old new first before now a stop at_first at_before at is along))
-    (subst (λ s. IsTreeCounted s trees) (sym is) counted) none there)
+    → a ≡ record { lane = new; store = now; stop = a.stop } → stop ≡ a.stop → IsAlong good began first a → good ≡ true → IsTreeCounted a.stop trees → trees ≡ 0 → stop ≡ Some fault → result ≡ stop_for fault
+    → (steps : ℕ) → (is_worn new ≡ true → most ≤ steps + 1) → stops.IsHonest steps result
+left_honest good began old new first before now a stop trees fault result at_first at_before at is along holds counted none there same steps worn =
+    subst (stops.IsHonest steps) (sym same)
+    (stop_honest steps old new before now stop trees fault (subst (λ g. IsAlong g old before (record { lane = new; store = now; stop = stop })) holds (left_so good began old new first before now a stop at_first at_before at is along))
+    (subst (λ s. IsTreeCounted s trees) (sym is) counted) none there worn)
 
 -- and on every lane it has its cause
 pub left_links : {A : Type 0} (good : Bool) (began old new : Standing) (first before now : Storing) (a : Along) (stop : Option LentFault) (fault : LentFault) (result : Stop) → old ≡ began → before ≡ first
@@ -148,9 +159,9 @@ left_links good began old new first before now a stop fault result at_first at_b
     fails_links good old new before now stop (left_so good began old new first before now a stop at_first at_before at is along) fault result there same
 
 pub left_wants : {A : Type 0} (good : Bool) (began old new : Standing) (first before now : Storing) (a : Along) (stop : Option LentFault) (result : Result A Stop) → old ≡ began → before ≡ first
-    → a ≡ record { lane = new; store = now; stop = a.stop } → stop ≡ a.stop → IsAlong good began first a → IfErr result (λ end. end ≡ NoMemory) → LaneLinks old new before now result
-left_wants good began old new first before now a stop result at_first at_before at is along wants =
-    wants_links good old new before now stop (left_so good began old new first before now a stop at_first at_before at is along) result wants
+    → a ≡ record { lane = new; store = now; stop = a.stop } → stop ≡ a.stop → IsAlong good began first a → stop ≡ None → IfErr result (λ end. end ≡ NoMemory) → LaneLinks old new before now result
+left_wants good began old new first before now a stop result at_first at_before at is along none wants =
+    wants_links good old new before now stop (left_so good began old new first before now a stop at_first at_before at is along) result none wants
 
 -- ---- on all of a desk
 
@@ -187,9 +198,10 @@ module _ (old new : Standing) (before now : Storing) where
   delta_hears delta.Worn cause = cause
   delta_hears delta.NoMemory cause = tt
 
-  module _ (first : ℕ) (o : Opened) (name : List ℕ) (run : HasRun first o) (there : get o.lanes name ≡ Some old) (out : IsSome (get o.shelving.out name)) (later : old.keeping.faults ≤ new.keeping.faults) (counts : before.faults ≤ now.faults) where
-    hears_so : (stop : Stop) → EndsHearing old new before now stop → StopsForHearing first before now (with_lane o name new) stop
-    hears_so stop ends = hears_desk first o name old new before now (ended stop) run there out (record { later = later; counts = counts; ends = ends })
+  module _ (first steps : ℕ) (o : Opened) (name : List ℕ) (run : HasRun first steps o) (there : get o.lanes name ≡ Some old) (out : IsSome (get o.shelving.out name)) (later : old.keeping.faults ≤ new.keeping.faults) (sides : new.sides ≤ old.sides + 1)
+      (counts : before.faults ≤ now.faults) where
+    hears_so : (stop : Stop) → EndsHearing old new before now stop → StopsForHearing first (steps + 1) before now (with_lane o name new) stop
+    hears_so stop ends = hears_desk first steps o name old new before now (ended stop) run there out (record { later = later; sides = sides; counts = counts; ends = ends })
 
     linking : (stop : Stop) → EndsForHearing first before now (with_lane o name new) stop → EndsForLinking first before now (with_lane o name new) stop
     linking (KeeperFault note) ends = ends
@@ -199,13 +211,13 @@ module _ (old new : Standing) (before now : Storing) where
     linking (BadStored (OfObject fault)) ends = absurd ends
     linking NoMemory ends = ends
 
-    links_so : (stop : Stop) → EndsHearing old new before now stop → StopsForLinking first before now (with_lane o name new) stop
-    links_so stop ends = let hears = hears_so stop ends in record { shelves = hears.shelves; ends = linking stop hears.ends }
+    links_so : (stop : Stop) → EndsHearing old new before now stop → StopsForLinking first (steps + 1) before now (with_lane o name new) stop
+    links_so stop ends = let hears = hears_so stop ends in record { shelves = hears.shelves; few = hears.few; ends = linking stop hears.ends }
 
-    refuses_so : (fault : StoreFault) → RefusesTree now fault → StopsForLinking first before now (with_lane o name new) (BadStored (OfObject fault))
-    refuses_so fault refuses = record { shelves = run.shelves; ends = refuses }
+    refuses_so : (fault : StoreFault) → RefusesTree now fault → StopsForLinking first (steps + 1) before now (with_lane o name new) (BadStored (OfObject fault))
+    refuses_so fault refuses = record { shelves = run.shelves; few = lane_few steps o name run.few old new there sides; ends = refuses }
 
-    store_links : (fault : StoreFault) → failing.StoreFails before now fault → StopsForLinking first before now (with_lane o name new) (store_stop fault)
+    store_links : (fault : StoreFault) → failing.StoreFails before now fault → StopsForLinking first (steps + 1) before now (with_lane o name new) (store_stop fault)
     store_links (store.StoreFailed note) cause = links_so (StoreFailed note) cause
     store_links store.NoMemory cause = absurd cause
     store_links (store.Clash id kept bytes) cause = absurd cause
@@ -214,23 +226,27 @@ module _ (old new : Standing) (before now : Storing) where
     store_links (store.Tree f) cause = refuses_so (store.Tree f) cause
     store_links (store.NoPath path) cause = refuses_so (store.NoPath path) cause
 
-    fault_links : (fault : LentFault) → HasCause old new before now fault → StopsForLinking first before now (with_lane o name new) (stop_for fault)
+    fault_links : (fault : LentFault) → HasCause old new before now fault → StopsForLinking first (steps + 1) before now (with_lane o name new) (stop_for fault)
     fault_links (Lane fault) cause = links_so (stop_of fault) (lane_hears fault cause)
     fault_links (Deltas fault) cause = links_so (delta_stop fault) (delta_hears fault cause)
     fault_links (Store fault) cause = store_links fault cause
 
-    stop_links : (stop : Stop) → (stop ≡ NoMemory) ⊎ ((fault : LentFault) × ((stop ≡ stop_for fault) × HasCause old new before now fault)) → StopsForLinking first before now (with_lane o name new) stop
-    stop_links stop (inl is) = subst (StopsForLinking first before now (with_lane o name new)) (sym is) (links_so NoMemory tt)
-    stop_links stop (inr (fault, (is, cause))) = subst (StopsForLinking first before now (with_lane o name new)) (sym is) (fault_links fault cause)
+    stop_links : (stop : Stop) → (stop ≡ NoMemory) ⊎ ((fault : LentFault) × ((stop ≡ stop_for fault) × HasCause old new before now fault)) → StopsForLinking first (steps + 1) before now (with_lane o name new) stop
+    stop_links stop (inl is) = subst (StopsForLinking first (steps + 1) before now (with_lane o name new)) (sym is) (links_so NoMemory tt)
+    stop_links stop (inr (fault, (is, cause))) = subst (StopsForLinking first (steps + 1) before now (with_lane o name new)) (sym is) (fault_links fault cause)
 
     pub runs_so : {A : Type 0} (result : Result A Stop) → IfErr result (λ stop. (stop ≡ NoMemory) ⊎ ((fault : LentFault) × ((stop ≡ stop_for fault) × HasCause old new before now fault)))
-        → RunsLinking first before now (with_lane o name new) result
-    runs_so (Ok a) ends = lane_run first o name old new run there out later
+        → RunsLinking first (steps + 1) before now (with_lane o name new) result
+    runs_so (Ok a) ends = lane_run first steps o name old new run there out later sides
     runs_so (Err stop) ends = stop_links stop ends
 
-pub links_desk : {A : Type 0} (first : ℕ) (o : Opened) (name : List ℕ) (old new : Standing) (before now : Storing) (result : Result A Stop) → HasRun first o → get o.lanes name ≡ Some old → IsSome (get o.shelving.out name)
-    → LaneLinks old new before now result → RunsLinking first before now (with_lane o name new) result
-links_desk first o name old new before now result run there out links = runs_so old new before now first o name run there out links.later links.counts result links.ends
+aside_one : {A : Type 0} (old new : Standing) (result : Result A Stop) → AddsAside old new result → new.sides ≤ old.sides + 1
+aside_one old new (Ok a) le = omega (arith, le)
+aside_one old new (Err stop) le = le
+
+pub links_desk : {A : Type 0} (first steps : ℕ) (o : Opened) (name : List ℕ) (old new : Standing) (before now : Storing) (result : Result A Stop) → HasRun first steps o → get o.lanes name ≡ Some old → IsSome (get o.shelving.out name)
+    → LaneLinks old new before now result → RunsLinking first (steps + 1) before now (with_lane o name new) result
+links_desk first steps o name old new before now result run there out links = runs_so old new before now first steps o name run there out links.later (aside_one old new result links.sides) links.counts result links.ends
 
 -- ---- a step that didn't come to the lane of its document
 
@@ -242,21 +258,33 @@ linking_of first before now o (BadStored (OfDelta number)) ends = ends
 linking_of first before now o (BadStored (OfObject fault)) ends = absurd ends
 linking_of first before now o NoMemory ends = ends
 
-pub stops_linking : (first : ℕ) (before now : Storing) (o : Opened) (stop : Stop) → StopsFor first o stop → StopsForLinking first before now o stop
-stops_linking first before now o stop stops = let hears = stops_hearing first before now o stop stops in record { shelves = hears.shelves; ends = linking_of first before now o stop hears.ends }
+hearing_for : (first : ℕ) (before now : Storing) (o : Opened) (stop : Stop) → EndsFor first o stop → EndsForHearing first before now o stop
+hearing_for first before now o (KeeperFault note) ends = ends
+hearing_for first before now o (StoreFailed note) ends = absurd ends
+hearing_for first before now o (BadStored (OfLane fault)) ends = ends
+hearing_for first before now o (BadStored (OfDelta number)) ends = absurd ends
+hearing_for first before now o (BadStored (OfObject fault)) ends = ends
+hearing_for first before now o NoMemory ends = ends
 
-pub runs_linking : {A : Type 0} (first : ℕ) (before now : Storing) (o : Opened) (result : Result A Stop) → RunsOn first o result → RunsLinking first before now o result
-runs_linking first before now o (Ok a) runs = runs
-runs_linking first before now o (Err stop) runs = stops_linking first before now o stop runs
+-- the same of so many steps
+pub stops_linked : (first steps : ℕ) (before now : Storing) (o : Opened) (stop : Stop) → StopsFor first steps o stop → StopsForLinking first steps before now o stop
+stops_linked first steps before now o stop stops = record { shelves = stops.shelves; few = stops.few; ends = linking_of first before now o stop (hearing_for first before now o stop stops.ends) }
 
-pub memory_links : {A : Type 0} (first : ℕ) (o : Opened) (before now : Storing) (result : Result A Stop) → HasRun first o → IfErr result (λ stop. stop ≡ NoMemory) → RunsLinking first before now o result
-memory_links first o before now (Ok a) run is = run
-memory_links first o before now (Err stop) run is = record { shelves = run.shelves; ends = subst (EndsForLinking first before now o) (sym is) tt }
+pub stops_linking : (first steps : ℕ) (before now : Storing) (o : Opened) (stop : Stop) → StopsFor first steps o stop → StopsForLinking first (steps + 1) before now o stop
+stops_linking first steps before now o stop stops = stops_linked first (steps + 1) before now o stop (stops_more first steps o stop stops)
+
+pub runs_linking : {A : Type 0} (first steps : ℕ) (before now : Storing) (o : Opened) (result : Result A Stop) → RunsOn first steps o result → RunsLinking first steps before now o result
+runs_linking first steps before now o (Ok a) runs = runs
+runs_linking first steps before now o (Err stop) runs = stops_linked first steps before now o stop runs
+
+pub memory_links : {A : Type 0} (first steps : ℕ) (o : Opened) (before now : Storing) (result : Result A Stop) → HasRun first steps o → IfErr result (λ stop. stop ≡ NoMemory) → RunsLinking first (steps + 1) before now o result
+memory_links first steps o before now (Ok a) run is = run_more first steps o run
+memory_links first steps o before now (Err stop) run is = record { shelves = run.shelves; few = few_more steps o run.few; ends = subst (EndsForLinking first before now o) (sym is) tt }
 
 -- a line, or want of memory for it
-pub line_links : (first : ℕ) (o : Opened) (before now : Storing) (line : List ℕ) (result : Result (List ℕ) Stop) → HasRun first o → IsLine line result → RunsLinking first before now o result
-line_links first o before now line (Ok text) run is = run
-line_links first o before now line (Err stop) run is = record { shelves = run.shelves; ends = subst (EndsForLinking first before now o) (sym is) tt }
+pub line_links : (first steps : ℕ) (o : Opened) (before now : Storing) (line : List ℕ) (result : Result (List ℕ) Stop) → HasRun first steps o → IsLine line result → RunsLinking first (steps + 1) before now o result
+line_links first steps o before now line (Ok text) run is = run_more first steps o run
+line_links first steps o before now line (Err stop) run is = record { shelves = run.shelves; few = few_more steps o run.few; ends = subst (EndsForLinking first before now o) (sym is) tt }
 
 -- what is written where neither lane nor store failed ends for want of memory alone
 pub line_wants : (line : List ℕ) (result : Result (List ℕ) Stop) → IsLine line result → IfErr result (λ end. end ≡ NoMemory)
@@ -306,9 +334,9 @@ proposed_wants p number (Err (loads.BadSummary path)) result says = wanting_is r
 proposed_wants p number (Err loads.NoMemory) result says = wanting_is result says
 
 -- nobody joined, or memory was wanting
-pub turned_runs : (first : ℕ) (o : Opened) (before now : Storing) (p : List ℕ) (result : Result (List ℕ × Loaded) Stop) → HasRun first o → IsTurnedAway p result → RunsLinking first before now o result
-turned_runs first o before now p (Ok made) run is = run
-turned_runs first o before now p (Err stop) run is = record { shelves = run.shelves; ends = subst (EndsForLinking first before now o) (sym is) tt }
+pub turned_runs : (first steps : ℕ) (o : Opened) (before now : Storing) (p : List ℕ) (result : Result (List ℕ × Loaded) Stop) → HasRun first steps o → IsTurnedAway p result → RunsLinking first (steps + 1) before now o result
+turned_runs first steps o before now p (Ok made) run is = run_more first steps o run
+turned_runs first steps o before now p (Err stop) run is = record { shelves = run.shelves; few = few_more steps o run.few; ends = subst (EndsForLinking first before now o) (sym is) tt }
 
 -- ---- one call behind another
 
@@ -353,11 +381,11 @@ module _ (old mid new : Standing) (before between now : Storing) (later : old.ke
   end_later stop (inl is) = inl is
   end_later stop (inr (fault, (is, cause))) = inr (fault, (is, cause_later fault cause))
 
-  pub links_later : {A : Type 0} (result : Result A Stop) → LaneLinks mid new between now result → LaneLinks old new before now result
-  links_later (Ok a) links = record { later = omega (arith, later, links.later); counts = omega (arith, counts, links.counts); ends = tt }
-  links_later (Err stop) links = record { later = omega (arith, later, links.later); counts = omega (arith, counts, links.counts); ends = end_later stop links.ends }
+  pub links_later : {A : Type 0} (result : Result A Stop) → mid.sides ≤ old.sides → LaneLinks mid new between now result → LaneLinks old new before now result
+  links_later (Ok a) sides links = record { later = omega (arith, later, links.later); sides = omega (arith, sides, links.sides); counts = omega (arith, counts, links.counts); ends = tt }
+  links_later (Err stop) sides links = record { later = omega (arith, later, links.later); sides = omega (arith, sides, links.sides); counts = omega (arith, counts, links.counts); ends = end_later stop links.ends }
 
 -- the same end, or an answer made of what was answered
 pub links_on : {A B : Type 0} (old new : Standing) (before now : Storing) (a : A) (result : Result B Stop) → LaneLinks old new before now (Ok a) → IfErr result (λ end. end ≡ NoMemory) → LaneLinks old new before now result
-links_on old new before now a (Ok b) links wants = record { later = links.later; counts = links.counts; ends = tt }
-links_on old new before now a (Err stop) links wants = record { later = links.later; counts = links.counts; ends = inl wants }
+links_on old new before now a (Ok b) links wants = record { later = links.later; sides = links.sides; counts = links.counts; ends = tt }
+links_on old new before now a (Err stop) links wants = record { later = links.later; sides = omega (arith, links.sides); counts = links.counts; ends = inl wants }

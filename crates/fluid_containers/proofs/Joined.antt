@@ -1,5 +1,5 @@
 -- A join of a container's client, on the lane of its document.
-use Rattle.std.proofs.Common.{◌≡◌, inl, inr, ℕ, ◌≤◌, Bool, true, false, if◌then◌else◌, List, [], ◌∷◌, ◌++◌, length, Option, None, is_some, Result, Ok, Err, refl, sym, ap, subst, ◌∙◌, append-nil}
+use Rattle.std.proofs.Common.{◌≡◌, inl, inr, ℕ, ◌+◌, ◌≤◌, arith, Bool, true, false, if◌then◌else◌, List, [], ◌∷◌, ◌++◌, length, Option, None, is_some, Result, Ok, Err, refl, sym, ap, subst, ◌∙◌, append-nil}
 use Rattle.std.specs.Prelude.{IsSome}
 use Rattle.std.proofs.lemmas.List.{length-map}
 use Rattle.fluid_json.specs.Tree.{Tree, null}
@@ -20,8 +20,8 @@ use Rattle.fluid_store.specs.Storing.{Storing}
 use Rattle.fluid_lane.specs.declared.fault.LaneFault.{LaneFault}
 use Rattle.fluid_lane.specs.declared.fault.LaneFault.TheVariants as lanes
 use Rattle.fluid_lane.specs.declared.steps.Step.{Step}
-use Rattle.fluid_lane.specs.Steps.{ledger}
-use Rattle.fluid_lane.specs.Standing.{Standing}
+use Rattle.fluid_lane.specs.Steps.{asides, ledger}
+use Rattle.fluid_lane.specs.Standing.{Standing, Goes}
 use Rattle.fluid_voice.specs.declared.actions.Act.{Act}
 use Rattle.fluid_voice.specs.declared.actions.Act.TheVariants as act
 use Rattle.fluid_voice.specs.declared.ends.ActEnd.{ActEnd}
@@ -39,9 +39,11 @@ use Rattle.fluid_transcript.specs.World.{World, Document, ledger_of, with_entrie
 use Rattle.fluid_transcript.specs.Containers.{all_scopes, join_for, joining, join_refusal, joined_for}
 use Rattle.fluid_desk.specs.declared.stop.Stop.TheVariants.{NoMemory}
 use Rattle.fluid_desk.specs.Stands.{IsLaneOf}
-use Rattle.fluid_desk.specs.Stopping.{IsHonest, stop_of}
+use Rattle.fluid_desk.specs.Stopping.{IsHonest, steps_on, stop_of}
+use Rattle.fluid_desk.proofs.Few.{fault_few, one_aside}
+use Rattle.fluid_callers.proofs.Acts.{lane_honest, worn_on}
 use Rattle.fluid_callers.proofs.Acted.{leaves}
-use Rattle.fluid_callers.proofs.Ends.{still_worn}
+use Rattle.fluid_callers.proofs.Ends.{delta_few, ended_aside, still_worn}
 use Rattle.fluid_door_link.specs.Coursing.{HasStood}
 use Rattle.fluid_door_link.specs.Failing as failing
 use Rattle.fluid_door_link.specs.declared.fault.LentFault.TheVariants.{Lane}
@@ -158,40 +160,39 @@ stands_on old new name moment e on stood = record {
   level = on.owes refl;
 }
 
+-- and has no more side steps
+ended_none : (old new : Standing) {name : List ℕ} {moment : ℕ} (e : ActEnd) → OnLane (join_act name moment) old new (Ok e) → new.sides ≤ old.sides
+ended_none old new {name} {moment} e on = omega (arith, on.goes.sides, ended_aside (join_act name moment) e on.added on.adds)
+
 -- ---- why it fails
 
 module _ (old new : Standing) (before now : Storing) (name : List ℕ) (moment : ℕ) where
-  lane_honest : (fault : LaneFault) → IsLaneCause old new fault → IsHonest (stop_of fault)
-  lane_honest (lanes.LogFailed note) cause = tt
-  lane_honest (lanes.DeltaFailed note) cause = tt
-  lane_honest lanes.Worn cause = tt
-  lane_honest lanes.NoMemory cause = tt
-  lane_honest (lanes.Full n) cause = absurd cause
-  lane_honest lanes.TooManyClients cause = absurd cause
-  lane_honest (lanes.BadRecord n) cause = absurd cause
-  lane_honest (lanes.NoCheckpoint k n) cause = absurd cause
-  lane_honest lanes.CheckpointsFull cause = absurd cause
-  lane_honest (lanes.BadCheckpoint n f) cause = absurd cause
-  lane_honest (lanes.TooLarge n) cause = absurd cause
+  pub unjoined_honest : (limits : Limits) (d : Document) (fault : TalkFault) → IsLaneOf limits old d → OnLane (join_act name moment) old new (Err fault) → IsTalkCause (join_act name moment) old new before now fault
+      → IsHonest (steps_on d new) (joining_stop fault)
+  unjoined_honest limits d (talk.Lane fault) of on cause = lane_honest (steps_on d new) old new on.added fault (worn_on limits old new on.added d of on.goes) on.adds cause.1
+  unjoined_honest limits d (talk.Door fault) of on cause = tt
+  unjoined_honest limits d (talk.Delta fault) of on cause = tt
+  unjoined_honest limits d (talk.Store fault) of on cause = tt
+  unjoined_honest limits d talk.NoMemory of on cause = tt
 
-  pub unjoined_honest : (fault : TalkFault) → IsTalkCause (join_act name moment) old new before now fault → IsHonest (joining_stop fault)
-  unjoined_honest (talk.Lane fault) cause = lane_honest fault cause.1
-  unjoined_honest (talk.Door fault) cause = tt
-  unjoined_honest (talk.Delta fault) cause = tt
-  unjoined_honest (talk.Store fault) cause = tt
-  unjoined_honest talk.NoMemory cause = tt
+  -- one side step at most
+  aside : (fault : LaneFault) → OnLane (join_act name moment) old new (Err (talk.Lane fault)) → new.sides ≤ old.sides + 1
+  aside fault on = one_aside old new on.added (subst (λ l. asides l ≤ 1) (sym on.adds) (fault_few fault)) on.goes.sides
 
-  links : {A : Type 0} (fault : LaneFault) → old.keeping.faults ≤ new.keeping.faults → before.faults ≤ now.faults → failing.LaneFails old new fault → LaneLinks {A = A} old new before now (Err (stop_of fault))
-  links fault later counts cause = record { later = later; counts = counts; ends = inr (Lane fault, (refl, cause)) }
+  links : {A : Type 0} (fault : LaneFault) → OnLane (join_act name moment) old new (Err (talk.Lane fault)) → before.faults ≤ now.faults → failing.LaneFails old new fault → LaneLinks {A = A} old new before now (Err (stop_of fault))
+  links fault on counts cause = record { later = on.goes.later; sides = aside fault on; counts = counts; ends = inr (Lane fault, (refl, cause)) }
 
-  wants : {A : Type 0} → old.keeping.faults ≤ new.keeping.faults → before.faults ≤ now.faults → LaneLinks {A = A} old new before now (Err NoMemory)
-  wants later counts = record { later = later; counts = counts; ends = inl refl }
+  wants : {A : Type 0} → old.keeping.faults ≤ new.keeping.faults → new.sides ≤ old.sides + 1 → before.faults ≤ now.faults → LaneLinks {A = A} old new before now (Err NoMemory)
+  wants later sides counts = record { later = later; sides = sides; counts = counts; ends = inl refl }
+
+  no_aside : (added : List Step) → Goes old new added → added ≡ [] → new.sides ≤ old.sides + 1
+  no_aside added goes none = let steps = subst (Goes old new) none goes in omega (arith, steps.sides)
 
   lane_links : {A : Type 0} (fault : LaneFault) → OnLane (join_act name moment) old new (Err (talk.Lane fault)) → before.faults ≤ now.faults → IsLaneCause old new fault → LaneLinks {A = A} old new before now (Err (stop_of fault))
-  lane_links (lanes.LogFailed note) on counts cause = links (lanes.LogFailed note) on.goes.later counts cause
-  lane_links (lanes.DeltaFailed note) on counts cause = links (lanes.DeltaFailed note) on.goes.later counts cause
-  lane_links lanes.Worn on counts cause = links lanes.Worn on.goes.later counts (still_worn old new on.added on.goes on.adds cause)
-  lane_links lanes.NoMemory on counts cause = wants on.goes.later counts
+  lane_links (lanes.LogFailed note) on counts cause = links (lanes.LogFailed note) on counts cause
+  lane_links (lanes.DeltaFailed note) on counts cause = links (lanes.DeltaFailed note) on counts cause
+  lane_links lanes.Worn on counts cause = links lanes.Worn on counts (still_worn old new on.added on.goes on.adds cause)
+  lane_links lanes.NoMemory on counts cause = wants on.goes.later (aside lanes.NoMemory on) counts
   lane_links (lanes.Full n) on counts cause = absurd cause
   lane_links lanes.TooManyClients on counts cause = absurd cause
   lane_links (lanes.BadRecord n) on counts cause = absurd cause
@@ -203,13 +204,13 @@ module _ (old new : Standing) (before now : Storing) (name : List ℕ) (moment :
   pub unjoined_links : {A : Type 0} (fault : TalkFault) → OnLane (join_act name moment) old new (Err fault) → OnStore (join_act name moment) before now (Err fault) → IsTalkCause (join_act name moment) old new before now fault
       → LaneLinks {A = A} old new before now (Err (joining_stop fault))
   unjoined_links (talk.Lane fault) on store cause = lane_links fault on store.later cause.1
-  unjoined_links (talk.Door fault) on store cause = wants on.goes.later store.later
-  unjoined_links (talk.Delta fault) on store cause = wants on.goes.later store.later
-  unjoined_links (talk.Store fault) on store cause = wants on.goes.later store.later
-  unjoined_links talk.NoMemory on store cause = wants on.goes.later store.later
+  unjoined_links (talk.Door fault) on store cause = wants on.goes.later (no_aside on.added on.goes on.adds) store.later
+  unjoined_links (talk.Delta fault) on store cause = wants on.goes.later (one_aside old new on.added (subst (λ l. asides l ≤ 1) (sym on.adds) (delta_few fault)) on.goes.sides) store.later
+  unjoined_links (talk.Store fault) on store cause = wants on.goes.later (no_aside on.added on.goes on.adds) store.later
+  unjoined_links talk.NoMemory on store cause = wants on.goes.later (no_aside on.added on.goes on.adds) store.later
 
   pub joined_links : {A : Type 0} (e : ActEnd) (a : A) → OnLane (join_act name moment) old new (Ok e) → OnStore (join_act name moment) before now (Ok e) → LaneLinks old new before now (Ok a)
-  joined_links e a on store = record { later = on.goes.later; counts = store.later; ends = tt }
+  joined_links e a on store = record { later = on.goes.later; sides = ended_none old new e on; counts = store.later; ends = tt }
 
 -- ---- the act as it is done: its detail is null
 

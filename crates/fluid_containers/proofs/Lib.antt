@@ -10,3 +10,4 @@ mod Loads
 mod LoadedDesk
 mod Stored
 mod Summarized
+mod Bounded

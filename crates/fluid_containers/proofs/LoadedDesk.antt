@@ -15,7 +15,7 @@ use Rattle.fluid_loader.specs.declared.link.Pick.{Pick}
 use Rattle.fluid_voice.specs.declared.refusals.ConnectRefusal.TheVariants.{TooManyDocuments}
 use Rattle.fluid_voice.specs.Ends.{is_beyond}
 use Rattle.fluid_steps.specs.declared.steps.Step.TheVariants as step
-use Rattle.fluid_transcript.specs.World.{World, Container, Effect, container, used_up, document, is_open, ledger_of, grown, changed, says, does}
+use Rattle.fluid_transcript.specs.World.{World, Container, Effect, container, used_up, document, is_open, ledger_of, grown, changed, says, does, Told}
 use Rattle.fluid_transcript.specs.Lines as lines
 use Rattle.fluid_transcript.specs.Sound.{IsSound, ledger_in}
 use Rattle.fluid_transcript.specs.Containers as steps
@@ -24,10 +24,11 @@ use Rattle.fluid_transcript.specs.Steps.{container_in, on_container}
 use Rattle.fluid_transcript.specs.Transcript.{done, done_in, readied, last_pick, shown_at_end, end_effect, loaded_last_in}
 use Rattle.fluid_desk.specs.declared.stop.Stop.{Stop}
 use Rattle.fluid_desk.specs.Stands.{IsLaneOf, DeskStands, StoreStands}
-use Rattle.fluid_desk.specs.Stopping.{IsHonest}
-use Rattle.fluid_desk.specs.Acting.{IsLine, DeskDoes}
+use Rattle.fluid_desk.specs.Stopping.{MayStop}
+use Rattle.fluid_desk.specs.Acting.{IsLine, DeskDoes, IsUnready}
 use Rattle.fluid_desk.specs.Scribing.{DeskDoesWith}
 use Rattle.fluid_desk.proofs.Desks.{acts, stays_desk}
+use Rattle.fluid_desk.proofs.Honest.{may_want, may_act, may_more}
 use Rattle.fluid_desk.proofs.Doing.{done_within, done_beyond, lane_of_desk, left_same, readied_moment}
 use Rattle.fluid_desk.proofs.Laned.{same as same_lane}
 use Rattle.fluid_desk.proofs.Opening.{opened_world, uses, too_many, readied_same}
@@ -121,7 +122,7 @@ module _ (old mid : Opened) (w : World) (name : List ℕ) (moment : ℕ) (one ot
         name = loaded_names old.limits v p name pick (loading old.limits v (document v name) name pick) made.1 refl did.loaded_is.becomes (get_own v.names p (name_for (loading old.limits v (document v name) name pick)));
         says = ap (λ t. t ∷ []) (sym did.says);
       }
-      by (Err stop) did = did
+      by (Err stop) did = may_act v mid name other (load_effect old.limits v p name pick) stop did
 
   -- ---- the last container
 
@@ -148,7 +149,7 @@ module _ (old mid : Opened) (w : World) (name : List ℕ) (moment : ℕ) (one ot
         };
         held = did.held;
       }
-      by (Err stop) did = did
+      by (Err stop) did = may_act v mid name other (end_effect old.limits v name) stop did
 
 -- ---- as many documents are open as may be
 
@@ -165,7 +166,7 @@ module _ (old new : Opened) (w : World) (name : List ℕ) (count : ℕ) (store :
         name = subst (IsLoaded (changed (load_beyond w p) None w) p) (sym turned.1) (get_own w.names p used_up);
         says = ap (λ t. t ∷ []) (sym turned.0);
       }
-      by stands (Err stop) turned = subst IsHonest (sym turned) tt
+      by stands (Err stop) turned = may_want (changed (load_beyond w p) None w) new stop turned
 
   pub ends_away : (result : Result (List ℕ) Stop) → IsLine (lines.turned_away_line name TooManyDocuments) result → DeskDoesWith (loaded_last_in old.limits w name) new store result
   ends_away result line =
@@ -179,7 +180,14 @@ module _ (old new : Opened) (w : World) (name : List ℕ) (count : ℕ) (store :
         done = record { stands = stays_desk new w (says w (lines.turned_away_line name TooManyDocuments ∷ [])) stands; says = ap (λ t. t ∷ []) (sym line) };
         held = held;
       }
-      by stands (Err stop) line = subst IsHonest (sym line) tt
+      by stands (Err stop) line = may_want (changed (says w (lines.turned_away_line name TooManyDocuments ∷ [])) None w) new stop line
+
+-- its document wasn't opened
+pub unended : (limits : Limits) (o : Opened) (w : World) (name : List ℕ) (stop : Stop) → IsUnready w name o stop → MayStop (loaded_last_in limits w name).world o stop
+unended limits o w name stop unready =
+    subst (λ (t : Told). MayStop t.world o stop)
+    (sym (ap (λ b. if b then does (says w (lines.turned_away_line name TooManyDocuments ∷ [])) None w else does (end_effect limits (readied w name) name) (Some name) (readied w name)) unready.within))
+    (may_more (readied w name) o (end_effect limits (readied w name) name) name stop unready.may)
 
 -- ---- what a container shows
 
@@ -209,4 +217,4 @@ shows_on old mid w p name moment k h result desk sound at named holder own used 
         → lines.shown_line p h.container.number (shown (shown_channels h.container)) ≡ lines.shown_line p k.number (shown (visible (ledger_of (document w name)) k)) → (r : Result (List ℕ) Stop)
         → IsLine (lines.shown_line p h.container.number (shown (shown_channels h.container))) r → DeskDoes (does (showing w (document w name) p k) (Some name) w) mid r
     by left line_is (Ok text) line = record { stands = left; says = ap (λ t. t ∷ []) (sym (line ∙ line_is)) }
-    by left line_is (Err stop) line = subst IsHonest (sym line) tt
+    by left line_is (Err stop) line = may_want (changed (showing w (document w name) p k) (Some name) w) mid stop line

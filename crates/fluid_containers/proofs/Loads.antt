@@ -1,5 +1,5 @@
 -- A container that is loaded behind its client's join, on the lane of its document.
-use Rattle.std.proofs.Common.{◌≡◌, ◌==◌, ℕ, Bool, true, false, if◌then◌else◌, List, [], ◌∷◌, ◌++◌, length, drop, Option, Some, None, is_some, Result, Ok, Err, refl, sym, ap, ap₂, subst, ◌∙◌, append-nil, arith, suc, ne_eqb}
+use Rattle.std.proofs.Common.{◌≡◌, ◌==◌, ℕ, Bool, true, false, if◌then◌else◌, List, [], ◌∷◌, ◌++◌, length, drop, Option, Some, None, is_some, Result, Ok, Err, refl, sym, ap, ap₂, subst, ◌∙◌, append-nil, length-append, arith, suc, ne_eqb}
 use Rattle.std.specs.Prelude.{IfOk, IfErr}
 use Rattle.std.specs.List.{last_or}
 use Rattle.fluid_io.specs.Causes.{Tells}
@@ -35,7 +35,8 @@ use Rattle.fluid_desk.specs.declared.stop.Stop.{Stop}
 use Rattle.fluid_desk.specs.declared.stop.Stop.TheVariants.{NoMemory}
 use Rattle.fluid_desk.specs.Acting.{IsLine}
 use Rattle.fluid_desk.specs.Stands.{IsLaneOf}
-use Rattle.fluid_desk.specs.Stopping.{IsHonest}
+use Rattle.fluid_desk.specs.Stopping.{IsHonest, steps_on}
+use Rattle.fluid_desk.proofs.Honest.{honest_more}
 use Rattle.fluid_desk.proofs.Laned.{says}
 use Rattle.fluid_door_link.specs.Coursing.{IsAlong}
 use Rattle.fluid_door_link.specs.Telling.{told_by}
@@ -262,11 +263,15 @@ module _ (l : Ledger) (held : Held) (p name : List ℕ) where
   bad_end told (loaded k) is = absurd is
   bad_end told no_summary is = absurd is
 
+-- a join that failed
+pub joins_more : (limits : Limits) (w : World) (d : Document) (s : Standing) (stop : Stop) → IsHonest (steps_on d s) stop → IsHonest (steps_on (joined_to limits w d) s) stop
+joins_more limits w d s stop h = honest_more (steps_on d s) (steps_on (joined_to limits w d) s) stop (omega (arith, length-append d.raws (joined_for limits w d))) h
+
 -- on the lane
 pub ends_in : (limits : Limits) (w : World) (d : Document) (name : List ℕ) (pick : Pick) (new : Standing) (now : Storing) (result : Loaded) (line : Result (List ℕ) Stop) → LaneLoaded limits w d name pick new now result
     → ((l : Ledger) (held : Held) (load : Loading) → Becomes l held load result → IsLine (end_line l name load) line) → LaneEndsIn limits w d name pick new now line
 ends_in limits w d name pick new now result (Ok line) is says = record { stands = is.stands; held = is.held; says = says (ledger_of (joined_to limits w d)) w.store (loading limits w d name pick) is.becomes }
-ends_in limits w d name pick new now result (Err stop) is says = subst IsHonest (sym (says (ledger_of (joined_to limits w d)) w.store (loading limits w d name pick) is.becomes)) tt
+ends_in limits w d name pick new now result (Err stop) is says = subst (IsHonest (steps_on (joined_to limits w d) new)) (sym (says (ledger_of (joined_to limits w d)) w.store (loading limits w d name pick) is.becomes)) tt
 
 -- ---- the last acknowledged summary
 

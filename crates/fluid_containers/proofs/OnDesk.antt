@@ -23,7 +23,10 @@ use Rattle.fluid_holding.specs.Laws.{Stands}
 use Rattle.fluid_desk.specs.declared.stop.Stop.{Stop}
 use Rattle.fluid_desk.specs.Stands.{IsLaneOf, DeskStands, StoreStands}
 use Rattle.fluid_desk.proofs.Desks.{acts}
-use Rattle.fluid_desk.proofs.Doing.{done_within, lane_of_desk}
+use Rattle.fluid_desk.specs.Stopping.{steps_on, MayStop}
+use Rattle.fluid_desk.specs.Acting.{IsUnready}
+use Rattle.fluid_desk.proofs.Honest.{honest_more, grown_steps, may_act}
+use Rattle.fluid_desk.proofs.Doing.{done_within, lane_of_desk, may_unready}
 use Rattle.fluid_desk.proofs.Opening.{uses, open_is_no_more, readied_same}
 use Rattle.fluid_callers.proofs.Departing.{never_beyond}
 use Rattle.fluid_door_link.specs.Coursing.{HasStood}
@@ -122,7 +125,13 @@ step_on old mid w p name moment step k e one other before now h left result desk
   where
     by : is_open w name ≡ true → name ≡ k.document → (r : Result (List ℕ) Stop) → LaneSteps old.limits e (document w name) k p other now left r → StepDoes (does e (Some name) w) p (with_lane mid name other) now left r
     by opened of_name (Ok line) did = stepped_on old mid w name moment one desk at used same there opened p k e other now left line named of_name did
-    by opened of_name (Err stop) did = did
+    by opened of_name (Err stop) did =
+        let d = document w name in may_act w mid name other e stop (honest_more (steps_on d other) (steps_on (grown e d) other) stop (grown_steps e d other) did)
+
+-- its document wasn't opened
+pub unstepped : (limits : Limits) (o : Opened) (w : World) (p name : List ℕ) (step : Step) (k : Container) (h : Holder) (stop : Stop) → about w step ≡ Some k.document → IsHolderOf w h k → name ≡ h.document → IsUnready w name o stop
+    → MayStop (done limits w step).world o stop
+unstepped limits o w p name step k h stop is_about holder own unready = may_unready limits w name o step stop (is_about ∙ ap Some (sym (own ∙ holder.document))) unready
 
 -- a container's document is never one too many
 pub never_away : {A : Type 0} (old mid : Opened) (w : World) (p name : List ℕ) (k : Container) (h : Holder) (count : ℕ) → DeskStands old w → IsSound w → get w.names p ≡ Some (container k) → IsHolderOf w h k → name ≡ h.document

@@ -73,8 +73,8 @@ within_order l k c is stands = omega (arith, is.number, stands.number)
 
 -- ---- lines
 
-pub wanting_honest : (stop : Stop) → stop ≡ NoMemory → IsHonest stop
-wanting_honest stop is = subst IsHonest (sym is) tt
+pub wanting_honest : (steps : ℕ) (stop : Stop) → stop ≡ NoMemory → IsHonest steps stop
+wanting_honest steps stop is = subst (IsHonest steps) (sym is) tt
 
 module _ (limits : Limits) (w : World) (old : Standing) (d : Document) (of : IsLaneOf limits old d) (store : Storing) (holds : store.content ≡ Some w.store) (new : Standing) (now : Storing)
     (along : IsAlong true old store (record { lane = new; store = now; stop = None })) (k : Container) (h : Holder) (is : IsHolderIn (ledger_of d) w.store h k) (stands : Stands (ledger_of d) k) (p : List ℕ) where
@@ -132,7 +132,7 @@ module _ (limits : Limits) (w : World) (old : Standing) (d : Document) (of : IsL
           holder = record { document = is.document; container = none_more (λ m. IsContainerOf m h.client left (caught_up l k)) is_so; based = same_based same };
           says = ap (λ text. text ∷ []) (sym (says ∙ ap (lines.pumped_line p) (does.0 ∙ is_so.number)));
         }
-    pumps law (Ok number) (Err stop) does says = wanting_honest stop says
+    pumps law (Ok number) (Err stop) does says = wanting_honest _ stop says
     pumps law (Err fault) result does says = subst (LaneSteps limits (steps.pumped w d p k) d k p new now (record h { container = left })) (sym says) tt
 
     -- ---- submissions
@@ -200,10 +200,10 @@ module _ (limits : Limits) (w : World) (old : Standing) (d : Document) (of : IsL
         let sent = sent_on offered.Noop null law moment submits in
         let is_so = subst (λ c. IsContainerOf (ledger_of (with_raws d sent.entries)) h.client c k) (sym leaves) sent.container in
         taken_steps offered.Noop null k (counted h.container) (lines.beat_line p k.number) line sent refl is_so (says ∙ ap (lines.beat_line p) is_so.number)
-    beats law moment (Ok done) (Err stop) leaves submits says = wanting_honest stop says
+    beats law moment (Ok done) (Err stop) leaves submits says = wanting_honest _ stop says
     beats law moment (Err (loads.Refused nack)) (Ok line) leaves submits says =
         refused_steps offered.Noop null k nack.rule (lines.beat_line p k.number) line (refused_on offered.Noop null law moment nack submits) leaves says
-    beats law moment (Err (loads.Refused nack)) (Err stop) leaves submits says = wanting_honest stop says
+    beats law moment (Err (loads.Refused nack)) (Err stop) leaves submits says = wanting_honest _ stop says
     beats law moment (Err (loads.LinkFailed note)) result leaves submits says = wants_beat result says
     beats law moment (Err loads.NoSummary) result leaves submits says = wants_beat result says
     beats law moment (Err (loads.BadSummary path)) result leaves submits says = wants_beat result says
@@ -281,11 +281,11 @@ module _ (limits : Limits) (w : World) (old : Standing) (d : Document) (of : IsL
 
       pub edits_so : SubmitsAsDefined → linked.moment ≡ w.moment → (answer : Result (Unit {0}) LoadFault) (result : Result (List ℕ) Stop) → EditDoes h.container left edit linked after answer → SaysEdited p answer result → EditsSo result
       edits_so law moment (Ok done) (Ok line) does says = taken_edit law moment line does says
-      edits_so law moment (Ok done) (Err stop) does says = wanting_honest stop says
+      edits_so law moment (Ok done) (Err stop) does says = wanting_honest _ stop says
       edits_so law moment (Err (loads.Edit fault)) (Ok line) does says = refused_edit fault line does.0 does.1 says
-      edits_so law moment (Err (loads.Edit fault)) (Err stop) does says = wanting_honest stop says
+      edits_so law moment (Err (loads.Edit fault)) (Err stop) does says = wanting_honest _ stop says
       edits_so law moment (Err (loads.Refused nack)) (Ok line) does says = nacked_edit law moment nack line does says
-      edits_so law moment (Err (loads.Refused nack)) (Err stop) does says = wanting_honest stop says
+      edits_so law moment (Err (loads.Refused nack)) (Err stop) does says = wanting_honest _ stop says
       edits_so law moment (Err (loads.LinkFailed note)) result does says = wants_edit result says
       edits_so law moment (Err loads.NoSummary) result does says = wants_edit result says
       edits_so law moment (Err (loads.BadSummary path)) result does says = wants_edit result says

@@ -337,16 +337,16 @@ module _ (limits : Limits) (w : World) (old : Standing) (d : Document) (of : IsL
 
   pub summarizes : (answer : Result (List ℕ) LoadFault) (result : Result (List ℕ) Stop) → SummarizeDoes c left linked after answer → SaysProposed p left.number answer result → All result
   summarizes (Ok id) (Ok line) does says = taken_step id does.between does.uploaded does.submitted does.leaves line says
-  summarizes (Ok id) (Err stop) does says = wanting_honest stop says
+  summarizes (Ok id) (Err stop) does says = wanting_honest _ stop says
   summarizes (Err (loads.Refused nack)) (Ok line) (inr (inr alone)) says = refused_step alone.id alone.between alone.uploaded nack alone.ends.submits alone.ends.leaves line says
   summarizes (Err (loads.Refused nack)) (Ok line) (inr (inl unput)) says = absurd (never_refused linked.faults after.faults nack unput.failed.put unput.failed.answer)
   summarizes (Err (loads.Refused nack)) (Ok line) (inl undone) says = fault_memory (loads.Refused nack) undone.0 (Ok line) says
-  summarizes (Err (loads.Refused nack)) (Err stop) does says = wanting_honest stop says
+  summarizes (Err (loads.Refused nack)) (Err stop) does says = wanting_honest _ stop says
   summarizes (Err (loads.Clash one kept bytes)) (Ok line) (inr (inl unput)) says = clash_step one kept bytes unput.failed unput.leaves line says
   summarizes (Err (loads.Clash one kept bytes)) (Ok line) (inr (inr alone)) says =
       absurd (never_clashes (summarize_of c alone.id) alone.between after one kept bytes alone.ends.submits.given alone.ends.submits.answer alone.ends.submits.submitted.says)
   summarizes (Err (loads.Clash one kept bytes)) (Ok line) (inl undone) says = fault_memory (loads.Clash one kept bytes) undone.0 (Ok line) says
-  summarizes (Err (loads.Clash one kept bytes)) (Err stop) does says = wanting_honest stop says
+  summarizes (Err (loads.Clash one kept bytes)) (Err stop) does says = wanting_honest _ stop says
   summarizes (Err (loads.LinkFailed note)) result does says = wants result says
   summarizes (Err loads.NoSummary) result does says = wants result says
   summarizes (Err (loads.BadSummary path)) result does says = wants result says

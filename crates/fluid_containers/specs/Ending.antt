@@ -8,7 +8,7 @@ use Rattle.fluid_lanes.specs.Opened.{Opened}
 use Rattle.fluid_desk.specs.declared.stop.Stop.{Stop}
 use Rattle.fluid_desk.specs.declared.stop.Stop.TheVariants.{StoreFault as StoreFailed, BadStored, NoMemory}
 use Rattle.fluid_desk.specs.declared.stop.StoredFault.TheVariants.{Object}
-use Rattle.fluid_desk.specs.Stopping.{stop_of, HasRun}
+use Rattle.fluid_desk.specs.Stopping.{stop_of, AreFew, HasRun}
 use Rattle.fluid_callers.specs.Ending.{delta_stop, EndsForHearing}
 use Rattle.fluid_door_link.specs.declared.fault.LentFault.{LentFault}
 use Rattle.fluid_door_link.specs.declared.fault.LentFault.TheVariants.{Lane, Deltas, Store}
@@ -30,11 +30,12 @@ abbrev pub EndsForLinking : (first : ℕ) → (before now : Storing) → Opened 
 EndsForLinking first before now o (BadStored (Object fault)) = RefusesTree now fault
 EndsForLinking first before now o stop = EndsForHearing first before now o stop
 
-pub record StopsForLinking (first : ℕ) (before now : Storing) (o : Opened) (stop : Stop) : Type 0 where
+pub record StopsForLinking (first steps : ℕ) (before now : Storing) (o : Opened) (stop : Stop) : Type 0 where
   pub shelves : first ≤ o.shelving.faults
+  pub few : AreFew steps o
   pub ends : EndsForLinking first before now o stop
 
--- a step of a container, in a run whose shelves had counted so many faults when it began
-abbrev pub RunsLinking : {A : Type 0} → (first : ℕ) → (before now : Storing) → Opened → Result A Stop → Type 0
-RunsLinking first before now o (Ok a) = HasRun first o
-RunsLinking first before now o (Err stop) = StopsForLinking first before now o stop
+-- a step of a container, the last of so many in a run whose shelves had counted so many faults when it began
+abbrev pub RunsLinking : {A : Type 0} → (first steps : ℕ) → (before now : Storing) → Opened → Result A Stop → Type 0
+RunsLinking first steps before now o (Ok a) = HasRun first steps o
+RunsLinking first steps before now o (Err stop) = StopsForLinking first steps before now o stop

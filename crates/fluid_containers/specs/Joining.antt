@@ -17,7 +17,7 @@ use Rattle.fluid_transcript.specs.Containers.{joining, join_refusal, joined_for,
 use Rattle.fluid_desk.specs.declared.stop.Stop.{Stop}
 use Rattle.fluid_desk.specs.declared.stop.Stop.TheVariants.{NoMemory}
 use Rattle.fluid_desk.specs.Stands.{IsLaneOf}
-use Rattle.fluid_desk.specs.Stopping.{stop_of, IsHonest}
+use Rattle.fluid_desk.specs.Stopping.{stop_of, IsHonest, steps_on}
 
 -- how a join may end, and what is told of it
 abbrev pub IsJoining : ActEnd → Type 0
@@ -59,4 +59,4 @@ pub record LaneJoined (limits : Limits) (w : World) (d : Document) (new : Standi
 
 abbrev pub JoinsLane : Limits → World → Document → Standing → Result (Result (List ℕ) ConnectRefusal) Stop → Type 0
 JoinsLane limits w d new (Ok joined) = LaneJoined limits w d new joined
-JoinsLane limits w d new (Err stop) = IsHonest stop
+JoinsLane limits w d new (Err stop) = IsHonest (steps_on d new) stop

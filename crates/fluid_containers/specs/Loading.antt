@@ -15,7 +15,7 @@ use Rattle.fluid_desk.specs.declared.stop.Stop.{Stop}
 use Rattle.fluid_desk.specs.declared.stop.Stop.TheVariants.{NoMemory}
 use Rattle.fluid_desk.specs.Stands.{IsLaneOf}
 use Rattle.fluid_voice.specs.declared.refusals.ConnectRefusal.TheVariants.{TooManyDocuments}
-use Rattle.fluid_desk.specs.Stopping.{IsHonest}
+use Rattle.fluid_desk.specs.Stopping.{IsHonest, steps_on}
 use Rattle.fluid_containers.specs.Holders.{IsHolderIn}
 use Rattle.fluid_containers.specs.Joining.{joined_to}
 use Rattle.fluid_containers.specs.declared.loading.Loaded.{Loaded}
@@ -44,7 +44,7 @@ pub record LaneLoaded (limits : Limits) (w : World) (d : Document) (name : List 
 
 abbrev pub LaneLoads : Limits → World → Document → (name : List ℕ) → Pick → Standing → Storing → Result Loaded Stop → Type 0
 LaneLoads limits w d name pick new store (Ok made) = LaneLoaded limits w d name pick new store made
-LaneLoads limits w d name pick new store (Err stop) = IsHonest stop
+LaneLoads limits w d name pick new store (Err stop) = IsHonest (steps_on (joined_to limits w d) new) stop
 
 -- with the line that is written of it
 pub record LaneLoadedAs (limits : Limits) (w : World) (d : Document) (p name : List ℕ) (pick : Pick) (new : Standing) (store : Storing) (line : List ℕ) (made : Loaded) : Type 0 where
@@ -53,7 +53,7 @@ pub record LaneLoadedAs (limits : Limits) (w : World) (d : Document) (p name : L
 
 abbrev pub LaneLoadsAs : Limits → World → Document → (p name : List ℕ) → Pick → Standing → Storing → Result (List ℕ × Loaded) Stop → Type 0
 LaneLoadsAs limits w d p name pick new store (Ok made) = LaneLoadedAs limits w d p name pick new store made.0 made.1
-LaneLoadsAs limits w d p name pick new store (Err stop) = IsHonest stop
+LaneLoadsAs limits w d p name pick new store (Err stop) = IsHonest (steps_on (joined_to limits w d) new) stop
 
 -- ---- the last container
 
@@ -71,4 +71,4 @@ pub record LaneEnded (limits : Limits) (w : World) (d : Document) (name : List �
 
 abbrev pub LaneEndsIn : Limits → World → Document → (name : List ℕ) → Pick → Standing → Storing → Result (List ℕ) Stop → Type 0
 LaneEndsIn limits w d name pick new store (Ok line) = LaneEnded limits w d name pick new store line
-LaneEndsIn limits w d name pick new store (Err stop) = IsHonest stop
+LaneEndsIn limits w d name pick new store (Err stop) = IsHonest (steps_on (joined_to limits w d) new) stop

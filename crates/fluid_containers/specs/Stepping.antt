@@ -16,7 +16,8 @@ use Rattle.fluid_door_link.specs.Failing.{HasCause}
 use Rattle.fluid_desk.specs.declared.stop.Stop.{Stop}
 use Rattle.fluid_desk.specs.declared.stop.Stop.TheVariants.{NoMemory}
 use Rattle.fluid_desk.specs.Stands.{IsLaneOf, DeskStands, StoreStands}
-use Rattle.fluid_desk.specs.Stopping.{IsHonest}
+use Rattle.fluid_desk.specs.Stopping.{IsHonest, steps_on, MayStop}
+use Rattle.fluid_callers.specs.Ending.{AddsAside}
 use Rattle.fluid_containers.specs.Ending.{stop_for}
 use Rattle.fluid_containers.specs.Holders.{IsHolderIn, IsHolderOf}
 use Rattle.fluid_containers.specs.declared.holder.Holder.{Holder}
@@ -46,7 +47,7 @@ pub record Stepped (told : Told) (p : List ℕ) (o : Opened) (store : Storing) (
 
 abbrev pub StepDoes : Told → (p : List ℕ) → Opened → Storing → Holder → Result (List ℕ) Stop → Type 0
 StepDoes told p o store h (Ok line) = Stepped told p o store h line
-StepDoes told p o store h (Err stop) = IsHonest stop
+StepDoes told p o store h (Err stop) = MayStop told.world o stop
 
 -- what the name stands for behind a load
 abbrev pub IsLoaded : World → (p : List ℕ) → Loaded → Type 0
@@ -63,7 +64,7 @@ pub record HasLoaded (told : Told) (p : List ℕ) (o : Opened) (store : Storing)
 
 abbrev pub LoadDoes : Told → (p : List ℕ) → Opened → Storing → Result (List ℕ × Loaded) Stop → Type 0
 LoadDoes told p o store (Ok loaded) = HasLoaded told p o store loaded.0 loaded.1
-LoadDoes told p o store (Err stop) = IsHonest stop
+LoadDoes told p o store (Err stop) = MayStop told.world o stop
 
 -- a container that was loaded has submitted nothing yet
 abbrev pub IsFresh : Loaded → Type 0
@@ -91,10 +92,11 @@ pub record LaneStepped (limits : Limits) (e : Effect) (d : Document) (k : Contai
 
 abbrev pub LaneSteps : Limits → Effect → Document → Container → (p : List ℕ) → Standing → Storing → Holder → Result (List ℕ) Stop → Type 0
 LaneSteps limits e d k p new store h (Ok line) = LaneStepped limits e d k p new store h line
-LaneSteps limits e d k p new store h (Err stop) = IsHonest stop
+LaneSteps limits e d k p new store h (Err stop) = IsHonest (steps_on d new) stop
 
 -- why it ends, on every lane: between the lane and the store as they were and as they are
 pub record LaneLinks {A : Type 0} (old new : Standing) (before now : Storing) (result : Result A Stop) : Type 0 where
   pub later : old.keeping.faults ≤ new.keeping.faults
+  pub sides : AddsAside old new result
   pub counts : before.faults ≤ now.faults
   pub ends : IfErr result (λ stop. (stop ≡ NoMemory) ⊎ ((fault : LentFault) × ((stop ≡ stop_for fault) × HasCause old new before now fault)))

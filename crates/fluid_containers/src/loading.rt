@@ -1,5 +1,5 @@
 //! A container joins a document and is loaded.
-ghost use Rattle.std.specs.Prelude.{◌≡◌, ◌≤◌, ℕ, Bool, List, true, None, Some, IfOk, IfErr};
+ghost use Rattle.std.specs.Prelude.{◌≡◌, ◌≤◌, ◌+◌, ℕ, Bool, List, true, None, Some, IfOk, IfErr};
 ghost use Rattle.std.specs.List.{last_or};
 ghost use Rattle.std.specs.FinMap.{get};
 ghost use Rattle.fluid_types.specs.Ledger.{Ledger};
@@ -73,7 +73,7 @@ where
     requires stands { MayStand good lanes.old }
     ensures does { (w : World) → good ≡ true → DeskStands lanes.old w → StoreStands objects.old w → IsSound w → w.moment ≡ moment → get w.names name.now ≡ None →
         LoadDoes (done lanes.old.limits w (step.Load name.now document.now pick.now)) name.now lanes.new objects.new result }
-    ensures runs { (first : ℕ) → HasRun first lanes.old → RunsLinking first objects.old objects.new lanes.new result }
+    ensures runs { (first steps : ℕ) → HasRun first steps lanes.old → RunsLinking first (steps + 1) objects.old objects.new lanes.new result }
     ensures counts { objects.old.faults ≤ objects.new.faults }
     ensures fresh { IfOk result (λ made. IsFresh made.1) }
     ensures limits { lanes.new.limits ≡ lanes.old.limits }
@@ -139,7 +139,7 @@ where
     requires stands { MayStand good lanes.old }
     ensures does { (w : World) → good ≡ true → DeskStands lanes.old w → StoreStands objects.old w → IsSound w → w.moment ≡ moment →
         DeskDoesWith (loaded_last_in lanes.old.limits w document.now) lanes.new objects.new result }
-    ensures runs { (first : ℕ) → HasRun first lanes.old → RunsLinking first objects.old objects.new lanes.new result }
+    ensures runs { (first steps : ℕ) → HasRun first steps lanes.old → RunsLinking first (steps + 1) objects.old objects.new lanes.new result }
     ensures counts { objects.old.faults ≤ objects.new.faults }
     ensures limits { lanes.new.limits ≡ lanes.old.limits }
 {

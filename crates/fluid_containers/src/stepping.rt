@@ -69,7 +69,7 @@ where
     ensures does { (w : World) (k : AContainerOf) → good ≡ true → DeskStands lanes.old w → StoreStands objects.old w → IsSound w → w.moment ≡ moment →
         get w.names name.now ≡ Some (container k) → IsHolderOf w holder.old k →
         StepDoes (done lanes.old.limits w (step.Pump name.now)) name.now lanes.new objects.new holder.new result }
-    ensures runs { (first : ℕ) → HasRun first lanes.old → RunsLinking first objects.old objects.new lanes.new result }
+    ensures runs { (first steps : ℕ) → HasRun first steps lanes.old → RunsLinking first (steps + 1) objects.old objects.new lanes.new result }
     ensures counts { objects.old.faults ≤ objects.new.faults }
     ensures numbers { holder.new.container.last ≤ holder.old.container.last + 1 }
     ensures limits { lanes.new.limits ≡ lanes.old.limits }
@@ -152,7 +152,7 @@ where
     ensures does { (w : World) (k : AContainerOf) → good ≡ true → DeskStands lanes.old w → StoreStands objects.old w → IsSound w → w.moment ≡ moment →
         get w.names name.now ≡ Some (container k) → IsHolderOf w holder.old k →
         StepDoes (done lanes.old.limits w (step.Edit name.now (Ok edit))) name.now lanes.new objects.new holder.new result }
-    ensures runs { (first : ℕ) → HasRun first lanes.old → RunsLinking first objects.old objects.new lanes.new result }
+    ensures runs { (first steps : ℕ) → HasRun first steps lanes.old → RunsLinking first (steps + 1) objects.old objects.new lanes.new result }
     ensures counts { objects.old.faults ≤ objects.new.faults }
     ensures numbers { holder.new.container.last ≤ holder.old.container.last + 1 }
     ensures limits { lanes.new.limits ≡ lanes.old.limits }
@@ -245,7 +245,7 @@ where
     ensures does { (w : World) (k : AContainerOf) → good ≡ true → DeskStands lanes.old w → StoreStands objects.old w → IsSound w → w.moment ≡ moment →
         get w.names name.now ≡ Some (container k) → IsHolderOf w holder.old k →
         StepDoes (done lanes.old.limits w (step.Beat name.now)) name.now lanes.new objects.new holder.new result }
-    ensures runs { (first : ℕ) → HasRun first lanes.old → RunsLinking first objects.old objects.new lanes.new result }
+    ensures runs { (first steps : ℕ) → HasRun first steps lanes.old → RunsLinking first (steps + 1) objects.old objects.new lanes.new result }
     ensures counts { objects.old.faults ≤ objects.new.faults }
     ensures numbers { holder.new.container.last ≤ holder.old.container.last + 1 }
     ensures limits { lanes.new.limits ≡ lanes.old.limits }
@@ -332,7 +332,7 @@ where
     ensures does { (w : World) (k : AContainerOf) → good ≡ true → DeskStands lanes.old w → StoreStands objects.old w → IsSound w → w.moment ≡ moment →
         get w.names name.now ≡ Some (container k) → IsHolderOf w holder.old k → HoldsOwn w.store →
         StepDoes (done lanes.old.limits w (step.Summarize name.now)) name.now lanes.new objects.new holder.new result }
-    ensures runs { (first : ℕ) → HasRun first lanes.old → RunsLinking first objects.old objects.new lanes.new result }
+    ensures runs { (first steps : ℕ) → HasRun first steps lanes.old → RunsLinking first (steps + 1) objects.old objects.new lanes.new result }
     ensures counts { objects.old.faults ≤ objects.new.faults }
     ensures numbers { holder.new.container.last ≤ holder.old.container.last + 1 }
     ensures limits { lanes.new.limits ≡ lanes.old.limits }
@@ -433,7 +433,7 @@ where
     ensures does { (w : World) (k : AContainerOf) → DeskStands lanes.old w → IsSound w → w.moment ≡ moment →
         get w.names name.now ≡ Some (container k) → IsHolderOf w holder.now k →
         DeskDoes (done lanes.old.limits w (step.Show name.now)) lanes.new result }
-    ensures runs { (before : ℕ) → HasRun before lanes.old → RunsOn before lanes.new result }
+    ensures runs { (before steps : ℕ) → HasRun before steps lanes.old → RunsOn before (steps + 1) lanes.new result }
     ensures limits { lanes.new.limits ≡ lanes.old.limits }
 {
     match ready(alloc, lanes, &holder.document, moment) {

@@ -12,7 +12,7 @@ use Rattle.fluid_lanes.proofs.Openings.{is_used}
 use Rattle.fluid_voice.specs.Ends.{is_beyond}
 use Rattle.fluid_voice.specs.declared.refusals.ConnectRefusal.TheVariants.{TooManyDocuments}
 use Rattle.fluid_steps.specs.declared.steps.Step.{Step}
-use Rattle.fluid_transcript.specs.World.{World, document, is_open, says, grown, does}
+use Rattle.fluid_transcript.specs.World.{World, document, is_open, says, grown, does, Told}
 use Rattle.fluid_transcript.specs.Lines.{turned_away_line}
 use Rattle.fluid_transcript.specs.Steps.{about, effect, beyond}
 use Rattle.fluid_transcript.specs.Transcript.{readied, done_in, done_on, done}
@@ -20,8 +20,9 @@ use Rattle.fluid_desk.specs.declared.stop.Stop.{Stop}
 use Rattle.fluid_store.specs.Storing.{Storing}
 use Rattle.fluid_desk.specs.Scribing.{ActDoesWith, DeskDoesWith}
 use Rattle.fluid_desk.specs.Stands.{IsLaneOf, IsDocument, DeskStands, StoreStands}
-use Rattle.fluid_desk.specs.Stopping.{IsHonest}
-use Rattle.fluid_desk.specs.Acting.{IsLine, ActDoes, DeskDoes, IsReadied}
+use Rattle.fluid_desk.specs.Stopping.{MayStop}
+use Rattle.fluid_desk.specs.Acting.{IsLine, ActDoes, DeskDoes, IsReadied, IsUnready}
+use Rattle.fluid_desk.proofs.Honest.{may_want, may_act, may_more}
 use Rattle.fluid_desk.proofs.Desks.{lane_there, acts, stays_desk}
 use Rattle.fluid_log.specs.Shelving.{keeper_under}
 use Rattle.fluid_desk.proofs.Opening.{opened_world, uses, too_many}
@@ -65,6 +66,12 @@ pub done_beyond : (limits : Limits) (w : World) (name : List ℕ) (step : Step) 
 done_beyond limits w name step is beyond_is =
     ap (λ o. done_on limits w o step) is ∙ ap (λ b. if b then does (beyond limits w name step) None w else done_in limits (readied w name) name step) beyond_is
 
+-- one whose document wasn't opened
+pub may_unready : (limits : Limits) (w : World) (name : List ℕ) (o : Opened) (step : Step) (stop : Stop) → about w step ≡ Some name → IsUnready w name o stop → MayStop (done limits w step).world o stop
+may_unready limits w name o step stop is unready =
+    subst (λ (t : Told). MayStop t.world o stop) (sym (done_within limits w name step is unready.within))
+    (may_more (readied w name) o (effect limits (readied w name) (document (readied w name) name) step) name stop unready.may)
+
 -- what a step owes on the lane of its document, whatever the world is otherwise
 abbrev pub DoesOnLane : Limits → (name : List ℕ) → (moment : ℕ) → Step → (old new : Standing) → Result (List ℕ) Stop → Type 0
 DoesOnLane limits name moment step old new result =
@@ -88,7 +95,7 @@ steps_on old mid w name moment step before after result desk at is used limits t
           (subst (λ l. IsLaneOf l after (grown (effect old.limits v (document v name) step) (document v name))) (sym limits) did.stands);
       says = did.says;
     }
-    by v stands opened (Err stop) did = did
+    by v stands opened (Err stop) did = may_act v mid name after (effect old.limits v (document v name) step) stop did
 
 -- or one too many, which is said
 pub steps_away : (old new : Opened) (w : World) (name : List ℕ) (step : Step) (count : ℕ) (result : Result (List ℕ) Stop) → DeskStands old w → about w step ≡ Some name
@@ -102,7 +109,7 @@ steps_away old new w name step count result desk is says_so many line =
       stands = stays_desk new w (says w (turned_away_line name TooManyDocuments ∷ [])) (too_many old new w name count desk many).1;
       says = ap (λ l. l ∷ []) (sym line);
     }
-    by (Err stop) line = subst IsHonest (sym line) tt
+    by (Err stop) line = may_want w new stop line
 
 -- ---- the same of a step that uses the store
 
@@ -137,7 +144,7 @@ steps_on_with old mid w name moment step one other before now result desk store 
       };
       held = did.held;
     }
-    by v stands opened (Err stop) did = did
+    by v stands opened (Err stop) did = may_act v mid name other (effect old.limits v (document v name) step) stop did
 
 pub steps_away_with : (old new : Opened) (w : World) (name : List ℕ) (step : Step) (count : ℕ) (store : Storing) (result : Result (List ℕ) Stop) → DeskStands old w → StoreStands store w → about w step ≡ Some name
     → beyond old.limits w name step ≡ says w (turned_away_line name TooManyDocuments ∷ []) → IsOneTooMany name old new count → IsLine (turned_away_line name TooManyDocuments) result
@@ -151,7 +158,7 @@ steps_away_with old new w name step count store result desk held is says_so many
       done = record { stands = stays_desk new w (says w (turned_away_line name TooManyDocuments ∷ [])) (too_many old new w name count desk many).1; says = ap (λ l. l ∷ []) (sym line) };
       held = held;
     }
-    by (Err stop) line = subst IsHonest (sym line) tt
+    by (Err stop) line = may_want w new stop line
 
 -- a lane that was lent and left as it was
 pub left_same : (o : Opened) (name : List ℕ) (lane : Standing) → get o.lanes name ≡ Some lane → with_lane o name lane ≡ o

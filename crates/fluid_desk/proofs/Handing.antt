@@ -35,4 +35,4 @@ desks_come_back o w s desk closes = by s.held refl (subst (λ h. HeldBehind o.la
     }
 
 pub faults_are_counted : FaultsAreCounted
-faults_are_counted before o note s stops closes = risen_at_last before o s note stops closes
+faults_are_counted before steps o note s stops closes = risen_at_last before steps o s note stops closes

@@ -1,38 +1,47 @@
 -- A document that is opened, at its first use or anew.
-use Rattle.std.proofs.Common.{◌≡◌, ℕ, zero, suc, ◌+◌, ◌-◌, ◌≤◌, arith, Bool, true, false, cond, not, ◌&&◌, if◌then◌else◌, List, [], ◌∷◌, ◌++◌, length, map, Option, Some, None, Ok, Err, bytes_eq, refl, sym, ap, ap₂, subst, ◌∙◌, append-nil, length-append}
+use Rattle.std.proofs.Common.{◌≡◌, ◌⊎◌, inl, inr, ℕ, zero, suc, ◌+◌, ◌-◌, ◌≤◌, ◌<◌, arith, Bool, true, false, cond, not, ◌&&◌, if◌then◌else◌, List, [], ◌∷◌, ◌++◌, length, map, Option, Some, None, Result, Ok, Err, bytes_eq, refl, sym, ap, ap₂, subst, ◌∙◌, append-nil, length-append}
 use Rattle.std.specs.Prelude.{nat_le, unwrap_or, is_some, option_map, ◌||◌, IfErr}
 use Rattle.std.specs.List.{list_any}
 use Rattle.std.specs.FinMap.{FinMap, get, insert, remove, len, len-insert, len-remove, empty_of_len, get-empty}
-use Rattle.std.proofs.lemmas.Bool.{le-leb, leb-true}
-use Rattle.std.proofs.lemmas.List.{map-append}
+use Rattle.std.proofs.lemmas.Bool.{le-leb, leb-true, leb-false}
+use Rattle.std.proofs.lemmas.List.{length-map, map-append}
 use Rattle.std.proofs.lemmas.List.Folds.{list_any-append}
+use Rattle.std.proofs.lemmas.Option.{slice_get_past}
 use Rattle.std.proofs.lemmas.Slice.Eq.{bytes_eq-Decides}
 use Rattle.fluid_io.specs.Causes.{Tells}
 use Rattle.fluid_table.specs.Table.{byte_order, Values}
 use Rattle.fluid_table.proofs.Places.{byte_order_total, get_inserted, get_removed, get_own}
 use Rattle.fluid_types.specs.declared.entries.Raw.{Raw}
+use Rattle.fluid_types.specs.declared.entries.Raw.TheVariants.{Leave}
 use Rattle.fluid_types.specs.declared.verdicts.Verdict.{Verdict}
 use Rattle.fluid_types.specs.Ledger.{Ledger, raws}
-use Rattle.fluid_rules.specs.Rules.{IsLegal, ledger as ledger_by_rules}
+use Rattle.fluid_rules.specs.Rules.{IsLegal, joined, ledger as ledger_by_rules}
 use Rattle.fluid_rules.specs.declared.limits.Limits.{Limits}
 use Rattle.fluid_rules.proofs.Legal.{ledger-only, ledger-raws, ledger-legal}
 use Rattle.fluid_log.specs.Keeping.{Content, Keeping}
 use Rattle.fluid_log.specs.Shelving.{keeper_under, fresh}
-use Rattle.fluid_core.specs.Entering.{state_of}
+use Rattle.fluid_ticket.proofs.JoinedRows.{rows-joined}
+use Rattle.fluid_core.specs.Entering.{State, state_of}
+use Rattle.fluid_core.proofs.Entered.{stands-sequencer}
+use Rattle.fluid_document.specs.Entries.{Entries, most, entries_of}
 use Rattle.fluid_document.specs.Kept.{IsKept}
+use Rattle.fluid_document.specs.Laws.{KeptIsLoaded, CheckpointIsLoaded}
+use Rattle.fluid_document.specs.declared.fault.LoadFault.{LoadFault}
+use Rattle.fluid_document.specs.declared.fault.LoadFault.TheVariants as loading
+use Rattle.fluid_document.proofs.Foldings.{entered-entries_of, state-entries_of}
 use Rattle.fluid_lane.specs.declared.steps.Step.{Step}
 use Rattle.fluid_lane.specs.declared.fault.LaneFault.{LaneFault}
 use Rattle.fluid_lane.specs.declared.fault.LaneFault.TheVariants as lane
 use Rattle.fluid_lane.specs.Steps.{ledger, steps, stored}
 use Rattle.fluid_lane.specs.Standing.{Standing, IsTold, LaneStands}
-use Rattle.fluid_lane.specs.Starting.{opening, run, leaves, Starts, StartsBad, StartsPartly}
+use Rattle.fluid_lane.specs.Starting.{opening, run, leaves, Starts, HasNoRoom, StartsBad, StartsPartly}
 use Rattle.fluid_lane.specs.Restarts.{IsNotBad}
-use Rattle.fluid_document.specs.Loading.{newest}
+use Rattle.fluid_document.specs.Loading.{begun, begun_in, folded_behind, loaded, newest}
 use Rattle.fluid_lane.proofs.Beginning.{ledger-steps}
 use Rattle.fluid_lane.proofs.Says.{opening_leaves}
 use Rattle.fluid_opening.specs.declared.fault.DoorFault.{DoorFault}
 use Rattle.fluid_opening.specs.declared.fault.DoorFault.TheVariants as door
-use Rattle.fluid_lanes.specs.Opened.{Opened}
+use Rattle.fluid_lanes.specs.Opened.{Opened, most_documents}
 use Rattle.fluid_lanes.specs.Using.{Uses, UsesBy, OpensNew, IsOneTooMany, EndsLane}
 use Rattle.fluid_voice.specs.Ends.{is_beyond}
 use Rattle.fluid_transcript.specs.World.{Document, World, document, is_open, ledger_of, with_entries, farewells, grown, changed}
@@ -40,7 +49,9 @@ use Rattle.fluid_transcript.specs.Transcript.{readied}
 use Rattle.fluid_transcript.specs.Documents.{reopened}
 use Rattle.fluid_desk.specs.declared.stop.Stop.{Stop}
 use Rattle.fluid_desk.specs.Stands.{IsLaneOf, IsKeeperOf, IsDocument, DeskStands}
-use Rattle.fluid_desk.specs.Stopping.{stop_of, turned_by, IsHonest}
+use Rattle.fluid_desk.specs.Stopping.{stop_of, turned_by, IsHonest, steps_in, MayStop}
+use Rattle.fluid_desk.specs.Acting.{IsUnready}
+use Rattle.fluid_desk.proofs.Honest.{length_ledger, honest_more}
 use Rattle.fluid_desk.proofs.Laned.{told_in, some_there, is_told}
 use Rattle.fluid_desk.proofs.Desks.{moved, lane_there, keeper_there, document_at, Relaned, relaned_stands}
 
@@ -209,17 +220,71 @@ too_many o n w name count desk many =
 
 -- ---- a keeper that isn't refused
 
-honest_start : (keeper left : Keeping) (moment : ℕ) (fault : LaneFault) (l : Ledger) (content : Content) → keeper.content ≡ Some content → IsKept false l content → StartsPartly keeper left moment fault
-    → IsHonest (stop_of fault)
-honest_start keeper left moment fault l content is kept partly =
-    let kept_is : Tells keeper.content (IsKept false l) = subst (λ o. Tells o (IsKept false l)) (sym is) kept in
-    by fault (told_in (λ _. IsNotBad fault) keeper.content content is (partly.never l kept_is)) (told_in (λ c. StartsBad (newest keeper.checkpoints) c fault) keeper.content content is partly.bad)
+-- what is read of a keeper that is kept is what its ledger says, from wherever it is read
+past_all : (content : Content) (number : ℕ) → length content.checkpoints ≤ number → loaded content (Some number) ≡ loaded content None
+unfolding begun
+past_all content number le =
+    ap (λ text. folded_behind content.log (begun_in number (length content.log) (length content.deltas) text)) (slice_get_past content.checkpoints number le)
+
+loaded_all : KeptIsLoaded → CheckpointIsLoaded → (l : Ledger) (content : Content) (from : Option ℕ) → IsKept false l content → loaded content from ≡ Ok (entries_of l)
+loaded_all first law l content None kept = first l content kept
+loaded_all first law l content (Some number) kept = by (nat_le (length content.checkpoints) number) refl
   where
-    by : (f : LaneFault) → IsNotBad f → StartsBad (newest keeper.checkpoints) content f → IsHonest (stop_of f)
+    by : (b : Bool) → nat_le (length content.checkpoints) number ≡ b → loaded content (Some number) ≡ Ok (entries_of l)
+    by true past = past_all content number (leb-true (length content.checkpoints) number past) ∙ first l content kept
+    by false there = law l content number kept (leb-false (length content.checkpoints) number there)
+
+-- as many leave as have rows
+leaves_are : (moment : ℕ) (d : Document) → len (entries_of (ledger_of d)).state.sequencer.rows ≡ length (farewells moment d)
+leaves_are moment d =
+    let l = ledger_of d in
+    ap (λ (s : State). len s.sequencer.rows) (state-entries_of l)
+    ∙ (rows-joined (state_of l).sequencer l (stands-sequencer (state_of l) l (record { legal = ledger-legal d.raws; is = refl }))).as_many
+    ∙ sym (length-map (joined l) (λ id. Leave id moment))
+
+same_entries : (a b : Entries) → ◌≡◌ {A = Result Entries LoadFault} (Ok a) (Ok b) → a ≡ b
+same_entries a b same = cc
+
+never_worn : (a : Entries) → ◌≡◌ {A = Result Entries LoadFault} (Ok a) (Err loading.Worn) → ⊥
+never_worn a same = cc
+
+-- how many entries the document has once all have left
+abbrev pub opened_steps : ℕ → Document → ℕ
+opened_steps moment d = length (with_entries (farewells moment d) d).raws
+
+-- the numbers don't suffice for its entries and the leaves
+worn_start : KeptIsLoaded → CheckpointIsLoaded → (from : Option ℕ) (content : Content) (d : Document) (moment : ℕ) → IsKept false (ledger_of d) content → StartsBad from content lane.Worn → most ≤ opened_steps moment d + 1
+worn_start first law from content d moment kept bad = by bad
+  where
+    is : loaded content from ≡ Ok (entries_of (ledger_of d))
+    is = loaded_all first law (ledger_of d) content from kept
+
+    by : (loaded content from ≡ Err loading.Worn) ⊎ HasNoRoom from content → most ≤ opened_steps moment d + 1
+    by (inl worn) = absurd (never_worn (entries_of (ledger_of d)) (sym is ∙ worn))
+    by (inr no_room) =
+        let same = same_entries no_room.entries (entries_of (ledger_of d)) (sym no_room.is ∙ is) in
+        omega (
+          arith,
+          no_room.full,
+          ap (λ (e : Entries). e.entered) same,
+          entered-entries_of (ledger_of d),
+          ap (λ (e : Entries). len e.state.sequencer.rows) same,
+          leaves_are moment d,
+          length_ledger d.raws,
+          length-append d.raws (farewells moment d),
+        )
+
+honest_start : KeptIsLoaded → CheckpointIsLoaded → (keeper left : Keeping) (moment when : ℕ) (fault : LaneFault) (d : Document) (content : Content) → keeper.content ≡ Some content → IsKept false (ledger_of d) content
+    → StartsPartly keeper left moment fault → IsHonest (opened_steps when d) (stop_of fault)
+honest_start first law keeper left moment when fault d content is kept partly =
+    let kept_is : Tells keeper.content (IsKept false (ledger_of d)) = subst (λ o. Tells o (IsKept false (ledger_of d))) (sym is) kept in
+    by fault (told_in (λ _. IsNotBad fault) keeper.content content is (partly.never (ledger_of d) kept_is)) (told_in (λ c. StartsBad (newest keeper.checkpoints) c fault) keeper.content content is partly.bad)
+  where
+    by : (f : LaneFault) → IsNotBad f → StartsBad (newest keeper.checkpoints) content f → IsHonest (opened_steps when d) (stop_of f)
     by (lane.LogFailed note) not_bad bad = tt
     by (lane.DeltaFailed note) not_bad bad = tt
     by lane.NoMemory not_bad bad = tt
-    by lane.Worn not_bad bad = tt
+    by lane.Worn not_bad bad = worn_start first law (newest keeper.checkpoints) content d when kept bad
     by (lane.BadRecord n) not_bad bad = absurd not_bad
     by (lane.BadCheckpoint n f) not_bad bad = absurd not_bad
     by (lane.Full n) not_bad bad = absurd bad
@@ -228,41 +293,58 @@ honest_start keeper left moment fault l content is kept partly =
     by lane.TooManyClients not_bad bad = absurd bad
     by (lane.TooLarge n) not_bad bad = absurd bad
 
--- the keeper that is in under a name is kept for a ledger
-pub record IsKeptUnder (o : Opened) (name : List ℕ) : Type 0 where
+-- the keeper that is in under a name is kept for the ledger of a document
+pub record IsKeptUnder (o : Opened) (name : List ℕ) (d : Document) : Type 0 where
   pub held : FinMap byte_order Keeping
   pub told : o.shelving.held ≡ Some held
-  pub ledger_is : Ledger
   pub content : Content
   pub content_is : (keeper_under held name).content ≡ Some content
-  pub kept : IsKept false ledger_is content
+  pub kept : IsKept false (ledger_of d) content
 
 -- a document that wasn't opened
-pub unopened_honest : (o n : Opened) (name : List ℕ) (moment : ℕ) (fault : DoorFault) → IsKeptUnder o name → Uses {A = Unit {0}} name moment o n (Err fault) → IfErr (turned_by fault) IsHonest
-unopened_honest o n name moment (door.ShelfFailed note) was_kept uses = tt
-unopened_honest o n name moment (door.TooManyDocuments count) was_kept uses = tt
-unopened_honest o n name moment door.NoMemory was_kept uses = tt
-unopened_honest o n name moment (door.Lane fault) was_kept uses =
+pub unopened_honest : KeptIsLoaded → CheckpointIsLoaded → (o n : Opened) (name : List ℕ) (moment when : ℕ) (fault : DoorFault) (d : Document) → IsKeptUnder o name d → Uses {A = Unit {0}} name moment o n (Err fault)
+    → IfErr (turned_by fault) (IsHonest (opened_steps when d))
+unopened_honest first law o n name moment when (door.ShelfFailed note) d was_kept uses = tt
+unopened_honest first law o n name moment when (door.TooManyDocuments count) d was_kept uses = tt
+unopened_honest first law o n name moment when door.NoMemory d was_kept uses = tt
+unopened_honest first law o n name moment when (door.Lane fault) d was_kept uses =
     let fails = uses.does.1 in
     let keeper_is : fails.keeper ≡ keeper_under was_kept.held name = subst (λ h. Tells h (λ held. fails.keeper ≡ keeper_under held name)) was_kept.told fails.gives.is in
-    honest_start fails.keeper fails.comes_back.left moment fault was_kept.ledger_is was_kept.content (ap (λ k. k.content) keeper_is ∙ was_kept.content_is) was_kept.kept fails.comes_back.partly
+    honest_start first law fails.keeper fails.comes_back.left moment when fault d was_kept.content (ap (λ k. k.content) keeper_is ∙ was_kept.content_is) was_kept.kept fails.comes_back.partly
 
 -- a document that isn't open, on a desk that stands for a world
-pub kept_closed : (o : Opened) (w : World) (name : List ℕ) → DeskStands o w → get o.lanes name ≡ None → IsKeptUnder o name
-kept_closed o w name desk absent =
-    let of = (keeper_there o.limits (keeper_under desk.held name) (is_open w name) (document w name)
-    (subst (λ l. IsDocument o.limits l (keeper_under desk.held name) (is_open w name) (document w name)) absent (desk.documents name))).1 in
-    record { held = desk.held; told = desk.told; ledger_is = ledger_of (document w name); content = of.content; content_is = of.told; kept = of.kept }
+module _ (o : Opened) (w : World) (name : List ℕ) (desk : DeskStands o w) (absent : get o.lanes name ≡ None) where
+  closed_is : (is_open w name ≡ false) × IsKeeperOf (keeper_under desk.held name) (document w name)
+  closed_is = keeper_there o.limits (keeper_under desk.held name) (is_open w name) (document w name)
+      (subst (λ l. IsDocument o.limits l (keeper_under desk.held name) (is_open w name) (document w name)) absent (desk.documents name))
 
--- a use that failed
-pub use_honest : (o n : Opened) (w : World) (name : List ℕ) (moment : ℕ) (fault : DoorFault) → DeskStands o w → Uses {A = Unit {0}} name moment o n (Err fault) → IfErr (turned_by fault) IsHonest
-use_honest o n w name moment fault desk uses = unopened_honest o n name moment fault (kept_closed o w name desk (absent_by fault uses)) uses
-  where
-    absent_by : (f : DoorFault) → Uses {A = Unit {0}} name moment o n (Err f) → get o.lanes name ≡ None
-    absent_by (door.ShelfFailed note) u = u.absent
-    absent_by (door.Lane f) u = u.absent
-    absent_by (door.TooManyDocuments count) u = u.absent
-    absent_by door.NoMemory u = u.absent
+  pub kept_closed : IsKeptUnder o name (document w name)
+  kept_closed = record { held = desk.held; told = desk.told; content = closed_is.1.content; content_is = closed_is.1.told; kept = closed_is.1.kept }
+
+  -- it isn't one too many where there is room
+  room_within : len o.lanes < most_documents → is_beyond w.opened name ≡ false
+  room_within room = ap (λ b. not b && nat_le 1024 (length w.opened)) closed_is.0 ∙ not_le (nat_le 1024 (length w.opened)) refl
+    where
+      not_le : (b : Bool) → nat_le 1024 (length w.opened) ≡ b → b ≡ false
+      not_le false is = refl
+      not_le true is = absurd (omega (arith, leb-true 1024 (length w.opened) is, desk.count, room))
+
+  document_then : document (readied w name) name ≡ with_entries (farewells w.moment (document w name)) (document w name)
+  document_then =
+      ap (λ v. document v name) (readied_new w name closed_is.0) ∙ document_at w.documents name (with_entries (farewells w.moment (document w name)) (document w name)) name
+      ∙ ap (λ b. cond b (with_entries (farewells w.moment (document w name)) (document w name)) (document w name)) ((bytes_eq-Decides name name).1 refl)
+
+  may_ready : (n : Opened) (stop : Stop) → IsHonest (opened_steps w.moment (document w name)) stop → MayStop (readied w name) n stop
+  may_ready n stop h =
+      (name, honest_more (opened_steps w.moment (document w name)) (steps_in (readied w name) n name) stop (omega (arith, ap (λ (d : Document). length d.raws) document_then)) h)
+
+  pub unready : KeptIsLoaded → CheckpointIsLoaded → (n : Opened) (moment : ℕ) (fault : DoorFault) (stop : Stop) → len o.lanes < most_documents → Uses {A = Unit {0}} name moment o n (Err fault) → Err stop ≡ turned_by fault
+      → IsUnready w name n stop
+  unready first law n moment fault stop room uses is = record {
+    within = room_within room;
+    may = may_ready n stop
+        (subst (λ r. IfErr r (IsHonest (opened_steps w.moment (document w name)))) (sym is) (unopened_honest first law o n name moment w.moment fault (document w name) kept_closed uses));
+  }
 
 -- ---- closed and opened again
 
@@ -307,11 +389,10 @@ module _ (o closed : Opened) (w : World) (name : List ℕ) (lane : Standing) (de
   kept_back : IsKeeperOf (keeper_under (insert desk.held name lane.keeping) name) (document w name)
   kept_back = subst (λ k. IsKeeperOf k (document w name)) (sym (keeper_own desk.held name lane.keeping)) (keeper_of o.limits lane (document w name) was.1)
 
-  pub kept_ended : IsKeptUnder closed name
+  pub kept_ended : IsKeptUnder closed name (document w name)
   kept_ended = record {
     held = insert desk.held name lane.keeping;
     told = held_back;
-    ledger_is = ledger_of (document w name);
     content = kept_back.content;
     content_is = kept_back.told;
     kept = kept_back.kept;
@@ -375,8 +456,12 @@ module _ (o closed : Opened) (w : World) (name : List ℕ) (lane : Standing) (de
 
 -- ---- by the answer of a call
 
-pub ready_honest : (o n : Opened) (w : World) (name : List ℕ) (moment : ℕ) (fault : DoorFault) (stop : Stop) → Uses {A = Unit {0}} name moment o n (Err fault) → DeskStands o w → Err stop ≡ turned_by fault → IsHonest stop
-ready_honest o n w name moment fault stop uses desk is = subst (λ r. IfErr r IsHonest) (sym is) (use_honest o n w name moment fault desk uses)
+pub ready_honest : KeptIsLoaded → CheckpointIsLoaded → (o n : Opened) (w : World) (name : List ℕ) (moment : ℕ) (fault : DoorFault) (stop : Stop) → Uses {A = Unit {0}} name moment o n (Err fault) → DeskStands o w
+    → Err stop ≡ turned_by fault → IsUnready w name n stop
+ready_honest first law o n w name moment (door.ShelfFailed note) stop uses desk is = unready o w name desk uses.absent first law n moment (door.ShelfFailed note) stop uses.room uses is
+ready_honest first law o n w name moment (door.Lane fault) stop uses desk is = unready o w name desk uses.absent first law n moment (door.Lane fault) stop uses.room uses is
+ready_honest first law o n w name moment (door.TooManyDocuments count) stop uses desk is = absurd (cc)
+ready_honest first law o n w name moment door.NoMemory stop uses desk is = unready o w name desk uses.absent first law n moment door.NoMemory stop uses.room uses is
 
 pub ready_many : (o n : Opened) (name : List ℕ) (moment : ℕ) (fault : DoorFault) → Uses {A = Unit {0}} name moment o n (Err fault) → (done : Unit {0}) → Ok done ≡ turned_by fault → (count : ℕ) × IsOneTooMany name o n count
 ready_many o n name moment (door.TooManyDocuments count) uses done is = (count, uses)

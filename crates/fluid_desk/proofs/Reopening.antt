@@ -1,9 +1,10 @@
 -- The step that closes a document and opens it again.
-use Rattle.std.proofs.Common.{◌≡◌, ℕ, List, [], ◌∷◌, ◌++◌, map, Option, Some, None, Result, Ok, Err, refl, sym, ap, subst, ◌∙◌}
+use Rattle.std.proofs.Common.{◌≡◌, ℕ, arith, List, [], ◌∷◌, ◌++◌, length, map, Option, Some, None, Result, Ok, Err, refl, sym, ap, subst, ◌∙◌}
 use Rattle.std.specs.Prelude.{IsSome, is_some, IfErr}
 use Rattle.std.specs.FinMap.{get, keys}
 use Rattle.fluid_types.specs.declared.entries.Raw.TheVariants.{Leave}
 use Rattle.fluid_rules.specs.Rules.{joined}
+use Rattle.fluid_document.specs.Laws.{KeptIsLoaded, CheckpointIsLoaded}
 use Rattle.fluid_lane.specs.Standing.{Standing}
 use Rattle.fluid_opening.specs.declared.fault.DoorFault.{DoorFault}
 use Rattle.fluid_opening.specs.declared.fault.DoorFault.TheVariants as door
@@ -18,13 +19,14 @@ use Rattle.fluid_transcript.specs.Lines as lines
 use Rattle.fluid_transcript.specs.Transcript.{readied, done_in, done}
 use Rattle.fluid_desk.specs.declared.stop.Stop.{Stop}
 use Rattle.fluid_desk.specs.Stands.{IsLaneOf, DeskStands}
-use Rattle.fluid_desk.specs.Stopping.{turned_by, IsHonest, HasRun, RunsOn}
+use Rattle.fluid_desk.specs.Stopping.{turned_by, IsHonest, steps_in, MayStop, HasRun, RunsOn}
 use Rattle.fluid_desk.specs.Acting.{IsLine, DeskDoes}
 use Rattle.fluid_desk.proofs.Laned.{says as lane_of, same}
 use Rattle.fluid_desk.proofs.Desks.{acts}
 use Rattle.fluid_table.proofs.Places.{get_own}
-use Rattle.fluid_desk.proofs.Opening.{opens_new, new_is_no_more, open_is_no_more, readied_same, IsKeptUnder, unopened_honest, ready_many, kept_closed, kept_ended, room_again, absent_then, lane_again, again_stands, lane_there_again}
-use Rattle.fluid_desk.proofs.Doing.{lane_of_desk, done_within, left_same, steps_away}
+use Rattle.fluid_desk.proofs.Opening.{opens_new, new_is_no_more, open_is_no_more, readied_same, opened_steps, unopened_honest, ready_honest, ready_many, kept_ended, room_again, absent_then, lane_again, again_stands, lane_there_again}
+use Rattle.fluid_desk.proofs.Honest.{grown_there, honest_more, may_want}
+use Rattle.fluid_desk.proofs.Doing.{lane_of_desk, done_within, may_unready, left_same, steps_away}
 use Rattle.fluid_desk.proofs.Running.{use_run, end_run, unopened_runs}
 
 -- ---- what is written of it
@@ -37,7 +39,7 @@ finished n v name t result is stands line = subst (λ t. DeskDoes t n result) (s
     by : (r : Result (List ℕ) Stop) → IsLine (lines.reopened_line name (ledger_of (grown (reopened v (document v name) name) (document v name)))) r
         → DeskDoes (does (reopened v (document v name) name) (Some name) v) n r
     by (Ok text) line = record { stands = stands; says = ap (λ l. l ∷ []) (sym line) }
-    by (Err stop) line = subst IsHonest (sym line) tt
+    by (Err stop) line = may_want (changed (reopened v (document v name) name) (Some name) v) n stop line
 
 some_same : (a b : Standing) → ◌≡◌ {A = Option Standing} (Some a) (Some b) → a ≡ b
 some_same a b same = cc
@@ -95,11 +97,6 @@ uses_any A name moment o n (door.TooManyDocuments count) u = u
 uses_any A name moment o n door.NoMemory u = u
 
 module _ (o n : Opened) (w : World) (name : List ℕ) (moment : ℕ) (desk : DeskStands o w) where
-  -- its keeper was kept for a ledger when it was asked for
-  kept_by : (closed : Opened) (l : Option Standing) → get o.lanes name ≡ l → Ends name l o closed → IsKeptUnder closed name
-  kept_by closed None absent same = subst (λ k. IsKeptUnder k name) (sym same) (kept_closed o w name desk absent)
-  kept_by closed (Some lane) there ended = kept_ended o closed w name lane desk there ended
-
   away_by : (closed : Opened) (l : Option Standing) (count : ℕ) → get o.lanes name ≡ l → Ends name l o closed → IsOneTooMany name closed n count → IsOneTooMany name o n count
   away_by closed None count absent same many = subst (λ k. IsOneTooMany name k n count) same many
   away_by closed (Some lane) count there ended many = absurd (room_again o closed w name lane desk there ended n count many)
@@ -110,10 +107,27 @@ module _ (o n : Opened) (w : World) (name : List ℕ) (moment : ℕ) (desk : Des
       let many = ready_many does_it.closed n name moment fault (uses_any A name moment does_it.closed n fault does_it.uses) done_it is in
       steps_away o n w name (step.Reopen name) many.0 result desk refl refl (away_by does_it.closed (get o.lanes name) many.0 refl does_it.ends many.1) line
 
-  pub reopens_honest : {A : Type 0} (fault : DoorFault) (stop : Stop) → Reopens {A = A} name moment o n (Err fault) → Err stop ≡ turned_by fault → IsHonest stop
-  reopens_honest {A = A} fault stop does_it is =
-      subst (λ r. IfErr r IsHonest) (sym is)
-      (unopened_honest does_it.closed n name moment fault (kept_by does_it.closed (get o.lanes name) refl does_it.ends) (uses_any A name moment does_it.closed n fault does_it.uses))
+  -- one that was open is closed in between
+  may_again : (stop : Stop) → IsHonest (opened_steps w.moment (document w name)) stop → MayStop (changed (reopened w (document w name) name) (Some name) w) n stop
+  may_again stop h =
+      let e = reopened w (document w name) name in
+      (name, honest_more (opened_steps w.moment (document w name)) (steps_in (changed e (Some name) w) n name) stop (omega (arith, ap (λ (d : Document). length d.raws) (grown_there w name e))) h)
+
+  reopens_by : KeptIsLoaded → CheckpointIsLoaded → (fault : DoorFault) (stop : Stop) (closed : Opened) (l : Option Standing) → get o.lanes name ≡ l → Ends name l o closed → Uses {A = Unit {0}} name moment closed n (Err fault)
+      → Err stop ≡ turned_by fault → MayStop (done o.limits w (step.Reopen name)).world n stop
+  reopens_by first law fault stop closed None absent same uses is =
+      may_unready o.limits w name n (step.Reopen name) stop refl (ready_honest first law closed n w name moment fault stop uses (subst (λ k. DeskStands k w) (sym same) desk) is)
+  reopens_by first law fault stop closed (Some lane) there ended uses is =
+      let own = (lane_of_desk o w name lane desk there).0 in
+      subst (λ (t : Told). MayStop t.world n stop)
+      (sym (done_within o.limits w name (step.Reopen name) refl (open_is_no_more w name own) ∙ ap (λ v. done_in o.limits v name (step.Reopen name)) (readied_same w name own)))
+      (may_again stop
+      (subst (λ r. IfErr r (IsHonest (opened_steps w.moment (document w name)))) (sym is)
+      (unopened_honest first law closed n name moment w.moment fault (document w name) (kept_ended o closed w name lane desk there ended) uses)))
+
+  pub reopens_honest : {A : Type 0} → KeptIsLoaded → CheckpointIsLoaded → (fault : DoorFault) (stop : Stop) → Reopens {A = A} name moment o n (Err fault) → Err stop ≡ turned_by fault → MayStop (done o.limits w (step.Reopen name)).world n stop
+  reopens_honest {A = A} first law fault stop does_it is =
+      reopens_by first law fault stop does_it.closed (get o.lanes name) refl does_it.ends (uses_any A name moment does_it.closed n fault does_it.uses) is
 
 -- ---- what is open then
 
@@ -122,10 +136,10 @@ reopened_there o n name moment done_it does_it = is_used name moment does_it.clo
 
 -- ---- counts of faults
 
-module _ (before : ℕ) (o n : Opened) (name : List ℕ) (moment : ℕ) (run : HasRun before o) where
-  pub reopen_run : {A : Type 0} (done_it : A) → Reopens name moment o n (Ok done_it) → HasRun before n
-  reopen_run done_it does_it = use_run before does_it.closed n name moment (end_run before o does_it.closed name run (get o.lanes name) does_it.ends) does_it.uses
+module _ (before steps : ℕ) (o n : Opened) (name : List ℕ) (moment : ℕ) (run : HasRun before steps o) where
+  pub reopen_run : {A : Type 0} (done_it : A) → Reopens name moment o n (Ok done_it) → HasRun before steps n
+  reopen_run done_it does_it = use_run before steps does_it.closed n name moment (end_run before steps o does_it.closed name run (get o.lanes name) does_it.ends) does_it.uses
 
-  pub unreopened_runs : {A : Type 0} (fault : DoorFault) → Reopens {A = A} name moment o n (Err fault) → RunsOn before n (turned_by fault)
+  pub unreopened_runs : {A : Type 0} (fault : DoorFault) → Reopens {A = A} name moment o n (Err fault) → RunsOn before steps n (turned_by fault)
   unreopened_runs {A = A} fault does_it =
-      unopened_runs before does_it.closed n name moment (end_run before o does_it.closed name run (get o.lanes name) does_it.ends) fault (uses_any A name moment does_it.closed n fault does_it.uses)
+      unopened_runs before steps does_it.closed n name moment (end_run before steps o does_it.closed name run (get o.lanes name) does_it.ends) fault (uses_any A name moment does_it.closed n fault does_it.uses)

@@ -36,16 +36,21 @@ use Rattle.fluid_store.specs.declared.fault.StoreFault.{StoreFault}
 use Rattle.fluid_store.specs.declared.fault.StoreFault.TheVariants as store
 use Rattle.fluid_versions.specs.Versions.{PutsTold, PutsVersion}
 use Rattle.fluid_core.specs.Entering.{verdict_in}
+use Rattle.fluid_lane.specs.declared.fault.LaneFault.{LaneFault}
+use Rattle.fluid_lane.specs.Faults.{IsOutside}
 use Rattle.fluid_lane.specs.Steps.{entered_by}
 use Rattle.fluid_lane.specs.Standing.{Standing, Goes}
+use Rattle.fluid_lane.specs.Refusals.{IsGated}
 use Rattle.fluid_transcript.specs.Documents.{version_object, version_objects, is_found, objects_for, reported as reported_as, scribed_by, scribed}
 use Rattle.fluid_transcript.specs.Lines as lines
 use Rattle.fluid_desk.specs.declared.stop.Stop.{Stop}
 use Rattle.fluid_desk.specs.Stands.{IsLaneOf}
-use Rattle.fluid_desk.specs.Stopping.{IsHonest}
+use Rattle.fluid_desk.specs.Stopping.{stop_of, IsHonest, steps_on}
 use Rattle.fluid_desk.specs.Acting.{IsLine}
 use Rattle.fluid_desk.specs.Scribing.{message_in, IsReplied, SaysUnput, ActDoesWith, Concludes, EndsWith, EndsWithBy}
 use Rattle.fluid_desk.proofs.Laned.{says as lane_of, entered, same}
+use Rattle.fluid_desk.proofs.Honest.{honest_more, grown_steps, worn_same}
+use Rattle.fluid_desk.proofs.Steps.{unruled_honest}
 
 -- ---- what a verdict on a report says
 
@@ -156,7 +161,7 @@ concludes_by : (limits : Limits) (d : Document) (name : List ℕ) (summary : ℕ
     → IsLaneOf limits new (record { raws = d.raws ++ Report summary found moment ∷ []; checkpoints = d.checkpoints ++ [] })
     → IsLine (lines.answer_line name summary (answer (order (ledger_of d)) summary found)) result → Concludes limits d name summary found moment new result
 concludes_by limits d name summary found moment new (Ok text) stands line = record { stands = stands; says = line }
-concludes_by limits d name summary found moment new (Err stop) stands line = subst IsHonest (sym line) tt
+concludes_by limits d name summary found moment new (Err stop) stands line = subst (IsHonest (steps_on d new)) (sym line) tt
 
 pub concluded : (limits : Limits) (old new : Standing) (d : Document) (name : List ℕ) (summary : ℕ) (found : Bool) (moment : ℕ) (v : Verdict) (result : Result (List ℕ) Stop) → IsLaneOf limits old d
     → Goes old new (entered_by (Report summary found moment) v) → new.owed ≡ false → v ≡ verdict_in old.entries.state (Report summary found moment)
@@ -165,6 +170,10 @@ concluded limits old new d name summary found moment v result of goes level said
     let v_is : v ≡ verdict (ledger_of d) (Report summary found moment) = said_in ∙ (lane_of limits old d of).verdict (Report summary found moment) in
     concludes_by limits d name summary found moment new result (entered limits old d of new (Report summary found moment) v goes level v_is)
     (line (answer (order (ledger_of d)) summary found) (subst (IsReplied summary (answer (order (ledger_of d)) summary found)) (sym v_is) (replied (ledger_of d) summary found moment)))
+
+-- it wasn't entered
+pub unconcluded : {A : Type 0} (limits : Limits) (old new : Standing) (d : Document) (fault : LaneFault) → IsLaneOf limits old d → IsGated {A = A} old new [] IsOutside (Err fault) → IsHonest (steps_on d new) (stop_of fault)
+unconcluded limits old new d fault of gate = unruled_honest (steps_on d new) old new fault gate (worn_same limits old new d of)
 
 -- ---- the step
 
@@ -180,7 +189,7 @@ module _ (limits : Limits) (w : World) (d : Document) (name : List ℕ) (before 
   with_line : (e : Effect) (new : Standing) (line : List ℕ) (result : Result (List ℕ) Stop) → IsLaneOf limits new (grown e d) → e.lines ≡ line ∷ [] → now.content ≡ Some e.store → IsLine line result
       → ActDoesWith limits e d new now result
   with_line e new line (Ok text) stands says_it after is = record { acts = record { stands = stands; says = says_it ∙ ap (λ t. t ∷ []) (sym is) }; held = after }
-  with_line e new line (Err stop) stands says_it after is = subst IsHonest (sym is) tt
+  with_line e new line (Err stop) stands says_it after is = subst (IsHonest (steps_on (grown e d) new)) (sym is) tt
 
   scribed_as : (j : Option Job) → job (order (ledger_of d)) ≡ j → (new : Standing) (result : Result (List ℕ) Stop) → ActDoesWith limits (scribed_by w (ledger_of d) name j) d new now result
       → ActDoesWith limits (scribed w d name) d new now result
@@ -220,7 +229,8 @@ module _ (limits : Limits) (w : World) (d : Document) (name : List ℕ) (before 
         by : (r : Result (List ℕ) Stop) → Concludes limits d name j.summary found_it w.moment new r → now.content ≡ Some puts.held
             → ActDoesWith limits (reported_as w (ledger_of d) name j found_it puts None) d new now r
         by (Ok text) done after = record { acts = record { stands = done.stands; says = ap (λ t. t ∷ []) (sym done.says) }; held = after }
-        by (Err stop) done after = done
+        by (Err stop) done after =
+            let e = reported_as w (ledger_of d) name j found_it puts None in honest_more (steps_on d new) (steps_on (grown e d) new) stop (grown_steps e d new) done
 
     -- other bytes are held under the id of one of them
     clashed : (id kept bytes : List ℕ) (s : Standing) (result : Result (List ℕ) Stop) → PutsVersion j before now (Err (store.Clash id kept bytes)) → IsLaneOf limits s d → IsLine (lines.scribe_clash_line name id) result

@@ -1,19 +1,16 @@
 -- What each call on a lane makes of the document for which the lane stands.
-use Rattle.std.proofs.Common.{◌≡◌, ℕ, ◌≤◌, arith, Bool, true, false, if◌then◌else◌, List, [], ◌∷◌, length, Option, Some, None, Result, Ok, Err, refl, sym, ap, ap₂, subst, ◌∙◌}
+use Rattle.std.proofs.Common.{◌≡◌, ℕ, ◌+◌, ◌≤◌, arith, Bool, true, false, if◌then◌else◌, List, [], ◌∷◌, length, Option, Some, None, Result, Ok, Err, refl, sym, ap, ap₂, subst, ◌∙◌}
 use Rattle.std.specs.Prelude.{nat_le, nat_lt, IfOk}
 use Rattle.std.proofs.lemmas.Bool.{le-ltb, lt-ltb}
-use Rattle.std.proofs.lemmas.List.{length-map}
 use Rattle.fluid_io.specs.Causes.{Tells}
 use Rattle.fluid_ticket.specs.State as ticket
 use Rattle.fluid_types.specs.declared.entries.Raw.{Raw}
 use Rattle.fluid_types.specs.declared.entries.Raw.TheVariants.{Leave}
 use Rattle.fluid_types.specs.declared.messages.Message.{Message}
 use Rattle.fluid_types.specs.declared.verdicts.Verdict.TheVariants.{Sequenced}
-use Rattle.fluid_types.specs.Ledger.{raws}
-use Rattle.fluid_rules.specs.Rules.{verdict, ledger as ledger_by_rules}
+use Rattle.fluid_rules.specs.Rules.{verdict}
 use Rattle.fluid_rules.specs.declared.limits.Limits.{Limits}
-use Rattle.fluid_rules.proofs.Legal.{ledger-raws}
-use Rattle.fluid_document.specs.Entries.{entries_of}
+use Rattle.fluid_document.specs.Entries.{entries_of, most}
 use Rattle.fluid_document.specs.Kept.{checkpoint_text}
 use Rattle.fluid_lane.specs.declared.steps.Step.TheVariants.{Entered}
 use Rattle.fluid_lane.specs.declared.fault.LaneFault.{LaneFault}
@@ -32,9 +29,10 @@ use Rattle.fluid_transcript.specs.Lines as lines
 use Rattle.fluid_desk.specs.declared.lines.Numbers.{Numbers}
 use Rattle.fluid_desk.specs.declared.stop.Stop.{Stop}
 use Rattle.fluid_desk.specs.Stands.{IsLaneOf}
-use Rattle.fluid_desk.specs.Stopping.{stop_of, IsHonest, LaneEnds, LaneEndsBy}
+use Rattle.fluid_desk.specs.Stopping.{stop_of, IsHonest, steps_on, LaneEnds, LaneEndsBy}
 use Rattle.fluid_desk.specs.Acting.{AreNumbers, IsLine, SaysUnstored, SaysUnrestarted, IsLeft, left_line, ActDoes}
 use Rattle.fluid_desk.proofs.Laned.{told_in, says as lane_of, aside, beside, entered, same, is_told}
+use Rattle.fluid_desk.proofs.Honest.{length_ledger, worn_grown}
 use Rattle.fluid_desk.proofs.Gates as gates
 
 -- ---- lines
@@ -43,17 +41,12 @@ use Rattle.fluid_desk.proofs.Gates as gates
 pub acted : (limits : Limits) (e : Effect) (d : Document) (new : Standing) (line : List ℕ) (result : Result (List ℕ) Stop) → IsLaneOf limits new (grown e d) → e.lines ≡ line ∷ [] → IsLine line result
     → ActDoes limits e d new result
 acted limits e d new line (Ok text) stands says is = record { stands = stands; says = says ∙ ap (λ t. t ∷ []) (sym is) }
-acted limits e d new line (Err stop) stands says is = subst IsHonest (sym is) tt
+acted limits e d new line (Err stop) stands says is = subst (IsHonest (steps_on (grown e d) new)) (sym is) tt
 
 -- an end of the script that a desk which stands for a world may have
-ended : (limits : Limits) (e : Effect) (d : Document) (new : Standing) (fault : LaneFault) (result : Result (List ℕ) Stop) → IsHonest (stop_of fault) → result ≡ Err (stop_of fault)
+ended : (limits : Limits) (e : Effect) (d : Document) (new : Standing) (fault : LaneFault) (result : Result (List ℕ) Stop) → IsHonest (steps_on (grown e d) new) (stop_of fault) → result ≡ Err (stop_of fault)
     → ActDoes limits e d new result
 ended limits e d new fault result honest is = subst (ActDoes limits e d new) (sym is) honest
-
--- the entries of a document, each with its verdict, are as many
-length_ledger : (rs : List Raw) → length (ledger_by_rules rs) ≡ length rs
-unfolding raws
-length_ledger rs = sym (length-map (ledger_by_rules rs) (λ entry. entry.0)) ∙ ap length (ledger-raws rs)
 
 -- ---- count
 
@@ -138,7 +131,9 @@ module _ (limits : Limits) (old new : Standing) (w : World) (d : Document) (name
   stores_none (lane.LogFailed note) result goes gate does is = ended limits (checkpointed limits w d name) d new (lane.LogFailed note) result tt is
   stores_none (lane.DeltaFailed note) result goes gate does is = ended limits (checkpointed limits w d name) d new (lane.DeltaFailed note) result tt is
   stores_none lane.NoMemory result goes gate does is = ended limits (checkpointed limits w d name) d new lane.NoMemory result tt is
-  stores_none lane.Worn result goes gate does is = ended limits (checkpointed limits w d name) d new lane.Worn result tt is
+  stores_none lane.Worn result goes gate does is =
+      ended limits (checkpointed limits w d name) d new lane.Worn result
+      (worn_grown limits old new (checkpointed limits w d name) d of (gates.worn_one old new lane.CheckpointsFull (IsStoreFault old) full_rule gate (λ same. cc) (λ no. no))) is
   stores_none (lane.Full n) result goes gate does is = absurd (stores_no old new (lane.Full n) gate (λ same. cc) (λ no. no) (λ same. cc) (λ no. no))
   stores_none (lane.BadRecord n) result goes gate does is = absurd (stores_no old new (lane.BadRecord n) gate (λ same. cc) (λ no. no) (λ same. cc) (λ no. no))
   stores_none (lane.NoCheckpoint n m) result goes gate does is = absurd (stores_no old new (lane.NoCheckpoint n m) gate (λ same. cc) (λ no. no) (λ same. cc) (λ no. no))
@@ -184,7 +179,9 @@ module _ (limits : Limits) (old new : Standing) (w : World) (d : Document) (name
   restarts_none {A = A} (lane.LogFailed note) result goes gate does not_bad is = ended limits (restarted w d name number) d new (lane.LogFailed note) result tt is
   restarts_none {A = A} (lane.DeltaFailed note) result goes gate does not_bad is = ended limits (restarted w d name number) d new (lane.DeltaFailed note) result tt is
   restarts_none {A = A} lane.NoMemory result goes gate does not_bad is = ended limits (restarted w d name number) d new lane.NoMemory result tt is
-  restarts_none {A = A} lane.Worn result goes gate does not_bad is = ended limits (restarted w d name number) d new lane.Worn result tt is
+  restarts_none {A = A} lane.Worn result goes gate does not_bad is =
+      ended limits (restarted w d name number) d new lane.Worn result
+      (worn_grown limits old new (restarted w d name number) d of (gates.worn_one {A = A} old new (lane.NoCheckpoint number old.keeping.checkpoints) IsReadFault lacks_rule gate (λ same. cc) (λ no. no))) is
   restarts_none {A = A} (lane.BadRecord n) result goes gate does not_bad is = absurd (told_in (λ _. ⊥) old.keeping.content of.content of.told not_bad)
   restarts_none {A = A} (lane.BadCheckpoint n f) result goes gate does not_bad is = absurd (told_in (λ _. ⊥) old.keeping.content of.content of.told not_bad)
   restarts_none {A = A} (lane.Full n) result goes gate does not_bad is = absurd (restarts_no {A = A} old new number (lane.Full n) gate (λ same. cc) (λ no. no) (λ same. cc) (λ no. no))
@@ -245,18 +242,18 @@ module _ (limits : Limits) (old new : Standing) (w : World) (d : Document) (name
 -- ---- ends
 
 -- the faults of a call that only enters
-pub entering_honest : (fault : LaneFault) → IsOutside fault → IsHonest (stop_of fault)
-entering_honest (lane.LogFailed note) may = tt
-entering_honest (lane.DeltaFailed note) may = tt
-entering_honest lane.NoMemory may = tt
-entering_honest lane.Worn may = tt
-entering_honest (lane.Full n) may = absurd may
-entering_honest (lane.BadRecord n) may = absurd may
-entering_honest (lane.NoCheckpoint n m) may = absurd may
-entering_honest lane.CheckpointsFull may = absurd may
-entering_honest lane.TooManyClients may = absurd may
-entering_honest (lane.BadCheckpoint n f) may = absurd may
-entering_honest (lane.TooLarge n) may = absurd may
+pub entering_honest : (steps : ℕ) (fault : LaneFault) → IsOutside fault → IsHonest steps (stop_of fault)
+entering_honest steps (lane.LogFailed note) may = tt
+entering_honest steps (lane.DeltaFailed note) may = tt
+entering_honest steps lane.NoMemory may = tt
+entering_honest steps lane.Worn may = absurd may
+entering_honest steps (lane.Full n) may = absurd may
+entering_honest steps (lane.BadRecord n) may = absurd may
+entering_honest steps (lane.NoCheckpoint n m) may = absurd may
+entering_honest steps lane.CheckpointsFull may = absurd may
+entering_honest steps lane.TooManyClients may = absurd may
+entering_honest steps (lane.BadCheckpoint n f) may = absurd may
+entering_honest steps (lane.TooLarge n) may = absurd may
 
 -- a fault of a call whose keeper's counts tell of it
 pub entering_ends : (old new : Standing) (fault : LaneFault) → IsOutside fault → IsCausedBy old.keeping.faults new.keeping.faults fault → LaneEnds old new (stop_of fault)
@@ -276,12 +273,12 @@ entering_ends old new (lane.TooLarge n) may cause = absurd may
 pub worn_ends : (old new : Standing) → (is_worn old ≡ true) × (new ≡ old) → LaneEnds old new (stop_of lane.Worn)
 worn_ends old new is = ap is_worn is.1 ∙ is.0
 
-pub unruled_honest : {A : Type 0} (old new : Standing) (fault : LaneFault) → IsGated {A = A} old new [] IsOutside (Err fault) → IsHonest (stop_of fault)
-unruled_honest {A = A} old new fault gate = by (is_worn old) refl
+pub unruled_honest : {A : Type 0} (steps : ℕ) (old new : Standing) (fault : LaneFault) → IsGated {A = A} old new [] IsOutside (Err fault) → ((is_worn old ≡ true) × (new ≡ old) → most ≤ steps + 1) → IsHonest steps (stop_of fault)
+unruled_honest {A = A} steps old new fault gate worn = by (is_worn old) refl
   where
-    by : (b : Bool) → is_worn old ≡ b → IsHonest (stop_of fault)
-    by true is = subst (λ f. IsHonest (stop_of f)) (sym (gates.same_fault {A = A} fault lane.Worn (gate.worn is).0)) tt
-    by false is = entering_honest fault (gate.refuses is)
+    by : (b : Bool) → is_worn old ≡ b → IsHonest steps (stop_of fault)
+    by true is = subst (λ f. IsHonest steps (stop_of f)) (sym (gates.same_fault {A = A} fault lane.Worn (gate.worn is).0)) (worn (is, (gate.worn is).1))
+    by false is = entering_honest steps fault (gate.refuses is)
 
 pub unruled_ends : {A : Type 0} (old new : Standing) (fault : LaneFault) → IsGated {A = A} old new [] IsOutside (Err fault) → IsCausedBy old.keeping.faults new.keeping.faults fault → LaneEnds old new (stop_of fault)
 unruled_ends {A = A} old new fault gate cause = by (is_worn old) refl
@@ -292,9 +289,10 @@ unruled_ends {A = A} old new fault gate cause = by (is_worn old) refl
     by false is = entering_ends old new fault (gate.refuses is) cause
 
 -- a sweep that failed
-pub unswept_honest : (moment : ℕ) (silent : Option (List ℕ)) (old new : Standing) (fault : LaneFault) → SweepsBy moment silent old new (Err fault) → IsHonest (stop_of fault)
-unswept_honest moment None old new fault does = absurd (err_ok fault None does.0)
-unswept_honest moment (Some id) old new fault does = unruled_honest old new fault does.gate
+pub unswept_honest : (limits : Limits) (e : Effect) (d : Document) (moment : ℕ) (silent : Option (List ℕ)) (old new : Standing) (fault : LaneFault) → IsLaneOf limits old d → SweepsBy moment silent old new (Err fault)
+    → IsHonest (steps_on (grown e d) new) (stop_of fault)
+unswept_honest limits e d moment None old new fault of does = absurd (err_ok fault None does.0)
+unswept_honest limits e d moment (Some id) old new fault of does = unruled_honest (steps_on (grown e d) new) old new fault does.gate (worn_grown limits old new e d of)
 
 pub unswept_ends : (moment : ℕ) (silent : Option (List ℕ)) (old new : Standing) (fault : LaneFault) → SweepsBy moment silent old new (Err fault) → LaneEnds old new (stop_of fault)
 unswept_ends moment None old new fault does = absurd (err_ok fault None does.0)

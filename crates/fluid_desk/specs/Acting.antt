@@ -11,13 +11,15 @@ use Rattle.fluid_lane.specs.declared.fault.LaneFault.TheVariants as lane
 use Rattle.fluid_lane.specs.Standing.{Standing}
 use Rattle.fluid_lanes.specs.Opened.{Opened}
 use Rattle.fluid_lanes.specs.Using.{Uses, IsOneTooMany}
-use Rattle.fluid_transcript.specs.World.{Document, Effect, grown, Told}
+use Rattle.fluid_voice.specs.Ends.{is_beyond}
+use Rattle.fluid_transcript.specs.World.{Document, World, Effect, grown, Told}
+use Rattle.fluid_transcript.specs.Transcript.{readied}
 use Rattle.fluid_transcript.specs.Lines as lines
 use Rattle.fluid_desk.specs.declared.lines.Numbers.{Numbers}
 use Rattle.fluid_desk.specs.declared.stop.Stop.{Stop}
 use Rattle.fluid_desk.specs.declared.stop.Stop.TheVariants.{NoMemory}
 use Rattle.fluid_desk.specs.Stands.{IsLaneOf, DeskStands}
-use Rattle.fluid_desk.specs.Stopping.{stop_of, IsHonest}
+use Rattle.fluid_desk.specs.Stopping.{stop_of, IsHonest, steps_on, MayStop}
 
 -- ---- lines
 
@@ -68,7 +70,7 @@ pub record Acts (limits : Limits) (e : Effect) (d : Document) (new : Standing) (
 
 abbrev pub ActDoes : Limits → Effect → Document → Standing → Result (List ℕ) Stop → Type 0
 ActDoes limits e d new (Ok line) = Acts limits e d new line
-ActDoes limits e d new (Err stop) = IsHonest stop
+ActDoes limits e d new (Err stop) = IsHonest (steps_on (grown e d) new) stop
 
 -- ---- on a desk
 
@@ -79,7 +81,12 @@ pub record Done (told : Told) (o : Opened) (line : List ℕ) : Type 0 where
 
 abbrev pub DeskDoes : Told → Opened → Result (List ℕ) Stop → Type 0
 DeskDoes told o (Ok line) = Done told o line
-DeskDoes told o (Err stop) = IsHonest stop
+DeskDoes told o (Err stop) = MayStop told.world o stop
+
+-- a document wasn't opened, though it isn't one too many
+pub record IsUnready (w : World) (name : List ℕ) (o : Opened) (stop : Stop) : Type 0 where
+  pub within : is_beyond w.opened name ≡ false
+  pub may : MayStop (readied w name) o stop
 
 -- a document is open then, or as many as may be are and it isn't one
 abbrev pub IsReadied : (name : List ℕ) → (moment : ℕ) → Opened → Opened → Bool → Type 0

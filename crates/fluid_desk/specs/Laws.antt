@@ -16,4 +16,4 @@ DesksComeBack = (o : Opened) (w : World) (s : Shelving) → DeskStands o w → C
 
 -- a keeper's fault that ended a run is in the count of the shelves that come back: it rose since the run began
 abbrev pub FaultsAreCounted : Type 0
-FaultsAreCounted = (before : ℕ) (o : Opened) (note : FaultNote) (s : Shelving) → StopsFor before o (KeeperFault note) → Closes o s → Rose before s.faults
+FaultsAreCounted = (before steps : ℕ) (o : Opened) (note : FaultNote) (s : Shelving) → StopsFor before steps o (KeeperFault note) → Closes o s → Rose before s.faults

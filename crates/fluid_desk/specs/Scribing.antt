@@ -1,5 +1,5 @@
 -- What the step of the scribe owes.
-use Rattle.std.specs.Prelude.{◌≡◌, ◌≤◌, ℕ, ⊤, Bool, List, [], ◌∷◌, ◌++◌, Some, Result, Ok, Err, unwrap_or}
+use Rattle.std.specs.Prelude.{◌≡◌, ◌≤◌, ◌+◌, ℕ, ⊤, Bool, List, [], ◌∷◌, ◌++◌, Some, Result, Ok, Err, unwrap_or}
 use Rattle.std.specs.Option.{option_map_or}
 use Rattle.fluid_json.specs.Tree as json
 use Rattle.fluid_json.specs.Tree.{Tree, as_text}
@@ -20,13 +20,13 @@ use Rattle.fluid_store.specs.declared.fault.StoreFault.{StoreFault}
 use Rattle.fluid_store.specs.declared.fault.StoreFault.TheVariants as store
 use Rattle.fluid_lane.specs.Standing.{Standing}
 use Rattle.fluid_lanes.specs.Opened.{Opened}
-use Rattle.fluid_transcript.specs.World.{Document, Effect, ledger_of, Told}
+use Rattle.fluid_transcript.specs.World.{Document, Effect, grown, ledger_of, Told}
 use Rattle.fluid_transcript.specs.Lines as lines
 use Rattle.fluid_desk.specs.declared.stop.Stop.{Stop}
 use Rattle.fluid_desk.specs.declared.stop.Stop.TheVariants.{StoreFault as StoreFailed, BadStored, NoMemory}
 use Rattle.fluid_desk.specs.declared.stop.StoredFault.TheVariants.{Object}
 use Rattle.fluid_desk.specs.Stands.{IsLaneOf, StoreStands}
-use Rattle.fluid_desk.specs.Stopping.{IsHonest, LaneEnds, HasRun, EndsFor}
+use Rattle.fluid_desk.specs.Stopping.{IsHonest, steps_on, MayStop, LaneEnds, AreFew, HasRun, EndsFor}
 use Rattle.fluid_desk.specs.Acting.{IsLine, Acts, Done}
 
 -- ---- lines
@@ -61,7 +61,7 @@ pub record ActsWith (limits : Limits) (e : Effect) (d : Document) (new : Standin
 
 abbrev pub ActDoesWith : Limits → Effect → Document → Standing → Storing → Result (List ℕ) Stop → Type 0
 ActDoesWith limits e d new store (Ok line) = ActsWith limits e d new store line
-ActDoesWith limits e d new store (Err stop) = IsHonest stop
+ActDoesWith limits e d new store (Err stop) = IsHonest (steps_on (grown e d) new) stop
 
 -- why it ends the script: the store's count rose, or as for any other call on a lane
 abbrev pub EndsWith : (old new : Standing) → (before now : Storing) → Stop → Type 0
@@ -75,6 +75,7 @@ EndsWithBy old new before now (Err stop) = EndsWith old new before now stop
 
 pub record LaneRunsWith {A : Type 0} (old new : Standing) (before now : Storing) (result : Result A Stop) : Type 0 where
   pub later : old.keeping.faults ≤ new.keeping.faults
+  pub sides : new.sides ≤ old.sides + 1
   pub counts : before.faults ≤ now.faults
   pub ends : EndsWithBy old new before now result
 
@@ -85,7 +86,7 @@ pub record HasConcluded (limits : Limits) (d : Document) (name : List ℕ) (summ
 
 abbrev pub Concludes : Limits → Document → (name : List ℕ) → (summary : ℕ) → Bool → (moment : ℕ) → Standing → Result (List ℕ) Stop → Type 0
 Concludes limits d name summary found moment new (Ok line) = HasConcluded limits d name summary found moment new line
-Concludes limits d name summary found moment new (Err stop) = IsHonest stop
+Concludes limits d name summary found moment new (Err stop) = IsHonest (steps_on d new) stop
 
 -- ---- on a desk
 
@@ -95,18 +96,19 @@ pub record DoneWith (told : Told) (o : Opened) (store : Storing) (line : List �
 
 abbrev pub DeskDoesWith : Told → Opened → Storing → Result (List ℕ) Stop → Type 0
 DeskDoesWith told o store (Ok line) = DoneWith told o store line
-DeskDoesWith told o store (Err stop) = IsHonest stop
+DeskDoesWith told o store (Err stop) = MayStop told.world o stop
 
 -- why a step that uses the store ends the script
 abbrev pub EndsForWith : ℕ → (before now : Storing) → Opened → Stop → Type 0
 EndsForWith first before now o (StoreFailed note) = IsNoted before now note
 EndsForWith first before now o stop = EndsFor first o stop
 
-pub record StopsForWith (first : ℕ) (before : Storing) (o : Opened) (now : Storing) (stop : Stop) : Type 0 where
+pub record StopsForWith (first steps : ℕ) (before : Storing) (o : Opened) (now : Storing) (stop : Stop) : Type 0 where
   pub shelves : first ≤ o.shelving.faults
+  pub few : AreFew steps o
   pub ends : EndsForWith first before now o stop
 
--- a step in a run whose shelves had counted so many faults when it began
-abbrev pub RunsWith : {A : Type 0} → ℕ → (before : Storing) → Opened → (now : Storing) → Result A Stop → Type 0
-RunsWith first before o now (Ok a) = HasRun first o
-RunsWith first before o now (Err stop) = StopsForWith first before o now stop
+-- the last of so many steps in a run whose shelves had counted so many faults when it began
+abbrev pub RunsWith : {A : Type 0} → (first steps : ℕ) → (before : Storing) → Opened → (now : Storing) → Result A Stop → Type 0
+RunsWith first steps before o now (Ok a) = HasRun first steps o
+RunsWith first steps before o now (Err stop) = StopsForWith first steps before o now stop

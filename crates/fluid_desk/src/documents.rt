@@ -1,6 +1,6 @@
 //! The steps on a document. Each opens its document at its first use, at a moment that is the number of its line, and gives the line
 //! that is written for it, without its end, or says why the script ends there.
-ghost use Rattle.std.specs.Prelude.{◌≡◌, ◌≤◌, ℕ};
+ghost use Rattle.std.specs.Prelude.{◌≡◌, ◌≤◌, ◌+◌, ℕ};
 ghost use Rattle.fluid_document.specs.Entries.{most};
 ghost use Rattle.fluid_steps.specs.declared.steps.Step.TheVariants as step;
 ghost use Rattle.fluid_transcript.specs.World.{World};
@@ -14,6 +14,7 @@ use crate::first_use::{ready, turned_away};
 use crate::lines::{reopened_line, told, turned_away_line};
 use crate::stop::Stop;
 use crate::{on_lane, scribing};
+use fluid_document::kept_is_loaded;
 use fluid_json::Text;
 use fluid_lanes::Lanes;
 use fluid_log::Shelves;
@@ -32,7 +33,7 @@ where
     B::K: Drop,
     requires moment { moment ≤ most }
     ensures does { (w : World) → DeskStands lanes.old w → w.moment ≡ moment → DeskDoes (done lanes.old.limits w (step.Count name.now)) lanes.new result }
-    ensures runs { (before : ℕ) → HasRun before lanes.old → RunsOn before lanes.new result }
+    ensures runs { (before steps : ℕ) → HasRun before steps lanes.old → RunsOn before (steps + 1) lanes.new result }
     ensures limits { lanes.new.limits ≡ lanes.old.limits }
 {
     match ready(alloc, lanes, name, moment) {
@@ -53,7 +54,7 @@ where
     B::K: Drop,
     requires moment { moment ≤ most }
     ensures does { (w : World) → DeskStands lanes.old w → w.moment ≡ moment → DeskDoes (done lanes.old.limits w (step.Checkpoint name.now)) lanes.new result }
-    ensures runs { (before : ℕ) → HasRun before lanes.old → RunsOn before lanes.new result }
+    ensures runs { (before steps : ℕ) → HasRun before steps lanes.old → RunsOn before (steps + 1) lanes.new result }
     ensures limits { lanes.new.limits ≡ lanes.old.limits }
 {
     match ready(alloc, lanes, name, moment) {
@@ -75,7 +76,7 @@ where
     B::K: Drop,
     requires moment { moment ≤ most }
     ensures does { (w : World) → DeskStands lanes.old w → w.moment ≡ moment → DeskDoes (done lanes.old.limits w (step.Restart name.now number)) lanes.new result }
-    ensures runs { (before : ℕ) → HasRun before lanes.old → RunsOn before lanes.new result }
+    ensures runs { (before steps : ℕ) → HasRun before steps lanes.old → RunsOn before (steps + 1) lanes.new result }
     ensures limits { lanes.new.limits ≡ lanes.old.limits }
 {
     match ready(alloc, lanes, name, moment) {
@@ -97,7 +98,7 @@ where
     B::K: Drop,
     requires moment { moment ≤ most }
     ensures does { (w : World) → DeskStands lanes.old w → w.moment ≡ moment → DeskDoes (done lanes.old.limits w (step.Sweep name.now silence)) lanes.new result }
-    ensures runs { (before : ℕ) → HasRun before lanes.old → RunsOn before lanes.new result }
+    ensures runs { (before steps : ℕ) → HasRun before steps lanes.old → RunsOn before (steps + 1) lanes.new result }
     ensures limits { lanes.new.limits ≡ lanes.old.limits }
 {
     match ready(alloc, lanes, name, moment) {
@@ -121,7 +122,7 @@ where
     requires moment { moment ≤ most }
     ensures does { (w : World) → DeskStands lanes.old w → StoreStands (O.seen objects.old) w → w.moment ≡ moment →
         DeskDoesWith (done lanes.old.limits w (step.Scribe name.now)) lanes.new (O.seen objects.new) result }
-    ensures runs { (before : ℕ) → HasRun before lanes.old → RunsWith before (O.seen objects.old) lanes.new (O.seen objects.new) result }
+    ensures runs { (before steps : ℕ) → HasRun before steps lanes.old → RunsWith before (steps + 1) (O.seen objects.old) lanes.new (O.seen objects.new) result }
     ensures limits { lanes.new.limits ≡ lanes.old.limits }
     ensures counts { (O.seen objects.old).faults ≤ (O.seen objects.new).faults }
 {
@@ -143,9 +144,10 @@ where
     B::K: Drop,
     requires moment { moment ≤ most }
     ensures does { (w : World) → DeskStands lanes.old w → w.moment ≡ moment → DeskDoes (done lanes.old.limits w (step.Reopen name.now)) lanes.new result }
-    ensures runs { (before : ℕ) → HasRun before lanes.old → RunsOn before lanes.new result }
+    ensures runs { (before steps : ℕ) → HasRun before steps lanes.old → RunsOn before (steps + 1) lanes.new result }
     ensures limits { lanes.new.limits ≡ lanes.old.limits }
 {
+    kept_is_loaded();
     match lanes.reopen(alloc, name, moment) {
         Ok(()) => told(reopened_line(alloc, name, on_lane::numbers_of(lanes.lent(name)))),
         Err(fault) => match turned_away(fault) {

@@ -3,10 +3,11 @@ ghost use Rattle.std.specs.Prelude.{◌≡◌, ◌≤◌, ℕ, IfOk, IfErr};
 ghost use Rattle.fluid_document.specs.Entries.{most};
 ghost use Rattle.fluid_transcript.specs.World.{World};
 ghost use Rattle.fluid_desk.specs.Stands.{DeskStands};
-ghost use Rattle.fluid_desk.specs.Stopping.{IsHonest, HasRun, RunsOn, turned_by};
-ghost use Rattle.fluid_desk.specs.Acting.{IsReadied};
+ghost use Rattle.fluid_desk.specs.Stopping.{HasRun, RunsOn, turned_by};
+ghost use Rattle.fluid_desk.specs.Acting.{IsReadied, IsUnready};
 
 use crate::stop::{Stop, stop_of};
+use fluid_document::kept_is_loaded;
 use fluid_lanes::Lanes;
 use fluid_log::Shelves;
 use fluid_opening::DoorFault;
@@ -24,10 +25,11 @@ where
     B::K: Drop,
     requires moment { moment ≤ most }
     ensures readied { IfOk result (IsReadied name.now moment lanes.old lanes.new) }
-    ensures honest { (w : World) → DeskStands lanes.old w → IfErr result IsHonest }
-    ensures runs { (before : ℕ) → HasRun before lanes.old → RunsOn before lanes.new result }
+    ensures honest { (w : World) → DeskStands lanes.old w → IfErr result (IsUnready w name.now lanes.new) }
+    ensures runs { (before steps : ℕ) → HasRun before steps lanes.old → RunsOn before steps lanes.new result }
     ensures limits { lanes.new.limits ≡ lanes.old.limits }
 {
+    kept_is_loaded();
     match lanes.open(alloc, name, moment) {
         Ok(()) => Ok(true),
         Err(fault) => match turned_away(fault) {

@@ -1,5 +1,5 @@
 -- A submission that is entered by a lane, or isn't.
-use Rattle.std.proofs.Common.{◌≡◌, ◌⊎◌, inl, inr, ℕ, Bool, true, false, [], ◌∷◌, Option, Some, None, IfSome, Result, Ok, Err, refl, sym, subst}
+use Rattle.std.proofs.Common.{◌≡◌, ◌⊎◌, inl, inr, ℕ, arith, Bool, true, false, [], ◌∷◌, Option, Some, None, IfSome, Result, Ok, Err, refl, sym, subst}
 use Rattle.fluid_types.specs.declared.entries.Raw.{Raw}
 use Rattle.fluid_types.specs.declared.verdicts.Verdict.{Verdict}
 use Rattle.fluid_store.specs.Storing.{Storing}
@@ -18,7 +18,7 @@ use Rattle.fluid_door_link.specs.Coursing.{Along, IsAlong}
 use Rattle.fluid_door_link.specs.Linking.{EntersBy, answer_of_lane}
 use Rattle.fluid_door_link.specs.Telling.{told_by}
 use Rattle.fluid_door_link.proofs.Told.{same_told, added, full_both}
-use Rattle.fluid_door_link.proofs.Walked.{known, went_lane}
+use Rattle.fluid_door_link.proofs.Walked.{HasAsides, known, went_lane}
 
 same_fault : (a b : LaneFault) → ◌≡◌ {A = Result Verdict LaneFault} (Err a) (Err b) → a ≡ b
 same_fault a b same = cc
@@ -105,6 +105,20 @@ honest_kept CheckpointsFull = tt
 honest_kept (BadCheckpoint n f) = tt
 honest_kept (TooLarge n) = tt
 
+-- and of side steps
+kept_asides : (fault : LaneFault) → HasAsides (kept_of_lane fault) (fault_steps fault)
+kept_asides (LogFailed note) = omega arith
+kept_asides (DeltaFailed note) = omega arith
+kept_asides Worn = omega arith
+kept_asides NoMemory = refl
+kept_asides (Full n) = refl
+kept_asides TooManyClients = omega arith
+kept_asides (BadRecord n) = omega arith
+kept_asides (NoCheckpoint k n) = omega arith
+kept_asides CheckpointsFull = omega arith
+kept_asides (BadCheckpoint n f) = omega arith
+kept_asides (TooLarge n) = omega arith
+
 -- behind an answer that isn't kept no cut is owed
 level_by : (old new : Standing) (raw : Raw) (fault : LaneFault) → Enters {A = Verdict} raw old new (Err fault) → kept_of_lane fault ≡ None → new.owed ≡ false
 level_by old new raw (LogFailed note) enters none = absurd (none_kept (Lane (LogFailed note)) none)
@@ -155,9 +169,9 @@ module _ (old new : Standing) (raw : Raw) where
   full_only n (inr (inl full)) = full.0
   full_only n (inr (inr out)) = absurd out
 
-module _ (good : Bool) (began : Standing) (before : Storing) (at : Along) (along : IsAlong good began before at) (raw : Raw) (new : Standing) where
+module _ (good : Bool) (began : Standing) (before : Storing) (at : Along) (along : IsAlong good began before at) (still : at.stop ≡ None) (raw : Raw) (new : Standing) where
   pub entered_along : (v : Verdict) → Goes at.lane new (Entered raw v ∷ []) → Enters {A = Verdict} raw at.lane new (Ok v) → IsAlong good began before (record { lane = new; store = at.store; stop = None })
-  entered_along v goes enters = went_lane good began before at along new (Entered raw v ∷ []) None goes refl (λ none is. enters.owes) (λ is. tt) tt
+  entered_along v goes enters = went_lane good began before at along still new (Entered raw v ∷ []) None goes refl refl (λ none is. enters.owes) (λ is. tt) tt
 
   pub entered_told : (v : Verdict) → Goes at.lane new (Entered raw v ∷ []) → IsGated {A = Verdict} at.lane new (is_full_for at.lane raw ∷ []) IsOutside (Ok v)
       → EntersBy raw (told_by good at.lane at.store) (told_by good new at.store) (Ok (Some v))
@@ -167,7 +181,7 @@ module _ (good : Bool) (began : Standing) (before : Storing) (at : Along) (along
     pub unentered_along : IsGated {A = Verdict} at.lane new (is_full_for at.lane raw ∷ []) IsOutside (Err fault) → Enters {A = Verdict} raw at.lane new (Err fault)
         → IsAlong good began before (record { lane = new; store = at.store; stop = kept_of_lane fault })
     unentered_along gate enters =
-        went_lane good began before at along new (fault_steps fault) (kept_of_lane fault) goes (none_stored fault) (λ none is. level_by at.lane new raw fault enters none)
+        went_lane good began before at along still new (fault_steps fault) (kept_of_lane fault) goes (none_stored fault) (kept_asides fault) (λ none is. level_by at.lane new raw fault enters none)
         (λ is. honest_kept fault) (fails_by at.lane new raw fault (why at.lane new raw fault gate) enters at.store)
 
     same : told_by good new at.store ≡ told_by good at.lane at.store

@@ -20,7 +20,7 @@ use Rattle.fluid_door_link.specs.Coursing.{Along, IsAlong}
 use Rattle.fluid_door_link.specs.Linking.{ReadsBy}
 use Rattle.fluid_door_link.specs.Telling.{told_by}
 use Rattle.fluid_door_link.proofs.Told.{IsKnown, document_of, says, told_of, told_at, same_told, seq_is}
-use Rattle.fluid_door_link.proofs.Walked.{known, went_lane}
+use Rattle.fluid_door_link.proofs.Walked.{HasAsides, known, went_lane}
 
 -- ---- the messages behind a number
 
@@ -109,7 +109,7 @@ module _ {V : Type 0} (messages : V → List Message) (good : Bool) (began : Sta
       → (is_worn at.lane ≡ false → Ranges messages from to at.lane new (Ok v)) → IsAlong good began before (record { lane = new; store = at.store; stop = None })
   read_along v goes worn ranges =
       let open_ = unworn at.lane new v worn in
-      went_lane good began before at along new [] None goes refl (λ still is. (ranges open_).same.1.1 ∙ along.level none is) (λ is. tt) tt
+      went_lane good began before at along none new [] None goes refl refl (λ still is. (ranges open_).same.1.1 ∙ along.level none is) (λ is. tt) tt
 
   pub read_told : (v : V) → Goes at.lane new [] → (is_worn at.lane ≡ true → (◌≡◌ {A = Result V DeltaFault} (Ok v) (Err Worn)) × (new ≡ at.lane))
       → (is_worn at.lane ≡ false → Ranges messages from to at.lane new (Ok v))
@@ -176,6 +176,13 @@ module _ {V : Type 0} (messages : V → List Message) (old new : Standing) (from
   unread_honest Worn worn slices known = tt
   unread_honest NoMemory worn slices known = tt
 
+-- of side steps
+kept_asides : (fault : DeltaFault) → HasAsides (kept_of_deltas fault) (delta_steps fault)
+kept_asides (DeltaFailed note) = omega arith
+kept_asides (BadDelta number) = omega arith
+kept_asides Worn = omega arith
+kept_asides NoMemory = refl
+
 module _ {V : Type 0} (messages : V → List Message) (good : Bool) (began : Standing) (before : Storing) (at : Along) (along : IsAlong good began before at) (none : at.stop ≡ None) (new : Standing) (from to : ℕ)
     (fault : DeltaFault) (goes : Goes at.lane new (delta_steps fault)) (worn : Worns messages at.lane new from to fault) (ranges : Ranging messages at.lane new from to fault) (slices : Slicing messages at.lane new from to fault) where
   owes_same : new.owed ≡ at.lane.owed
@@ -187,7 +194,7 @@ module _ {V : Type 0} (messages : V → List Message) (good : Bool) (began : Sta
 
   pub unread_along : IsAlong good began before (record { lane = new; store = at.store; stop = kept_of_deltas fault })
   unread_along =
-      went_lane good began before at along new (delta_steps fault) (kept_of_deltas fault) goes (none_stored fault) (λ still is. owes_same ∙ along.level none is)
+      went_lane good began before at along none new (delta_steps fault) (kept_of_deltas fault) goes (none_stored fault) (kept_asides fault) (λ still is. owes_same ∙ along.level none is)
       (λ is. unread_honest messages at.lane new from to fault worn slices (known good began before at along is))
       (unread_cause messages at.lane new from to fault goes worn ranges slices at.store)
 

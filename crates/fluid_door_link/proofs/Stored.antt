@@ -1,5 +1,5 @@
 -- Calls on a store that is lent.
-use Rattle.std.proofs.Common.{◌≡◌, ◌⊎◌, inl, inr, ℕ, arith, Bool, true, false, List, [], ◌++◌, Option, Some, None, is_some, IfSome, option_map, Result, Ok, Err, IfOk, refl, sym, ap, subst, ◌∙◌, append-nil}
+use Rattle.std.proofs.Common.{◌≡◌, inl, inr, ℕ, arith, Bool, true, false, List, [], ◌++◌, Option, Some, None, is_some, IfSome, option_map, Result, Ok, Err, IfOk, refl, sym, ap, subst, ◌∙◌, append-nil}
 use Rattle.std.specs.FinMap.{get}
 use Rattle.fluid_io.specs.Causes.{Rose, Tells}
 use Rattle.fluid_io.specs.declared.faults.FaultNote.{FaultNote}

@@ -10,13 +10,13 @@ use Rattle.fluid_store.specs.declared.fault.StoreFault.TheVariants as stores
 use Rattle.fluid_lane.specs.declared.fault.LaneFault.{LaneFault}
 use Rattle.fluid_lane.specs.declared.fault.LaneFault.TheVariants as lanes
 use Rattle.fluid_lane.specs.declared.steps.Step.{Step}
-use Rattle.fluid_lane.specs.Steps.{stored}
+use Rattle.fluid_lane.specs.Steps.{asides, stored}
 use Rattle.fluid_lane.specs.Standing.{Standing, Goes}
 use Rattle.fluid_lane.proofs.Stands.{goes_nowhere}
 use Rattle.fluid_door_link.specs.declared.fault.LentFault.{LentFault}
 use Rattle.fluid_door_link.specs.declared.fault.LentFault.TheVariants.{Lane, Deltas, Store}
 use Rattle.fluid_door_link.specs.Failing.{LaneFails, DeltasFail, StoreFails, HasCause, IsHonest, IsNoRefusal}
-use Rattle.fluid_door_link.specs.Coursing.{HasStood, Along, IsAlong}
+use Rattle.fluid_door_link.specs.Coursing.{HasStood, Along, AddsAside, IsAlong}
 use Rattle.fluid_door_link.proofs.Going.{gone_on}
 use Rattle.fluid_door_link.proofs.Told.{IsKnown, some_there}
 
@@ -65,6 +65,21 @@ causes_since : (began lane new : Standing) (first before now : Storing) → bega
 causes_since began lane new first before now later le None is = tt
 causes_since began lane new first before now later le (Some fault) is = cause_since began lane new first before now later le fault is
 
+-- ---- side steps
+
+-- a call that failed added no more than one, and any other none
+abbrev pub HasAsides : Option LentFault → List Step → Type 0
+HasAsides None added = asides added ≡ 0
+HasAsides (Some fault) added = asides added ≤ 1
+
+no_asides : (stop : Option LentFault) → HasAsides stop []
+no_asides None = refl
+no_asides (Some fault) = omega arith
+
+aside_on : (stop : Option LentFault) (began lane new : Standing) (added : List Step) → lane.sides ≤ began.sides → Goes lane new added → HasAsides stop added → AddsAside stop began new
+aside_on None began lane new added before goes few = omega (arith, before, goes.sides, few)
+aside_on (Some fault) began lane new added before goes few = omega (arith, before, goes.sides, few)
+
 -- ---- as they are lent
 
 pub begins : (good : Bool) (lane began : Standing) (store before : Storing) → lane ≡ began → store ≡ before → (good ≡ true → HasStood began)
@@ -73,6 +88,7 @@ begins good lane began store before same held stood =
     subst (λ s. IsAlong good began before (record { lane = s; store = store; stop = None })) (sym same)
     (subst (λ o. IsAlong good began before (record { lane = began; store = o; stop = None })) (sym held) (record {
       gone = record { added = []; goes = goes_nowhere began; unstored = refl };
+      sides = omega arith;
       counts = omega arith;
       tells = refl;
       stood = stood;
@@ -91,11 +107,12 @@ module _ (good : Bool) (began : Standing) (before : Storing) (at : Along) (along
       let there = some_there at.lane.keeping.content (along.gone.goes.told ∙ stood.told) in
       record { list = stood.list ++ along.gone.added; stands = along.gone.goes.list stood.list stood.stands; content = there.0; told = there.1 }
 
-  pub went : (new : Standing) (added : List Step) (now : Storing) (stop : Option LentFault) → Goes at.lane new added → stored added ≡ 0 → at.store.faults ≤ now.faults
+  pub went : at.stop ≡ None → (new : Standing) (added : List Step) (now : Storing) (stop : Option LentFault) → Goes at.lane new added → stored added ≡ 0 → HasAsides stop added → at.store.faults ≤ now.faults
       → is_some now.content ≡ is_some at.store.content → (stop ≡ None → good ≡ true → new.owed ≡ false) → (good ≡ true → IfSome stop IsHonest)
       → IfSome stop (HasCause at.lane new at.store now) → IsAlong good began before (record { lane = new; store = now; stop = stop })
-  went new added now stop goes none later tells level honest cause = record {
+  went still new added now stop goes none few later tells level honest cause = record {
     gone = gone_on began at.lane new added along.gone goes none;
+    sides = aside_on stop began at.lane new added (subst (λ s. AddsAside s began at.lane) still along.sides) goes few;
     counts = omega (arith, along.counts, later);
     tells = tells ∙ along.tells;
     stood = along.stood;
@@ -107,12 +124,12 @@ module _ (good : Bool) (began : Standing) (before : Storing) (at : Along) (along
   -- the store alone went on
   pub went_store : at.stop ≡ None → (now : Storing) (stop : Option LentFault) → at.store.faults ≤ now.faults → is_some now.content ≡ is_some at.store.content → (good ≡ true → IfSome stop IsHonest)
       → IfSome stop (HasCause at.lane at.lane at.store now) → IsAlong good began before (record { lane = at.lane; store = now; stop = stop })
-  went_store none now stop later tells honest cause = went at.lane [] now stop (goes_nowhere at.lane) refl later tells (λ still is. along.level none is) honest cause
+  went_store none now stop later tells honest cause = went none at.lane [] now stop (goes_nowhere at.lane) refl (no_asides stop) later tells (λ still is. along.level none is) honest cause
 
   -- the lane alone did
-  pub went_lane : (new : Standing) (added : List Step) (stop : Option LentFault) → Goes at.lane new added → stored added ≡ 0 → (stop ≡ None → good ≡ true → new.owed ≡ false) → (good ≡ true → IfSome stop IsHonest)
+  pub went_lane : at.stop ≡ None → (new : Standing) (added : List Step) (stop : Option LentFault) → Goes at.lane new added → stored added ≡ 0 → HasAsides stop added → (stop ≡ None → good ≡ true → new.owed ≡ false) → (good ≡ true → IfSome stop IsHonest)
       → IfSome stop (HasCause at.lane new at.store at.store) → IsAlong good began before (record { lane = new; store = at.store; stop = stop })
-  went_lane new added stop goes none level honest cause = went new added at.store stop goes none (omega arith) refl level honest cause
+  went_lane still new added stop goes none few level honest cause = went still new added at.store stop goes none few (omega arith) refl level honest cause
 
 -- ---- as a course keeps it
 

@@ -1,5 +1,5 @@
 -- What became of a lane and a store since they were lent.
-use Rattle.std.specs.Prelude.{◌≡◌, ◌≤◌, Bool, true, false, List, Option, None, is_some, IfSome, refl}
+use Rattle.std.specs.Prelude.{◌≡◌, ◌≤◌, ◌+◌, Bool, true, false, List, Option, Some, None, is_some, IfSome, refl}
 use Rattle.std.specs.Coded.{Coded, code_by, coded×, coded_option}
 use Rattle.fluid_store.specs.Storing.{Storing}
 use Rattle.fluid_lane.specs.Codes.{standing_code}
@@ -35,9 +35,15 @@ along_code =
     code_by (Standing × (Storing × Option LentFault)) (coded× standing_code (coded× storing_code (coded_option faults.the_row.coded))) (λ a. (a.lane, (a.store, a.stop)))
     (λ p. record { lane = p.0; store = p.1.0; stop = p.1.1 }) (λ _. refl)
 
+-- a side step is added only by a call that failed, and no more than one
+abbrev pub AddsAside : Option LentFault → (began now : Standing) → Type 0
+AddsAside None began now = now.sides ≤ began.sides
+AddsAside (Some fault) began now = now.sides ≤ began.sides + 1
+
 -- what became of them, where `good` says that the lane stood for a list as it was lent
 pub record IsAlong (good : Bool) (began : Standing) (before : Storing) (a : Along) : Type 0 where
   pub gone : HasGone began a.lane
+  pub sides : AddsAside a.stop began a.lane
   pub counts : before.faults ≤ a.store.faults
   pub tells : is_some a.store.content ≡ is_some before.content
   pub stood : good ≡ true → HasStood began

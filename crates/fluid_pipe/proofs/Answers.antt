@@ -12,11 +12,10 @@ use Rattle.fluid_io.specs.declared.line.Line.{Line}
 use Rattle.fluid_io.specs.declared.line.Line.TheVariants as given
 use Rattle.fluid_io.specs.declared.line.LineFault.{LineFault}
 use Rattle.fluid_io.specs.declared.line.LineFault.TheVariants as line
-use Rattle.fluid_pipe.specs.declared.refusal.Refusal.{Refusal}
 use Rattle.fluid_pipe.specs.declared.refusal.Refusal.TheVariants.{TooLong, NotUtf8, TooManyLines, Text}
 use Rattle.fluid_pipe.specs.Meaning.{Meaning, Accepts, refusal, first_of, answer_refusal}
 use Rattle.fluid_pipe.specs.Taking.{TakesText}
-use Rattle.fluid_pipe.specs.Progress.{Reached, RefusesLine, TakesLine}
+use Rattle.fluid_pipe.specs.Progress.{Reached, RefusesLine, FailsLine, TakesLine}
 
 -- the answer for a line, by what it is
 abbrev line_answer_by : Bool → Bool → Bool → ℕ → List ℕ → Result Line LineFault
@@ -202,3 +201,10 @@ refuses_line m Keeps Kept before gone r r' waiting told t why reached a after re
       refused = g.by_text ∙ ap (option_map Text) refused;
       keeps = kept;
     }
+
+pub fails_line : {W : Type 0} (m : Meaning W) (Keeps Fails : List (List ℕ) → Type 0) (before : List (List ℕ)) (gone : List ℕ) (r : Reader) (waiting : List ℕ)
+    (told : Option (List ℕ)) (t : List ℕ) → Reached m Keeps before gone r waiting → AnswersBytes r told (Ok (given.Text t)) →
+    Fails (before ++ t ∷ []) → FailsLine Fails before told
+fails_line m Keeps Fails before gone r waiting told t reached a fails =
+    let g = given_line m Keeps before gone r waiting told t reached a in
+    record { bytes = g.bytes; told = g.are_told; line = t; behind = g.behind; split = g.split; fails = fails }

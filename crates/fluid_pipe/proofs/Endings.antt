@@ -1,5 +1,5 @@
 -- What is owed where a run ends, and what was written when it is handed on.
-use Rattle.std.proofs.Common.{◌≡◌, ℕ, ◌+◌, Bool, true, false, List, [], ◌∷◌, ◌++◌, length, refl, sym, ◌∙◌, ap, append-nil, append_assoc, Option, None, Some, Result, Ok, Err, inl, inr, subst, ◌⊎◌, arith}
+use Rattle.std.proofs.Common.{◌≡◌, ℕ, Bool, true, false, List, [], ◌∷◌, ◌++◌, refl, sym, ◌∙◌, ap, append-nil, append_assoc, Option, None, Some, Result, Ok, Err, inl, inr, subst, ◌⊎◌, arith}
 use Rattle.std.specs.Option.{option_map}
 use Rattle.std.specs.Str.Lines.{lines}
 use Rattle.fluid_io.specs.Causes.{Rose, Tells}
@@ -10,8 +10,8 @@ use Rattle.fluid_pipe.specs.declared.refusal.Refusal.{Refusal}
 use Rattle.fluid_pipe.specs.declared.stop.Stop.{Stop}
 use Rattle.fluid_pipe.specs.declared.stop.Stop.TheVariants as stop
 use Rattle.fluid_pipe.specs.Meaning.{Meaning, Accepts, bad_line}
-use Rattle.fluid_pipe.specs.Output.{IsWhole, IsRefused, IsRefusedFor, IsBegun, IsInterrupted, IsCut, NoFault, TookAll, TookBefore, Wrote, Finished, HasEndCause, HasFailed}
-use Rattle.fluid_pipe.specs.Progress.{IsWritten, RefusesLine, EndsInput, Steps, Progress, ReadsQuietly, HandsOn, Owes, Ends, Settled, has_write_fault}
+use Rattle.fluid_pipe.specs.Output.{IsWhole, IsRefused, IsRefusedFor, IsBegun, IsInterrupted, IsCut, NoFault, TookAll, FailedAt, Wrote, Finished, HasEndCause, HasFailed}
+use Rattle.fluid_pipe.specs.Progress.{IsWritten, RefusesLine, FailsLine, EndsInput, Steps, Progress, ReadsQuietly, HandsOn, Owes, Ends, Settled, has_write_fault}
 use Rattle.fluid_pipe.proofs.Advances.{appends-both, none-left}
 use Rattle.fluid_pipe.proofs.WholeLines.{cut-off, begun-cut}
 
@@ -66,6 +66,15 @@ took-first : (r : Reader) (s : Reading) (before : List (List ℕ)) (left : Optio
     option_map lines left ≡ option_map (λ more. before ++ more) (lines_ahead r s) → Tells left (λ bytes. (behind : List (List ℕ)) × (lines bytes ≡ before ++ behind))
 took-first r s before None split = tt
 took-first r s before (Some bytes) split = let known = rest_of bytes (ahead r s) before split in (lines known.rest, known.split)
+
+first-with : (r : Reader) (s : Reading) (before : List (List ℕ)) (left : Option (List ℕ)) →
+    option_map lines left ≡ option_map (λ more. before ++ more) (lines_ahead r s) → (bytes line : List ℕ) (behind : List (List ℕ)) → Tells (ahead r s) (λ known. known ≡ bytes) → lines bytes ≡ line ∷ behind →
+    Tells left (λ bytes. (behind : List (List ℕ)) × (lines bytes ≡ (before ++ line ∷ []) ++ behind))
+first-with r s before None split bytes line behind told is = tt
+first-with r s before (Some all) split bytes line behind told is =
+    let known = rest_of all (ahead r s) before split in
+    let same : known.rest ≡ bytes = told-is (λ known. known ≡ bytes) (ahead r s) known.rest told known.is in
+    (behind, known.split ∙ ap (λ rest. before ++ lines rest) same ∙ ap (λ more. before ++ more) is ∙ sym (append_assoc before (line ∷ []) behind))
 
 refused : {W : Type 0} (m : Meaning W) (Keeps : List (List ℕ) → Type 0) (text : List ℕ) (r : Reader) (s : Reading) (before : List (List ℕ)) (left : Option (List ℕ)) (number : ℕ) (why : Refusal W) →
     option_map lines left ≡ option_map (λ more. before ++ more) (lines_ahead r s) → Accepts m [] before →
@@ -274,6 +283,22 @@ no-failure Failed before now stop.ReadFault h = tt
 no-failure Failed before now stop.WriteFault h = tt
 no-failure Failed before now stop.NoMemory h = tt
 no-failure Failed before now (stop.Failed fault) h = absurd h
+
+failed-line : {W : Type 0} (m : Meaning W) (Keeps Fails : List (List ℕ) → Type 0) (input : Reading) (output : Writing) (r : Reader) (waiting : List ℕ) (s : Reading) (sink : Writing) →
+    (p : Progress m Keeps input output r waiting s sink) → FailsLine Fails p.before (ahead r s) → FailedAt Fails input.left
+failed-line m Keeps Fails input output r waiting s sink p h = record {
+  taken = p.before ++ h.line ∷ [];
+  fails = h.fails;
+  are_first = first-with r s p.before input.left p.split h.bytes h.line h.behind h.told h.split;
+}
+
+pub failed-behind : {W F : Type 0} (m : Meaning W) (Keeps Fails : List (List ℕ) → Type 0) (input : Reading) (output : Writing) (r : Reader) (waiting : List ℕ) (s : Reading) (sink : Writing) (why : Stop W F) →
+    (p : Progress m Keeps input output r waiting s sink) → HasFailed {A = Bool} (λ _. FailsLine Fails p.before (ahead r s)) (Err why) → HasFailed {A = Unit {0}} (λ _. FailedAt Fails input.left) (Err why)
+failed-behind m Keeps Fails input output r waiting s sink (stop.Refused number why) p h = tt
+failed-behind m Keeps Fails input output r waiting s sink stop.ReadFault p h = tt
+failed-behind m Keeps Fails input output r waiting s sink stop.WriteFault p h = tt
+failed-behind m Keeps Fails input output r waiting s sink stop.NoMemory p h = tt
+failed-behind m Keeps Fails input output r waiting s sink (stop.Failed fault) p h = failed-line m Keeps Fails input output r waiting s sink p h
 
 -- ---- a sink that failed before
 

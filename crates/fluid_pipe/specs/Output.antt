@@ -112,6 +112,12 @@ pub record TookBefore (Keeps : List (List ℕ) → Type 0) (number : ℕ) (input
   pub its_number : number ≡ length before + 1
   pub are_first : Tells input (λ bytes. (behind : List (List ℕ)) × (lines bytes ≡ before ++ behind))
 
+-- the taker failed at the last of these lines, which are the first ones of the input
+pub record FailedAt (Fails : List (List ℕ) → Type 0) (input : Option (List ℕ)) : Type 0 where
+  pub taken : List (List ℕ)
+  pub fails : Fails taken
+  pub are_first : Tells input (λ bytes. (behind : List (List ℕ)) × (lines bytes ≡ taken ++ behind))
+
 -- at the end all was read and written; at a refused line that line's fault is the last one; at a fault of the source no whole line
 -- that was read is refused; at all ends but a fault of the sink the output ends at a line's end
 abbrev pub Finished : {W F : Type 0} → Meaning W → (List (List ℕ) → Type 0) → Reading → Writing → Reading → Writing → Result (Unit {0}) (Stop W F) → Type 0

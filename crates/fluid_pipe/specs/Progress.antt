@@ -1,5 +1,5 @@
 -- How far a run has come.
-use Rattle.std.specs.Prelude.{◌≡◌, ℕ, ◌+◌, ◌≤◌, List, [], ◌∷◌, ◌++◌, length, Bool, true, false, Option, Some, None, Result, Ok, Err, option_map}
+use Rattle.std.specs.Prelude.{◌≡◌, ℕ, ◌+◌, ◌≤◌, List, [], ◌∷◌, ◌++◌, length, Bool, true, false, Option, Some, Result, Ok, Err, option_map}
 use Rattle.std.specs.Str.Lines.{lines}
 use Rattle.fluid_io.specs.Causes.{Rose, Tells}
 use Rattle.fluid_io.specs.Streams.{Reading, Writing, Appends}
@@ -10,7 +10,7 @@ use Rattle.fluid_pipe.specs.declared.refusal.Refusal.{Refusal}
 use Rattle.fluid_pipe.specs.declared.stop.Stop.{Stop}
 use Rattle.fluid_pipe.specs.declared.stop.Stop.TheVariants as stop
 use Rattle.fluid_pipe.specs.Meaning.{Meaning, refusal, Accepts, bad_line}
-use Rattle.fluid_pipe.specs.Output.{AreWhole, IsWhole, IsRefused, IsRefusedFor, IsBegun, IsInterrupted, IsCut, NoFault, TookAll, TookBefore, Wrote}
+use Rattle.fluid_pipe.specs.Output.{AreWhole, IsWhole, IsRefusedFor, IsBegun, IsInterrupted, IsCut, NoFault, TookAll, TookBefore, Wrote}
 
 -- of what is written for these lines these bytes have gone, and these wait
 abbrev pub IsWritten : {W : Type 0} → Meaning W → List (List ℕ) → (gone waiting : List ℕ) → Type 0
@@ -41,6 +41,15 @@ pub record RefusesLine {W : Type 0} (m : Meaning W) (Keeps : List (List ℕ) →
   pub its_number : number ≡ length before + 1
   pub refused : refusal m before line ≡ Some why
   pub keeps : Keeps before
+
+-- the taker failed at the first line of those ahead
+pub record FailsLine (Fails : List (List ℕ) → Type 0) (before : List (List ℕ)) (ahead : Option (List ℕ)) : Type 0 where
+  pub bytes : List ℕ
+  pub told : Tells ahead (λ known. known ≡ bytes)
+  pub line : List ℕ
+  pub behind : List (List ℕ)
+  pub split : lines bytes ≡ line ∷ behind
+  pub fails : Fails (before ++ line ∷ [])
 
 -- no line is ahead, and no byte is left
 pub record EndsInput {W : Type 0} (m : Meaning W) (Keeps : List (List ℕ) → Type 0) (before : List (List ℕ)) (gone : List ℕ) (old now : Option (List ℕ)) (waiting : List ℕ) : Type 0 where

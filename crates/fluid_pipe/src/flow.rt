@@ -1,12 +1,13 @@
 //! A run over the lines of an input.
 ghost use Rattle.std.specs.Prelude.{◌≡◌, ℕ, ◌+◌, ◌-◌, ◌*◌, ◌^◌, ◌<◌, ◌≤◌, List, [], ◌++◌, true, OnOk, OnErr};
 ghost use Rattle.fluid_io.specs.Causes.{HasExactCause};
+ghost use Rattle.fluid_io.specs.Lines.{ahead};
 ghost use Rattle.fluid_io.specs.Reader.{Reader};
 ghost use Rattle.fluid_io.specs.Streams.{Reading, Writing, Appends, AppendsFront};
 ghost use Rattle.fluid_io.specs.declared.lines.TheConstants.{MOST_LINES};
 ghost use Rattle.fluid_pipe.specs.Meaning.{Meaning, bad_line, refusal_words};
-ghost use Rattle.fluid_pipe.specs.Output.{Finished, HasEndCause, HasFailed};
-ghost use Rattle.fluid_pipe.specs.Progress.{Counts, Ends, HandedOn, HandsOn, Reached, ReadsQuietly, Settled, Steps, has_write_fault};
+ghost use Rattle.fluid_pipe.specs.Output.{FailedAt, Finished, HasEndCause, HasFailed};
+ghost use Rattle.fluid_pipe.specs.Progress.{Counts, Ends, FailsLine, HandedOn, HandsOn, Reached, ReadsQuietly, Settled, Steps, has_write_fault};
 
 use crate::refusal::Refusal;
 use crate::sink::write_out;
@@ -32,6 +33,7 @@ pub fn pipe<S: Source, K: Sink, T: Taker>(
     ensures cause { HasEndCause (S.seen input.old) (K.seen output.old) (S.seen input.new) (K.seen output.new) result }
     ensures follows { T.follows taker.old taker.new }
     ensures failed { HasFailed (T.failed taker.old taker.new) result }
+    ensures failed_at { (m : Meaning T.Why) → T.stands taker.old m [] → HasFailed (λ _. FailedAt (T.failed_at taker.new m) (S.seen input.old).left) result }
     ensures finished { (m : Meaning T.Why) → T.stands taker.old m [] → Finished m (T.stands taker.new m)
         (S.seen input.old) (K.seen output.old) (S.seen input.new) (K.seen output.new) result }
 {
@@ -54,6 +56,7 @@ fn take_all<S: Source, K: Sink, T: Taker>(
     ensures cause { HasEndCause (S.seen input.old) (K.seen output.old) (S.seen input.new) (K.seen output.new) result }
     ensures follows { T.follows taker.old taker.new }
     ensures failed { HasFailed (T.failed taker.old taker.new) result }
+    ensures failed_at { (m : Meaning T.Why) → T.stands taker.old m [] → HasFailed (λ _. FailedAt (T.failed_at taker.new m) (S.seen input.old).left) result }
     ensures ends { (m : Meaning T.Why) → T.stands taker.old m [] → Ends m (T.stands taker.new m)
         (S.seen input.old) (K.seen output.old) waiting.new.items (S.seen input.new) (K.seen output.new) result }
 {
@@ -78,6 +81,9 @@ fn take_next<S: Source, T: Taker>(
     ensures one_more { result ≡ Ok true → lines.new.count ≡ lines.old.count + 1 }
     ensures follows { T.follows taker.old taker.new }
     ensures failed { HasFailed (T.failed taker.old taker.new) result }
+    ensures failed_at { (m : Meaning T.Why) (before : List (List ℕ)) (gone : List ℕ) →
+        Reached m (T.stands taker.old m) before gone lines.old waiting.old.items →
+        HasFailed (λ _. FailsLine (T.failed_at taker.new m) before (ahead lines.old (S.seen input.old))) result }
     ensures steps { (m : Meaning T.Why) (before : List (List ℕ)) (gone : List ℕ) →
         Reached m (T.stands taker.old m) before gone lines.old waiting.old.items →
         Steps m (T.stands taker.new m) before gone lines.old (S.seen input.old) lines.new (S.seen input.new) waiting.new.items result }
@@ -138,6 +144,8 @@ fn settle<T: Taker>(
     ensures cause { (input : Reading) (start : Writing) (source : Reading) (sink : Writing) →
         HasEndCause input start source sink taken → HasEndCause input start source sink result }
     ensures failed { (old : T) → HasFailed (T.failed old taker.now) taken → HasFailed (T.failed old taker.now) result }
+    ensures failed_at { (m : Meaning T.Why) (input : Reading) →
+        HasFailed (λ _. FailedAt (T.failed_at taker.now m) input.left) taken → HasFailed (λ _. FailedAt (T.failed_at taker.now m) input.left) result }
     ensures settled { (m : Meaning T.Why) (input : Reading) (start : Writing) (source : Reading) (sink : Writing) →
         Ends m (T.stands taker.now m) input start waiting.old.items source sink taken →
         Settled m (T.stands taker.now m) input start waiting.new.items source sink result }
@@ -163,6 +171,8 @@ fn finish<K: Sink, T: Taker>(
     ensures cause { (input : Reading) (start : Writing) (source : Reading) →
         HasEndCause input start source (K.seen output.old) settled → HasEndCause input start source (K.seen output.new) result }
     ensures failed { (old : T) → HasFailed (T.failed old _taker.now) settled → HasFailed (T.failed old _taker.now) result }
+    ensures failed_at { (m : Meaning T.Why) (input : Reading) →
+        HasFailed (λ _. FailedAt (T.failed_at _taker.now m) input.left) settled → HasFailed (λ _. FailedAt (T.failed_at _taker.now m) input.left) result }
     ensures finished { (m : Meaning T.Why) (input : Reading) (start : Writing) (source : Reading) →
         Settled m (T.stands _taker.now m) input start waiting.old.items source (K.seen output.old) settled →
         Finished m (T.stands _taker.now m) input start source (K.seen output.new) result }

@@ -1,5 +1,5 @@
 //! What takes the lines of an input.
-ghost use Rattle.std.specs.Prelude.{◌≡◌, ℕ, ◌+◌, ◌++◌, List, OnOk, OnErr};
+ghost use Rattle.std.specs.Prelude.{◌≡◌, ℕ, ◌+◌, ◌++◌, ◌∷◌, [], List, OnOk, OnErr};
 ghost use Rattle.fluid_pipe.specs.Meaning.{Meaning};
 ghost use Rattle.fluid_pipe.specs.Taking.{FailsBy, IsWithinMost, Takes};
 
@@ -35,6 +35,9 @@ pub trait Taker {
     // Between these two the taker failed so.
     ghost failed: { Self → Self → Self.Fault → Type 0 };
 
+    // It failed at the last of these lines, of which the first stood where they have this meaning.
+    ghost failed_at: { Self → Meaning Self.Why → List (List ℕ) → Type 0 };
+
     /// Takes the text of a line, an empty one as well, and puts what is written for it behind `waiting`, each line
     /// with its end. A text that isn't taken leaves `waiting` as it was.
     fn take(
@@ -47,6 +50,8 @@ pub trait Taker {
         ensures within { OnOk result ((n : ℕ) → within self.old n → within self.new (n + 1)) }
         ensures follows { follows self.old self.new }
         ensures failed { FailsBy (failed self.old self.new) result }
+        ensures failed_at { (m : Meaning Self.Why) (before : List (List ℕ)) → stands self.old m before →
+            FailsBy (λ _. failed_at self.new m (before ++ text.now ∷ [])) result }
         ensures waits { OnErr result (waiting.new.items ≡ waiting.old.items) }
         ensures takes { (m : Meaning Self.Why) (before : List (List ℕ)) → stands self.old m before →
             Takes m (stands self.new m) before text.now waiting.old.items waiting.new.items result };

@@ -1,16 +1,17 @@
 -- How a script ends, what was written then, and what the desk tells that comes back.
-use Rattle.std.proofs.Common.{◌≡◌, ◌⊎◌, inl, inr, ℕ, ◌≤◌, arith, Bool, true, false, List, [], ◌∷◌, ◌++◌, Option, Some, None, is_none, Result, Ok, Err, refl, sym, ap, subst, ◌∙◌, append-nil, append_assoc}
+use Rattle.std.proofs.Common.{◌≡◌, ◌⊎◌, inl, inr, ℕ, ◌+◌, ◌≤◌, arith, Bool, true, false, List, [], ◌∷◌, ◌++◌, Option, Some, None, is_none, Result, Ok, Err, refl, sym, ap, subst, ◌∙◌, append-nil, append_assoc}
 use Rattle.std.specs.Prelude.{IfSome, option_map, is_some}
 use Rattle.std.specs.Str.Lines.{lines}
 use Rattle.std.specs.FinMap.{FinMap, get, empty, get-empty, len-empty}
-use Rattle.fluid_table.specs.Table.{byte_order}
+use Rattle.fluid_table.specs.Table.{byte_order, Values}
 use Rattle.fluid_io.specs.Causes.{Rose, Tells}
+use Rattle.fluid_io.specs.declared.lines.TheConstants.{MOST_LINES}
 use Rattle.fluid_io.specs.Streams.{Reading, Writing, Appends, AppendsFront}
 use Rattle.fluid_log.specs.Shelving.{Shelving, keeper_under}
 use Rattle.fluid_store.specs.Held.{Held, IsShort}
 use Rattle.fluid_store.specs.Storing.{Storing}
 use Rattle.fluid_pipe.specs.Meaning.{Meaning}
-use Rattle.fluid_pipe.specs.Output.{IsWhole, IsRefusedFor, IsBegun, IsInterrupted, IsCut, NoFault, ReadFailed, Wrote, Finished, HasEndCause}
+use Rattle.fluid_pipe.specs.Output.{IsWhole, IsRefusedFor, IsBegun, IsInterrupted, IsCut, NoFault, ReadFailed, Wrote, Finished, HasEndCause, HasFailed}
 use Rattle.fluid_pipe.specs.declared.refusal.Refusal.{Refusal}
 use Rattle.fluid_pipe.specs.declared.stop.Stop.{Stop as PipeStop}
 use Rattle.fluid_pipe.specs.declared.stop.Stop.TheVariants as pipe
@@ -30,7 +31,7 @@ use Rattle.fluid_desk.specs.declared.stop.StoredFault.TheVariants.{Lane, Delta, 
 use Rattle.fluid_desk.specs.Laws.{DesksComeBack, FaultsAreCounted}
 use Rattle.fluid_desk.specs.Scribing.{DeskDoesWith}
 use Rattle.fluid_desk.specs.Stands.{IsDocument, DeskStands, ShelvesTell, StoreStands}
-use Rattle.fluid_desk.specs.Stopping.{IsHonest, HasRun}
+use Rattle.fluid_desk.specs.Stopping.{AreFew, MayStop, HasRun}
 use Rattle.fluid_holding.specs.Holding.{HoldsOwn}
 use Rattle.fluid_door_link.specs.Hushing.{hushed, IsHushed, IsShortAsTold}
 use Rattle.fluid_containers.specs.Ending.{StopsForLinking}
@@ -40,15 +41,25 @@ use Rattle.fluid_world.specs.declared.ends.ScriptEnd.TheVariants as end
 use Rattle.fluid_world.specs.declared.halted.Halted.{Halted}
 use Rattle.fluid_world.specs.Standing.{IsNamed, WorldStands}
 use Rattle.fluid_world.specs.Going.{stops_since}
-use Rattle.fluid_world.proofs.Tooked.{stands_at}
-use Rattle.fluid_world.specs.Taking.{Scripting, means, ScriptStands, RanTo, StoodTo}
-use Rattle.fluid_world.specs.Ending.{end_for, Outside, HasCause, IsDeskOf, ComesBackAs, IsWholeWith, IsCutWith, Writes, EndsBy, PartsStand, LastWrites, ShowsBy, ConcludesBy, CutSo, BegunSo, WritesSo}
+use Rattle.fluid_world.proofs.Tooked.{stands_at, may_end}
+use Rattle.fluid_world.specs.Taking.{Scripting, means, ScriptStands, IsLong, MayEnd, StopsAt, RanTo, StoodTo}
+use Rattle.fluid_world.specs.Ending.{end_for, Outside, HasCause, IsDeskOf, ComesBackAs, IsWholeWith, IsCutWith, AreFirst, GrowsLong, Writes, EndsBy, PartsStand, LastWrites, ShowsBy, ConcludesBy, CutSo, BegunSo, WritesSo}
 
 -- of options
 some_same : {A : Type 0} (a b : A) → ◌≡◌ {A = Option A} (Some a) (Some b) → a ≡ b
 some_same a b same = cc
 
 -- ---- before a script
+
+pub nothing_there : (V : Type 0) (none : Values V) (name : List ℕ) (v : V) → get none name ≡ None → get none name ≡ Some v → ⊥
+nothing_there V none name v empties there = let both : ◌≡◌ {A = Option V} None (Some v) = sym empties ∙ there in cc
+
+pub run_at_first : (first : ℕ) (shelves : Shelving) (limits : Limits) → first ≤ shelves.faults → HasRun first 0 (nothing_open shelves limits)
+run_at_first first shelves limits le = record {
+  shelves = le;
+  lanes = λ name lane given there out. absurd (nothing_there Standing empty name lane (get-empty byte_order name) there);
+  few = λ name lane there. absurd (nothing_there Standing empty name lane (get-empty byte_order name) there);
+}
 
 -- shelves on which no keeper is out stand for a world in which no document is open
 desk_at_first : (shelves : Shelving) (limits : Limits) (documents : FinMap byte_order Document) (store : Held) → ShelvesTell shelves (first_world documents store)
@@ -76,6 +87,8 @@ stands_at_first shelves limits objects w speaks first is =
       };
       moment = refl;
       owned = is.owned;
+      run = run_at_first 0 shelves limits (omega arith);
+      going = refl;
     })
 
 pub short_at_first : (objects : Storing) (told : Option World) (shelves : Shelving) → IfSome told (IsDeskOf shelves objects) → is_some told ≡ true → IsShortAsTold objects
@@ -88,32 +101,32 @@ short_at_first objects (Some w) shelves is some = λ held told. subst IsShort (b
 -- ---- ends that a step made
 
 -- over a desk that stands for a world only what may be
-pub honest_writes : (limits : Limits) (w : World) (load : Option (List ℕ)) (input : Reading) (start : Writing) (source : Reading) (sink : Writing) (s : Scripting) (stop : Stop) → IsHonest stop
-    → BegunSo (is_none load) limits w input start sink → WritesSo limits w load input start source sink s (end_for stop)
-honest_writes limits w load input start source sink s (KeeperFault note) honest begun = begun
-honest_writes limits w load input start source sink s (StoreFault note) honest begun = begun
-honest_writes limits w load input start source sink s (BadStored (Delta number)) honest begun = absurd honest
-honest_writes limits w load input start source sink s (BadStored (Object fault)) honest begun = absurd honest
-honest_writes limits w load input start source sink s (BadStored (Lane lane.Worn)) honest begun = (refl, begun)
-honest_writes limits w load input start source sink s (BadStored (Lane (lane.LogFailed note))) honest begun = absurd honest
-honest_writes limits w load input start source sink s (BadStored (Lane (lane.Full entries))) honest begun = absurd honest
-honest_writes limits w load input start source sink s (BadStored (Lane (lane.BadRecord place))) honest begun = absurd honest
-honest_writes limits w load input start source sink s (BadStored (Lane (lane.NoCheckpoint asked stored))) honest begun = absurd honest
-honest_writes limits w load input start source sink s (BadStored (Lane lane.CheckpointsFull)) honest begun = absurd honest
-honest_writes limits w load input start source sink s (BadStored (Lane lane.TooManyClients)) honest begun = absurd honest
-honest_writes limits w load input start source sink s (BadStored (Lane (lane.DeltaFailed note))) honest begun = absurd honest
-honest_writes limits w load input start source sink s (BadStored (Lane lane.NoMemory)) honest begun = absurd honest
-honest_writes limits w load input start source sink s (BadStored (Lane (lane.BadCheckpoint number fault))) honest begun = absurd honest
-honest_writes limits w load input start source sink s (BadStored (Lane (lane.TooLarge bytes))) honest begun = absurd honest
-honest_writes limits w load input start source sink s NoMemory honest begun = begun
+pub honest_writes : (limits : Limits) (w : World) (load : Option (List ℕ)) (input : Reading) (start : Writing) (source : Reading) (sink : Writing) (s : Scripting) (stop : Stop) (before : List (List ℕ)) → AreFirst input.left before
+    → MayEnd (behind limits w before) stop → BegunSo (is_none load) limits w input start sink → WritesSo limits w load input start source sink s (end_for stop)
+honest_writes limits w load input start source sink s (KeeperFault note) before are_first honest begun = begun
+honest_writes limits w load input start source sink s (StoreFault note) before are_first honest begun = begun
+honest_writes limits w load input start source sink s (BadStored (Delta number)) before are_first honest begun = absurd honest
+honest_writes limits w load input start source sink s (BadStored (Object fault)) before are_first honest begun = absurd honest
+honest_writes limits w load input start source sink s (BadStored (Lane lane.Worn)) before are_first honest begun = (refl, (record { lines = before; are_first = are_first; long = inl honest }, begun))
+honest_writes limits w load input start source sink s (BadStored (Lane (lane.LogFailed note))) before are_first honest begun = absurd honest
+honest_writes limits w load input start source sink s (BadStored (Lane (lane.Full entries))) before are_first honest begun = absurd honest
+honest_writes limits w load input start source sink s (BadStored (Lane (lane.BadRecord place))) before are_first honest begun = absurd honest
+honest_writes limits w load input start source sink s (BadStored (Lane (lane.NoCheckpoint asked stored))) before are_first honest begun = absurd honest
+honest_writes limits w load input start source sink s (BadStored (Lane lane.CheckpointsFull)) before are_first honest begun = absurd honest
+honest_writes limits w load input start source sink s (BadStored (Lane lane.TooManyClients)) before are_first honest begun = absurd honest
+honest_writes limits w load input start source sink s (BadStored (Lane (lane.DeltaFailed note))) before are_first honest begun = absurd honest
+honest_writes limits w load input start source sink s (BadStored (Lane lane.NoMemory)) before are_first honest begun = absurd honest
+honest_writes limits w load input start source sink s (BadStored (Lane (lane.BadCheckpoint number fault))) before are_first honest begun = absurd honest
+honest_writes limits w load input start source sink s (BadStored (Lane (lane.TooLarge bytes))) before are_first honest begun = absurd honest
+honest_writes limits w load input start source sink s NoMemory before are_first honest begun = begun
 
 -- the same of the last load
-pub honest_shows : (told : Told) (old new : Writing) (s : Scripting) (stop : Stop) → IsHonest stop → new ≡ old → ShowsBy told old new s (end_for stop)
+pub honest_shows : (told : Told) (old new : Writing) (s : Scripting) (stop : Stop) → MayEnd told.world stop → new ≡ old → ShowsBy told old new s (end_for stop)
 honest_shows told old new s (KeeperFault note) honest same = same
 honest_shows told old new s (StoreFault note) honest same = same
 honest_shows told old new s (BadStored (Delta number)) honest same = absurd honest
 honest_shows told old new s (BadStored (Object fault)) honest same = absurd honest
-honest_shows told old new s (BadStored (Lane lane.Worn)) honest same = (refl, same)
+honest_shows told old new s (BadStored (Lane lane.Worn)) honest same = (refl, (honest, same))
 honest_shows told old new s (BadStored (Lane (lane.LogFailed note))) honest same = absurd honest
 honest_shows told old new s (BadStored (Lane (lane.Full entries))) honest same = absurd honest
 honest_shows told old new s (BadStored (Lane (lane.BadRecord place))) honest same = absurd honest
@@ -127,12 +140,12 @@ honest_shows told old new s (BadStored (Lane (lane.TooLarge bytes))) honest same
 honest_shows told old new s NoMemory honest same = same
 
 -- with its cause
-pub stop_ends : (first : ℕ) (before : Storing) (input : Reading) (start : Writing) (source : Reading) (sink : Writing) (s : Scripting) (stop : Stop) → NoFault input start source sink
-    → StopsForLinking first before s.store s.lanes stop → EndsBy first before input start source sink s (end_for stop)
-stop_ends first before input start source sink s (KeeperFault note) quiet stops = record { quiet = quiet; stops = stops }
-stop_ends first before input start source sink s (StoreFault note) quiet stops = record { quiet = quiet; stops = stops }
-stop_ends first before input start source sink s (BadStored fault) quiet stops = record { quiet = quiet; stops = stops }
-stop_ends first before input start source sink s NoMemory quiet stops = quiet
+pub stop_ends : (first steps : ℕ) (before : Storing) (input : Reading) (start : Writing) (source : Reading) (sink : Writing) (s : Scripting) (stop : Stop) → NoFault input start source sink
+    → StopsForLinking first steps before s.store s.lanes stop → EndsBy first before input start source sink s (end_for stop)
+stop_ends first steps before input start source sink s (KeeperFault note) quiet stops = record { quiet = quiet; steps = steps; stops = stops }
+stop_ends first steps before input start source sink s (StoreFault note) quiet stops = record { quiet = quiet; steps = steps; stops = stops }
+stop_ends first steps before input start source sink s (BadStored fault) quiet stops = record { quiet = quiet; steps = steps; stops = stops }
+stop_ends first steps before input start source sink s NoMemory quiet stops = quiet
 
 -- ---- the last container
 
@@ -208,6 +221,11 @@ line_cut limits w document (Some input) old mid new before all h more = (
   }),
 )
 
+-- all lines of an input are some first ones of it
+all_first : (left : Option (List ℕ)) (before : List (List ℕ)) → Tells left (λ bytes. lines bytes ≡ before) → AreFirst left before
+all_first None before all = tt
+all_first (Some bytes) before all = ([], all ∙ sym (append-nil before))
+
 same_written : (m : Meaning LineWhy) (left old : Option (List ℕ)) (mid new : Writing) → new ≡ mid → Wrote (IsWhole m) left old mid.written → Wrote (IsWhole m) left old new.written
 same_written m left old mid new same h = subst (λ k. Wrote (IsWhole m) left old k.written) (sym same) h
 
@@ -227,17 +245,18 @@ module _ (limits : Limits) (w : World) (input : Reading) (start : Writing) (sour
   shown_writes document end.WriteFault whole shows = line_cut limits w document input.left start.written mid.written sink.written before all whole shows
   shown_writes document (end.KeeperFault note) whole shows = begun_of (means false limits w) input.left start.written sink.written (same_written (means false limits w) input.left start.written mid sink shows whole)
   shown_writes document (end.StoreFault note) whole shows = begun_of (means false limits w) input.left start.written sink.written (same_written (means false limits w) input.left start.written mid sink shows whole)
-  shown_writes document (end.BadStored fault) whole shows =
-      (shows.0, begun_of (means false limits w) input.left start.written sink.written (same_written (means false limits w) input.left start.written mid sink shows.1 whole))
+  shown_writes document (end.BadStored fault) whole shows = (
+    shows.0,
+    (
+      record { lines = before; are_first = all_first input.left before all; long = inr shows.1.0 },
+      begun_of (means false limits w) input.left start.written sink.written (same_written (means false limits w) input.left start.written mid sink shows.1.1 whole),
+    ),
+  )
   shown_writes document end.NoMemory whole shows = begun_of (means false limits w) input.left start.written sink.written (same_written (means false limits w) input.left start.written mid sink shows whole)
 
-  pub concluded : (o : Option Stop) (load : Option (List ℕ)) (e : ScriptEnd) → Wrote (IsWhole (means (is_none load) limits w)) input.left start.written mid.written
-      → ConcludesBy o limits (behind limits w before) load mid sink s e → WritesSo limits w load input start source sink s e
-  concluded (Some stop) load e whole ended =
-      subst (WritesSo limits w load input start source sink s) (sym ended.1.0)
-      (honest_writes limits w load input start source sink s stop ended.1.1
-      (begun_of (means (is_none load) limits w) input.left start.written sink.written (same_written (means (is_none load) limits w) input.left start.written mid sink ended.0 whole)))
-  concluded None None e whole ended =
+  pub concluded : (load : Option (List ℕ)) (e : ScriptEnd) → Wrote (IsWhole (means (is_none load) limits w)) input.left start.written mid.written
+      → ConcludesBy limits (behind limits w before) load mid sink s e → WritesSo limits w load input start source sink s e
+  concluded None e whole ended =
       subst (WritesSo limits w None input start source sink s) (sym ended.0) (record {
         written = same_written (means true limits w) input.left start.written mid sink ended.1.0 whole;
         nothing_left = left;
@@ -245,7 +264,7 @@ module _ (limits : Limits) (w : World) (input : Reading) (start : Writing) (sour
         are_all = all;
         parts = ended.1.1;
       })
-  concluded None (Some document) e whole ended = shown_writes document e whole ended
+  concluded (Some document) e whole ended = shown_writes document e whole ended
 
 -- ---- behind the end
 
@@ -282,7 +301,7 @@ closes_cause counted before now good s (end.BadLine number why) closed hush h = 
 closes_cause counted before now good s end.ReadFault closed hush h = h
 closes_cause counted before now good s end.WriteFault closed hush h = h
 closes_cause counted before now good s (end.KeeperFault note) closed hush h =
-    (h.quiet, (h.stops.ends.0, counted before.shelves.faults s.lanes note now.shelves (record { shelves = h.stops.shelves; ends = h.stops.ends }) closed))
+    (h.quiet, (h.stops.ends.0, counted before.shelves.faults h.steps s.lanes note now.shelves (record { shelves = h.stops.shelves; few = h.stops.few; ends = h.stops.ends }) closed))
 closes_cause counted before now good s (end.StoreFault note) closed hush h = (
   h.quiet,
   record {
@@ -331,14 +350,15 @@ pub halted_ends : (first : ℕ) (before : Storing) (input : Reading) (start : Wr
 halted_ends first before input start source sink s t None e is lanes store ran quiet = absurd (cc)
 halted_ends first before input start source sink s t (Some stop) e is lanes store ran quiet =
     let same : end_for stop ≡ e = some_same (end_for stop) e is in
-    subst (EndsBy first before input start source sink t) same (stop_ends first before input start source sink t stop quiet
-    (subst (λ o. StopsForLinking first before t.store o stop) (sym lanes) (subst (λ k. StopsForLinking first before k s.lanes stop) (sym store) ran)))
+    subst (EndsBy first before input start source sink t) same (stop_ends first (s.lines + 1) before input start source sink t stop quiet
+    (subst (λ o. StopsForLinking first (s.lines + 1) before t.store o stop) (sym lanes) (subst (λ k. StopsForLinking first (s.lines + 1) before k s.lanes stop) (sym store) ran)))
 
-pub halted_writes : (limits : Limits) (w : World) (load : Option (List ℕ)) (input : Reading) (start : Writing) (source : Reading) (sink : Writing) (s t : Scripting) (o : Option Stop) (e : ScriptEnd) → option_map end_for o ≡ Some e
-    → StoodTo s o → s.good ≡ true → BegunSo (is_none load) limits w input start sink → WritesSo limits w load input start source sink t e
-halted_writes limits w load input start source sink s t None e is stood good begun = absurd (cc)
-halted_writes limits w load input start source sink s t (Some stop) e is stood good begun =
-    let same : end_for stop ≡ e = some_same (end_for stop) e is in subst (WritesSo limits w load input start source sink t) same (honest_writes limits w load input start source sink t stop (stood good) begun)
+pub halted_writes : (limits : Limits) (w : World) (load : Option (List ℕ)) (input : Reading) (start : Writing) (source : Reading) (sink : Writing) (t : Scripting) (o : Option Stop) (e : ScriptEnd) → option_map end_for o ≡ Some e
+    → StopsAt limits w o input.left → BegunSo (is_none load) limits w input start sink → WritesSo limits w load input start source sink t e
+halted_writes limits w load input start source sink t None e is stops begun = absurd (cc)
+halted_writes limits w load input start source sink t (Some stop) e is stops begun =
+    let same : end_for stop ≡ e = some_same (end_for stop) e is in
+    subst (WritesSo limits w load input start source sink t) same (honest_writes limits w load input start source sink t stop stops.taken stops.are_first stops.fails begun)
 
 -- ---- how a script ends whose lines ended so
 
@@ -385,13 +405,13 @@ module _ (w : World) (load : Option (List ℕ)) (input : Reading) (start : Writi
   abbrev Ends : Writing → LinesEnd → Type 0
   Ends sink ended = Finished (means s.speaks limits w) Keeps input start source sink ended
 
-  pub ok_writes : (mid sink : Writing) (t : Scripting) (o : Option Stop) (e : ScriptEnd) (ended : LinesEnd) (done : Unit {0}) → ended ≡ Ok done → Ends mid ended
-      → ((v : World) → ScriptStands s v → ConcludesBy o limits v load mid sink t e) → WritesSo limits w load input start source sink t e
-  ok_writes mid sink t o e ended done is h concludes = by (subst (Ends mid) is h)
+  pub ok_writes : (mid sink : Writing) (t : Scripting) (e : ScriptEnd) (ended : LinesEnd) (done : Unit {0}) → ended ≡ Ok done → Ends mid ended
+      → ((v : World) → ScriptStands s v → ConcludesBy limits v load mid sink t e) → WritesSo limits w load input start source sink t e
+  ok_writes mid sink t e ended done is h concludes = by (subst (Ends mid) is h)
     where
       by : Ends mid (Ok done) → WritesSo limits w load input start source sink t e
       by h =
-          concluded limits w input start source mid sink t h.2.before h.2.are_all h.1 o load e (subst (spoke IsWhole mid) (sym speaks) h.0) (concludes (behind limits w h.2.before) h.2.keeps)
+          concluded limits w input start source mid sink t h.2.before h.2.are_all h.1 load e (subst (spoke IsWhole mid) (sym speaks) h.0) (concludes (behind limits w h.2.before) h.2.keeps)
 
   pub refused_writes : (sink : Writing) (e : ScriptEnd) (ended : LinesEnd) (number : ℕ) (why : Refusal LineWhy) → ended ≡ Err (pipe.Refused number why) → Ends sink ended → e ≡ end.BadLine number (why_of why)
       → WritesSo limits w load input start source sink s e
@@ -417,35 +437,31 @@ module _ (w : World) (load : Option (List ℕ)) (input : Reading) (start : Writi
   pub short_writes : (sink : Writing) (ended : LinesEnd) → ended ≡ Err pipe.NoMemory → Ends sink ended → WritesSo limits w load input start source sink s end.NoMemory
   short_writes sink ended is h = subst (spoke IsBegun sink) (sym speaks) (subst (Ends sink) is h)
 
-  pub failed_writes : (sink : Writing) (t : Scripting) (o : Option Stop) (e : ScriptEnd) (ended : LinesEnd) (fault : Halted) → ended ≡ Err (pipe.Failed fault) → Ends sink ended → option_map end_for o ≡ Some e → StoodTo s o → s.good ≡ true
-      → WritesSo limits w load input start source sink t e
-  failed_writes sink t o e ended fault is h says stood good =
-      halted_writes limits w load input start source sink s t o e says stood good (subst (spoke IsBegun sink) (sym speaks) (subst (Ends sink) is h))
+  pub failed_writes : (sink : Writing) (t : Scripting) (o : Option Stop) (e : ScriptEnd) (ended : LinesEnd) (fault : Halted) → ended ≡ Err (pipe.Failed fault) → Ends sink ended → option_map end_for o ≡ Some e
+      → HasFailed (λ _. StopsAt limits w o input.left) ended → WritesSo limits w load input start source sink t e
+  failed_writes sink t o e ended fault is h says failed =
+      halted_writes limits w load input start source sink t o e says (subst (HasFailed (λ _. StopsAt limits w o input.left)) is failed) (subst (spoke IsBegun sink) (sym speaks) (subst (Ends sink) is h))
 
 -- ---- all lines were taken
 
-pub stopped_concludes : (limits : Limits) (w : World) (load : Option (List ℕ)) (sink : Writing) (s t : Scripting) (o : Option Stop) (e : ScriptEnd) → option_map end_for o ≡ Some e → StoodTo s o → s.good ≡ true
-    → ConcludesBy o limits w load sink sink t e
-stopped_concludes limits w load sink s t None e is stood good = absurd (cc)
-stopped_concludes limits w load sink s t (Some stop) e is stood good = (refl, (sym (some_same (end_for stop) e is), stood good))
+pub stopped_concludes : (limits : Limits) (w : World) (load : Option (List ℕ)) (old new : Writing) (t : Scripting) (o : Option Stop) (stop : Stop) (e : ScriptEnd) → o ≡ Some stop → o ≡ None → ConcludesBy limits w load old new t e
+stopped_concludes limits w load old new t o stop e is going = let both : ◌≡◌ {A = Option Stop} (Some stop) None = sym is ∙ going in absurd (cc)
 
-pub nothing_concludes : (limits : Limits) (w : World) (sink : Writing) (t : Scripting) (o : Option Stop) (load : Option (List ℕ)) → o ≡ None → load ≡ None → PartsStand t w → ConcludesBy o limits w load sink sink t end.Done
-nothing_concludes limits w sink t None None going unasked parts = (refl, (refl, parts))
-nothing_concludes limits w sink t None (Some document) going unasked parts = absurd (cc)
-nothing_concludes limits w sink t (Some stop) load going unasked parts = absurd (cc)
+pub nothing_concludes : (limits : Limits) (w : World) (sink : Writing) (t : Scripting) (load : Option (List ℕ)) → load ≡ None → PartsStand t w → ConcludesBy limits w load sink sink t end.Done
+nothing_concludes limits w sink t None unasked parts = (refl, (refl, parts))
+nothing_concludes limits w sink t (Some document) unasked parts = absurd (cc)
 
-pub last_concludes : (limits : Limits) (w : World) (old new : Writing) (t : Scripting) (e : ScriptEnd) (document : List ℕ) (o : Option Stop) (load : Option (List ℕ)) → o ≡ None → load ≡ Some document
-    → ShowsBy (loaded_last limits w document) old new t e → ConcludesBy o limits w load old new t e
-last_concludes limits w old new t e document None None going asked shows = absurd (cc)
-last_concludes limits w old new t e document None (Some d) going asked shows =
+pub last_concludes : (limits : Limits) (w : World) (old new : Writing) (t : Scripting) (e : ScriptEnd) (document : List ℕ) (load : Option (List ℕ)) → load ≡ Some document
+    → ShowsBy (loaded_last limits w document) old new t e → ConcludesBy limits w load old new t e
+last_concludes limits w old new t e document None asked shows = absurd (cc)
+last_concludes limits w old new t e document (Some d) asked shows =
     let same : d ≡ document = some_same d document asked in subst (λ d. ShowsBy (loaded_last limits w d) old new t e) (sym same) shows
-last_concludes limits w old new t e document (Some stop) load going asked shows = absurd (cc)
 
 pub stands_unstopped : (s t : Scripting) (w : World) → t ≡ record s { stop = None } → ScriptStands s w → ScriptStands t w
-stands_unstopped s t w is h = subst (λ x. ScriptStands x w) (sym is) (record { good = h.good; stands = h.stands; moment = h.moment; owned = h.owned })
+stands_unstopped s t w is h = subst (λ x. ScriptStands x w) (sym is) (record { good = h.good; stands = h.stands; moment = h.moment; owned = h.owned; run = h.run; going = refl })
 
-pub runs_unstopped : (first : ℕ) (before : Storing) (s t : Scripting) (o : Option Stop) → t ≡ record s { stop = None } → o ≡ None → RanTo first before s o → HasRun first t.lanes
-runs_unstopped first before s t None is going ran = subst (λ (x : Scripting). HasRun first x.lanes) (sym is) ran
+pub runs_unstopped : (first : ℕ) (before : Storing) (s t : Scripting) (o : Option Stop) → t ≡ record s { stop = None } → o ≡ None → RanTo first before s o → HasRun first t.lines t.lanes
+runs_unstopped first before s t None is going ran = subst (λ (x : Scripting). HasRun first x.lines x.lanes) (sym is) ran
 runs_unstopped first before s t (Some stop) is going ran = absurd (cc)
 
 pub may_show : (s t : Scripting) (o : Option Stop) → t ≡ record s { stop = None } → o ≡ None → StoodTo s o → MayShow t.good t.lanes
@@ -460,13 +476,13 @@ may_show s t (Some stop) is going may = absurd (cc)
 pub shown_last : (told : Told) (old new : Writing) (t : Scripting) (line : List ℕ) (e : ScriptEnd) → HoldsOwn told.world.store → DeskDoesWith told t.lanes t.store (Ok line) → LastWrites line old new e → ShowsBy told old new t e
 shown_last told old new t line e owned does is = last_shows told old new t line e (record { desk = does.done.stands; held = does.held; owned = owned }) does.done.says is
 
-pub unshown_last : (told : Told) (sink : Writing) (t : Scripting) (stop : Stop) (e : ScriptEnd) → e ≡ end_for stop → IsHonest stop → ShowsBy told sink sink t e
-unshown_last told sink t stop e is honest = subst (ShowsBy told sink sink t) (sym is) (honest_shows told sink sink t stop honest refl)
+pub unshown_last : (told : Told) (sink : Writing) (t : Scripting) (n : ℕ) (stop : Stop) (e : ScriptEnd) → e ≡ end_for stop → n ≤ MOST_LINES + 2 → AreFew n t.lanes → told.world.moment ≡ n → MayStop told.world t.lanes stop → ShowsBy told sink sink t e
+unshown_last told sink t n stop e is lines few at may = subst (ShowsBy told sink sink t) (sym is) (honest_shows told sink sink t stop (may_end told.world t.lanes n stop lines few at may) refl)
 
-pub unshown_ends : (first : ℕ) (before : Storing) (input : Reading) (start : Writing) (source : Reading) (sink : Writing) (mid : Storing) (t : Scripting) (stop : Stop) (e : ScriptEnd) → e ≡ end_for stop → before.faults ≤ mid.faults
-    → NoFault input start source sink → StopsForLinking first mid t.store t.lanes stop → EndsBy first before input start source sink t e
-unshown_ends first before input start source sink mid t stop e is le quiet stops =
-    subst (EndsBy first before input start source sink t) (sym is) (stop_ends first before input start source sink t stop quiet (stops_since first before mid t.store t.lanes stop le stops))
+pub unshown_ends : (first steps : ℕ) (before : Storing) (input : Reading) (start : Writing) (source : Reading) (sink : Writing) (mid : Storing) (t : Scripting) (stop : Stop) (e : ScriptEnd) → e ≡ end_for stop → before.faults ≤ mid.faults
+    → NoFault input start source sink → StopsForLinking first steps mid t.store t.lanes stop → EndsBy first before input start source sink t e
+unshown_ends first steps before input start source sink mid t stop e is le quiet stops =
+    subst (EndsBy first before input start source sink t) (sym is) (stop_ends first steps before input start source sink t stop quiet (stops_since first steps before mid t.store t.lanes stop le stops))
 
 -- from the world at its moment
 pub shows_at : (s : Scripting) (w : World) → ScriptStands s w → WorldStands s.lanes s.store s.names (at_line w)

@@ -9,7 +9,7 @@ use Rattle.fluid_io.specs.declared.lines.TheConstants.{MOST_LINES}
 use Rattle.fluid_log.specs.Shelving.{Shelving}
 use Rattle.fluid_store.specs.Storing.{Storing}
 use Rattle.fluid_pipe.specs.Meaning.{Meaning}
-use Rattle.fluid_pipe.specs.Output.{Finished}
+use Rattle.fluid_pipe.specs.Output.{FailedAt, Finished, HasFailed}
 use Rattle.fluid_pipe.specs.declared.stop.Stop.{Stop as PipeStop}
 use Rattle.fluid_pipe.specs.declared.stop.Stop.TheVariants as pipe
 use Rattle.fluid_lane.specs.Standing.{Standing}
@@ -20,26 +20,19 @@ use Rattle.fluid_steps.specs.Refusals.{why_text}
 use Rattle.fluid_transcript.specs.World.{World}
 use Rattle.fluid_transcript.specs.Transcript.{behind}
 use Rattle.fluid_transcript.specs.Laws.{FirstIsSound}
-use Rattle.fluid_desk.specs.Stopping.{HasRun}
 use Rattle.fluid_door_link.specs.Hushing.{hushed}
 use Rattle.fluid_world.specs.declared.halted.Halted.{Halted}
 use Rattle.fluid_world.specs.declared.named.Named.{Named}
 use Rattle.fluid_world.specs.declared.named.Named.TheVariants as a
-use Rattle.fluid_world.specs.Taking.{Scripting, means, ScriptStands, StandsBehind, MayStand, IsWithin, RanTo, StoodTo, Goes, Follows}
+use Rattle.fluid_world.specs.Taking.{Scripting, means, ScriptStands, StandsBehind, MayEnd, StoppedBehind, StopsAt, MayStand, IsWithin, RanTo, StoodTo, Goes, Follows}
 use Rattle.fluid_world.specs.Ending.{IsDeskOf}
 use Rattle.fluid_world.proofs.Tooked.{goes_of}
-use Rattle.fluid_world.proofs.Ended.{stands_at_first}
+use Rattle.fluid_world.proofs.Ended.{nothing_there, run_at_first, stands_at_first}
 
 -- ---- at first
 
 abbrev pub first_script : Shelving → Limits → Storing → (speaks good : Bool) → Scripting
 first_script shelves limits objects speaks good = record { lanes = nothing_open shelves limits; store = hushed good objects; names = empty; lines = 0; speaks = speaks; good = good; stop = None }
-
-nothing_there : (V : Type 0) (none : Values V) (name : List ℕ) (v : V) → get none name ≡ None → get none name ≡ Some v → ⊥
-nothing_there V none name v empties there = let both : ◌≡◌ {A = Option V} None (Some v) = sym empties ∙ there in cc
-
-run_at_first : (shelves : Shelving) (limits : Limits) → HasRun shelves.faults (nothing_open shelves limits)
-run_at_first shelves limits = record { shelves = omega arith; lanes = λ name lane given there out. absurd (nothing_there Standing empty name lane (get-empty byte_order name) there) }
 
 module _ (shelves : Shelving) (limits : Limits) (objects : Storing) (speaks : Bool) (first : FirstIsSound) where
   may_at_first : (told : Option World) → IfSome told (IsDeskOf shelves objects) → MayStand (first_script shelves limits objects speaks (is_some told))
@@ -82,6 +75,25 @@ module _ (told : Option World) (w : World) (is : told ≡ Some w) (m : Meaning L
   finished_told (Err pipe.NoMemory) h = h
   finished_told (Err (pipe.Failed fault)) h = h
 
+-- where it stopped in them
+stopped_told : (told : Option World) (w : World) → told ≡ Some w → (s : Scripting) (input : Option (List ℕ)) → FailedAt (λ lines. StoppedBehind told lines s) input → StopsAt s.lanes.limits w s.stop input
+stopped_told told w is s input h = record { taken = h.taken; fails = by h.fails; are_first = h.are_first }
+  where
+    by : StoppedBehind told h.taken s → IfSome s.stop (MayEnd (behind s.lanes.limits w h.taken))
+    by b =
+        let both : ◌≡◌ {A = Option World} (Some b.first) (Some w) = sym b.is_told ∙ is in
+        let same : b.first ≡ w = cc in
+        subst (λ v. IfSome s.stop (MayEnd (behind s.lanes.limits v h.taken))) same b.ends
+
+pub failed_told : (told : Option World) (w : World) → told ≡ Some w → (s : Scripting) (input : Option (List ℕ)) (ended : Result (Unit {0}) (PipeStop LineWhy Halted))
+    → HasFailed (λ _. FailedAt (λ lines. StoppedBehind told lines s) input) ended → HasFailed (λ _. StopsAt s.lanes.limits w s.stop input) ended
+failed_told told w is s input (Ok done) h = h
+failed_told told w is s input (Err (pipe.Refused number why)) h = h
+failed_told told w is s input (Err pipe.ReadFault) h = h
+failed_told told w is s input (Err pipe.WriteFault) h = h
+failed_told told w is s input (Err pipe.NoMemory) h = h
+failed_told told w is s input (Err (pipe.Failed fault)) h = stopped_told told w is s input h
+
 -- ---- from the start on
 
 module _ (shelves : Shelving) (limits : Limits) (objects : Storing) (speaks : Bool) (first : FirstIsSound) (told : Option World) (is : IfSome told (IsDeskOf shelves objects)) (s t : Scripting)
@@ -99,7 +111,7 @@ module _ (shelves : Shelving) (limits : Limits) (objects : Storing) (speaks : Bo
   counted_then = went.counts
 
   pub ran_then : RanTo shelves.faults (hushed (is_some told) objects) t t.stop
-  ran_then = went.runs shelves.faults (run_at_first shelves limits)
+  ran_then = went.runs shelves.faults (run_at_first shelves.faults shelves limits (omega arith))
 
   pub good_then : (w : World) → told ≡ Some w → t.good ≡ true
   good_then w some = went.good ∙ ap is_some some
@@ -118,6 +130,12 @@ module _ (shelves : Shelving) (limits : Limits) (objects : Storing) (speaks : Bo
       let same : m ≡ means t.speaks t.lanes.limits w = ap₂ (λ b l. means b l w) (sym went.speaks) (sym went.limits) in
       subst (λ n. Finished n (λ before. ScriptStands t (behind t.lanes.limits w before)) input start source sink ended) same
       (finished_told told w some m t input start source sink ended (finished m (subst (StandsBehind told m []) (sym begun) (stands_behind_first shelves limits objects speaks first told is w some))))
+
+  pub failed_then : (w : World) → told ≡ Some w → (input : Option (List ℕ)) (ended : Result (Unit {0}) (PipeStop LineWhy Halted))
+      → ((m : Meaning LineWhy) → StandsBehind told m [] s → HasFailed (λ _. FailedAt (λ lines. StoppedBehind told lines t) input) ended)
+      → HasFailed (λ _. StopsAt t.lanes.limits w t.stop input) ended
+  failed_then w some input ended failed =
+      failed_told told w some t input ended (failed (means speaks limits w) (subst (StandsBehind told (means speaks limits w) []) (sym begun) (stands_behind_first shelves limits objects speaks first told is w some)))
 
 -- a fact on the world that is told of, if one is
 pub if_told : (told : Option World) (Fact : World → Type 0) → ((w : World) → told ≡ Some w → Fact w) → IfSome told Fact

@@ -11,7 +11,7 @@ use Rattle.fluid_callers.specs.Ending.{EndsForReading, RunsReading, EndsForHeari
 use Rattle.fluid_containers.specs.Ending.{EndsForLinking, StopsForLinking, RunsLinking}
 use Rattle.fluid_world.specs.Standing.{IsWrittenOf}
 
-module _ (first : ℕ) (before now : Storing) (o : Opened) where
+module _ (first steps : ℕ) (before now : Storing) (o : Opened) where
   ends_on : (stop : Stop) → EndsFor first o stop → EndsForLinking first before now o stop
   ends_on (KeeperFault note) h = h
   ends_on (StoreFault note) h = absurd h
@@ -44,28 +44,28 @@ module _ (first : ℕ) (before now : Storing) (o : Opened) where
   ends_hearing (BadStored (Object fault)) h = absurd h
   ends_hearing NoMemory h = tt
 
-  pub on_links : {A : Type 0} (r : Result A Stop) → RunsOn first o r → RunsLinking first before now o r
+  pub on_links : {A : Type 0} (r : Result A Stop) → RunsOn first steps o r → RunsLinking first steps before now o r
   on_links (Ok a) h = h
-  on_links (Err stop) h = record { shelves = h.shelves; ends = ends_on stop h.ends }
+  on_links (Err stop) h = record { shelves = h.shelves; few = h.few; ends = ends_on stop h.ends }
 
-  pub with_links : {A : Type 0} (r : Result A Stop) → RunsWith first before o now r → RunsLinking first before now o r
+  pub with_links : {A : Type 0} (r : Result A Stop) → RunsWith first steps before o now r → RunsLinking first steps before now o r
   with_links (Ok a) h = h
-  with_links (Err stop) h = record { shelves = h.shelves; ends = ends_with stop h.ends }
+  with_links (Err stop) h = record { shelves = h.shelves; few = h.few; ends = ends_with stop h.ends }
 
-  pub reading_links : {A : Type 0} (r : Result A Stop) → RunsReading first o r → RunsLinking first before now o r
+  pub reading_links : {A : Type 0} (r : Result A Stop) → RunsReading first steps o r → RunsLinking first steps before now o r
   reading_links (Ok a) h = h
-  reading_links (Err stop) h = record { shelves = h.shelves; ends = ends_reading stop h.ends }
+  reading_links (Err stop) h = record { shelves = h.shelves; few = h.few; ends = ends_reading stop h.ends }
 
-  pub hearing_links : {A : Type 0} (r : Result A Stop) → RunsHearing first before now o r → RunsLinking first before now o r
+  pub hearing_links : {A : Type 0} (r : Result A Stop) → RunsHearing first steps before now o r → RunsLinking first steps before now o r
   hearing_links (Ok a) h = h
-  hearing_links (Err stop) h = record { shelves = h.shelves; ends = ends_hearing stop h.ends }
+  hearing_links (Err stop) h = record { shelves = h.shelves; few = h.few; ends = ends_hearing stop h.ends }
 
   -- want of memory behind a step
-  pub wanting_links : HasRun first o → (stop : Stop) → stop ≡ NoMemory → StopsForLinking first before now o stop
-  wanting_links run stop is = subst (StopsForLinking first before now o) (sym is) (record { shelves = run.shelves; ends = tt })
+  pub wanting_links : HasRun first steps o → (stop : Stop) → stop ≡ NoMemory → StopsForLinking first steps before now o stop
+  wanting_links run stop is = subst (StopsForLinking first steps before now o) (sym is) (record { shelves = run.shelves; few = run.few; ends = tt })
 
-  pub one_links : (line result : Result (List ℕ) Stop) → RunsLinking first before now o line → IsWrittenOf line result → RunsLinking first before now o result
+  pub one_links : (line result : Result (List ℕ) Stop) → RunsLinking first steps before now o line → IsWrittenOf line result → RunsLinking first steps before now o result
   one_links (Ok line) (Ok bytes) h is = h
   one_links (Ok line) (Err stop) h is = wanting_links h stop is
   one_links (Err stop) (Ok bytes) h is = absurd is
-  one_links (Err stop) (Err same) h is = subst (StopsForLinking first before now o) (sym is) h
+  one_links (Err stop) (Err same) h is = subst (StopsForLinking first steps before now o) (sym is) h

@@ -23,7 +23,8 @@ use Rattle.fluid_transcript.specs.Transcript.{done, written}
 use Rattle.fluid_desk.specs.declared.stop.Stop.{Stop}
 use Rattle.fluid_desk.specs.declared.stop.Stop.TheVariants.{NoMemory}
 use Rattle.fluid_desk.specs.Stands.{DeskStands, StoreStands}
-use Rattle.fluid_desk.specs.Stopping.{IsHonest}
+use Rattle.fluid_desk.specs.Stopping.{MayStop}
+use Rattle.fluid_desk.proofs.Honest.{may_want}
 use Rattle.fluid_desk.specs.Acting.{DeskDoes}
 use Rattle.fluid_desk.specs.Scribing.{DeskDoesWith}
 use Rattle.fluid_callers.specs.Calling.{CallDoes, CallDoesWith, CloseDoes}
@@ -134,8 +135,8 @@ module _ (limits : Limits) (w : World) (step : Step) (old : Opened) (store : Sto
   says_one : (line bytes : List ℕ) → told.lines ≡ line ∷ [] → bytes ≡ written (line ∷ []) → bytes ≡ written told.lines
   says_one line bytes says is = is ∙ ap written (sym says)
 
-  wanting : (stop : Stop) → stop ≡ NoMemory → IsHonest stop
-  wanting stop is = subst IsHonest (sym is) tt
+  wanting : (new : Opened) (stop : Stop) → stop ≡ NoMemory → MayStop told.world new stop
+  wanting new stop is = may_want told.world new stop is
 
   -- ---- of documents
 
@@ -146,9 +147,9 @@ module _ (limits : Limits) (w : World) (step : Step) (old : Opened) (store : Sto
         stands_behind new store names did.stands (stands.held ∙ ap Some (sym (keep limits w step puts))) (λ q other. refl) (subst (OwnNamed told.world names) (sym none) tt);
     says = says_one line bytes did.says is;
   }
-  document_takes new (Ok line) (Err stop) none puts keep did is = wanting stop is
+  document_takes new (Ok line) (Err stop) none puts keep did is = wanting new stop is
   document_takes new (Err stop) (Ok bytes) none puts keep did is = absurd is
-  document_takes new (Err stop) (Err same) none puts keep did is = subst IsHonest (sym is) did
+  document_takes new (Err stop) (Err same) none puts keep did is = subst (MayStop told.world new) (sym is) did
 
   pub scribe_takes : (new : Opened) (now : Storing) (line result : Result (List ℕ) Stop) → own_name step ≡ None → DeskDoesWith told new now line → IsWrittenOf line result
       → StepTakes told new now names result
@@ -156,9 +157,9 @@ module _ (limits : Limits) (w : World) (step : Step) (old : Opened) (store : Sto
     stands = stands_behind new now names did.done.stands did.held (λ q other. refl) (subst (OwnNamed told.world names) (sym none) tt);
     says = says_one line bytes did.done.says is;
   }
-  scribe_takes new now (Ok line) (Err stop) none did is = wanting stop is
+  scribe_takes new now (Ok line) (Err stop) none did is = wanting new stop is
   scribe_takes new now (Err stop) (Ok bytes) none did is = absurd is
-  scribe_takes new now (Err stop) (Err same) none did is = subst IsHonest (sym is) did
+  scribe_takes new now (Err stop) (Err same) none did is = subst (MayStop told.world new) (sym is) did
 
   -- ---- of connections
 
@@ -198,9 +199,9 @@ module _ (limits : Limits) (w : World) (step : Step) (old : Opened) (store : Sto
         (subst (OwnNamed told.world given) (sym own) (used_so c given there did.name));
     says = says_one line bytes did.says is;
   }
-  close_takes c given new (Ok line) (Err stop) own puts keep stay there did is = wanting stop is
+  close_takes c given new (Ok line) (Err stop) own puts keep stay there did is = wanting new stop is
   close_takes c given new (Err stop) (Ok bytes) own puts keep stay there did is = absurd is
-  close_takes c given new (Err stop) (Err same) own puts keep stay there did is = subst IsHonest (sym is) did
+  close_takes c given new (Err stop) (Err same) own puts keep stay there did is = subst (MayStop told.world new) (sym is) did
 
   -- ---- of containers
 
@@ -213,9 +214,9 @@ module _ (limits : Limits) (w : World) (step : Step) (old : Opened) (store : Sto
         (subst (λ n. IsNamed told.world n (get told.world.names p)) (sym there) (subst (IsNamed told.world (Some (a.Container h))) (sym did.name) did.holder)));
     says = says_one line bytes did.says is;
   }
-  step_takes p given h new now (Ok line) (Err stop) own stay there did is = wanting stop is
+  step_takes p given h new now (Ok line) (Err stop) own stay there did is = wanting new stop is
   step_takes p given h new now (Err stop) (Ok bytes) own stay there did is = absurd is
-  step_takes p given h new now (Err stop) (Err same) own stay there did is = subst IsHonest (sym is) did
+  step_takes p given h new now (Err stop) (Err same) own stay there did is = subst (MayStop told.world new) (sym is) did
 
   loaded_so : (p : List ℕ) (given : Values Named) (l : Loaded) → get given p ≡ Some (named_for l) → IsLoaded told.world p l → IsNamed told.world (get given p) (get told.world.names p)
   loaded_so p given (load.Held h) there is =
@@ -232,7 +233,7 @@ module _ (limits : Limits) (w : World) (step : Step) (old : Opened) (store : Sto
         (subst (OwnNamed told.world given) (sym own) (loaded_so p given l there did.name));
     says = says_one line bytes did.says is;
   }
-  load_takes p given l new now line (Err stop) own stay there did is = wanting stop is
+  load_takes p given l new now line (Err stop) own stay there did is = wanting new stop is
 
 -- ---- how often containers have submitted
 

@@ -1,5 +1,7 @@
 -- A script takes a line.
 use Rattle.std.proofs.Common.{◌≡◌, ℕ, ◌+◌, ◌==◌, ◌≤◌, ◌<◌, arith, Bool, true, false, if◌then◌else◌, List, [], ◌∷◌, ◌++◌, length, Option, Some, None, Result, Ok, Err, refl, sym, ap, ap₂, subst, ◌∙◌, append-nil}
+use Rattle.std.specs.Prelude.{IfSome}
+use Rattle.std.specs.Option.{option_map_or}
 use Rattle.std.specs.FinMap.{get}
 use Rattle.fluid_table.specs.Table.{Values}
 use Rattle.fluid_io.specs.declared.lines.TheConstants.{MOST_LINES}
@@ -9,6 +11,8 @@ use Rattle.fluid_pipe.specs.declared.taker.Untaken.{Untaken}
 use Rattle.fluid_pipe.specs.declared.taker.Untaken.TheVariants.{Refused, Failed}
 use Rattle.fluid_rules.specs.declared.limits.Limits.{Limits}
 use Rattle.fluid_store.specs.Storing.{Storing}
+use Rattle.fluid_lane.specs.declared.fault.LaneFault.TheVariants as lane
+use Rattle.fluid_lane.specs.Standing.{Standing}
 use Rattle.fluid_lanes.specs.Opened.{Opened}
 use Rattle.fluid_steps.specs.Grammar.{step_spelled}
 use Rattle.fluid_steps.specs.declared.steps.Step.{Step}
@@ -20,9 +24,12 @@ use Rattle.fluid_transcript.specs.Laws.{WorldGrows, TranscriptGrows}
 use Rattle.fluid_transcript.proofs.Sounds.{at_line_grows, same_names}
 use Rattle.fluid_transcript.proofs.Stepping.{done_leaves}
 use Rattle.fluid_desk.specs.declared.stop.Stop.{Stop}
-use Rattle.fluid_desk.specs.declared.stop.Stop.TheVariants.{NoMemory}
+use Rattle.fluid_desk.specs.declared.stop.Stop.TheVariants.{KeeperFault, StoreFault, BadStored, NoMemory}
+use Rattle.fluid_desk.specs.declared.stop.StoredFault.TheVariants.{Lane, Delta, Object}
 use Rattle.fluid_desk.specs.Stands.{DeskStands}
-use Rattle.fluid_desk.specs.Stopping.{IsHonest, HasRun}
+use Rattle.fluid_desk.specs.Stopping.{AreFew, MayStop, HasRun}
+use Rattle.fluid_desk.proofs.Few.{few_more}
+use Rattle.fluid_desk.proofs.Running.{run_more}
 use Rattle.fluid_containers.specs.Ending.{RunsLinking, StopsForLinking}
 use Rattle.fluid_containers.specs.Stepping.{MayStand as MayShow}
 use Rattle.fluid_types.specs.Forms.{largest}
@@ -33,7 +40,7 @@ use Rattle.fluid_world.specs.declared.named.Named.{Named}
 use Rattle.fluid_world.specs.declared.named.Named.TheVariants as a
 use Rattle.fluid_world.specs.Naming.{AreCounted, refusal_by}
 use Rattle.fluid_world.specs.Standing.{IsNamed, WorldStands, StepTakes}
-use Rattle.fluid_world.specs.Taking.{Scripting, means, ScriptStands, LeavesOwn, StandsBehind, MayStand, IsWithin, RanTo, StoodTo, Goes, FollowsBy, Follows, spoken, Moves, Wrote, WritesBy, TookLine, TakesBy, HasStopped, HaltsBy}
+use Rattle.fluid_world.specs.Taking.{Scripting, means, ScriptStands, MayEnd, StoppedBehind, LeavesOwn, StandsBehind, MayStand, IsWithin, RanTo, StoodTo, Goes, FollowsBy, Follows, spoken, Moves, Wrote, WritesBy, TookLine, TakesBy, HasStopped, HaltsBy}
 use Rattle.fluid_world.proofs.Behind.{same_refusal}
 
 -- ---- at a line
@@ -92,12 +99,39 @@ module _ (step : Step) (s : Scripting) (accepted : refusal_by s.names step ≡ N
   moment_behind limits =
       (done_leaves limits (at_line w) at.sound step (same_refusal s.names (at_line w) at.named step ∙ accepted)).moment ∙ ap (λ n. n + 1) stands.moment
 
+-- ---- the end of all numbers
+
+-- no document has more side steps than so many
+sides_few : (l : Option Standing) (n : ℕ) → ((lane : Standing) → l ≡ Some lane → lane.sides ≤ n) → option_map_or (λ (s : Standing). s.sides) l 0 ≤ n
+sides_few None n few = omega arith
+sides_few (Some lane) n few = few lane refl
+
+-- a step that may end a desk may end a script
+pub may_end : (v : World) (o : Opened) (n : ℕ) (stop : Stop) → n ≤ MOST_LINES + 2 → AreFew n o → v.moment ≡ n → MayStop v o stop → MayEnd v stop
+may_end v o n (KeeperFault note) lines few at may = tt
+may_end v o n (StoreFault note) lines few at may = tt
+may_end v o n NoMemory lines few at may = tt
+may_end v o n (BadStored (Delta number)) lines few at may = absurd may.1
+may_end v o n (BadStored (Object fault)) lines few at may = absurd may.1
+may_end v o n (BadStored (Lane lane.Worn)) lines few at may =
+    (omega (arith, at, lines), (may.0, omega (arith, may.1, at, sides_few (get o.lanes may.0) n (λ lane there. few may.0 lane there))))
+may_end v o n (BadStored (Lane (lane.LogFailed note))) lines few at may = absurd may.1
+may_end v o n (BadStored (Lane (lane.Full entries))) lines few at may = absurd may.1
+may_end v o n (BadStored (Lane (lane.BadRecord place))) lines few at may = absurd may.1
+may_end v o n (BadStored (Lane (lane.NoCheckpoint asked stored))) lines few at may = absurd may.1
+may_end v o n (BadStored (Lane lane.CheckpointsFull)) lines few at may = absurd may.1
+may_end v o n (BadStored (Lane lane.TooManyClients)) lines few at may = absurd may.1
+may_end v o n (BadStored (Lane (lane.DeltaFailed note))) lines few at may = absurd may.1
+may_end v o n (BadStored (Lane lane.NoMemory)) lines few at may = absurd may.1
+may_end v o n (BadStored (Lane (lane.BadCheckpoint number fault))) lines few at may = absurd may.1
+may_end v o n (BadStored (Lane (lane.TooLarge bytes))) lines few at may = absurd may.1
+
 -- what `write_step` owes
 abbrev pub Writing : Scripting → Scripting → Step → (old new : List ℕ) → Result (Unit {0}) Stop → Type 0
 Writing old mid step ow nw result = (w : World) → ScriptStands old w → WritesBy (done old.lanes.limits (at_line w) step) old.speaks mid ow nw result
 
 abbrev pub Running : Scripting → Scripting → Result (Unit {0}) Stop → Type 0
-Running old mid result = (first : ℕ) → HasRun first old.lanes → RunsLinking first old.store mid.store mid.lanes result
+Running old mid result = (first : ℕ) → HasRun first old.lines old.lanes → RunsLinking first (old.lines + 1) old.store mid.store mid.lanes result
 
 module _ (step : Step) (old mid : Scripting) (ow nw : List ℕ) (accepted : refusal_by old.names step ≡ None) (owned : LeavesOwn step) (moves : Moves old mid) where
   abbrev behind_ok : ℕ → Scripting
@@ -106,12 +140,15 @@ module _ (step : Step) (old mid : Scripting) (ow nw : List ℕ) (accepted : refu
   abbrev behind_err : Stop → Scripting
   behind_err stop = record mid { stop = Some stop }
 
-  stands_ok : (moment : ℕ) → moment ≡ old.lines + 1 → Writing old mid step ow nw (Ok tt) → (w : World) → ScriptStands old w → ScriptStands (behind_ok moment) (done old.lanes.limits (at_line w) step).world
-  stands_ok moment is writes w stands = record {
+  stands_ok : (moment : ℕ) → moment ≡ old.lines + 1 → Writing old mid step ow nw (Ok tt) → Running old mid (Ok tt) → (w : World) → ScriptStands old w
+      → ScriptStands (behind_ok moment) (done old.lanes.limits (at_line w) step).world
+  stands_ok moment is writes runs w stands = record {
     good = moves.good ∙ stands.good;
     stands = (writes w stands).stands;
     moment = moment_behind step old accepted w stands old.lanes.limits ∙ sym is;
     owned = owned old.lanes.limits w stands.owned;
+    run = subst (λ n. HasRun 0 n mid.lanes) (sym is) (runs 0 stands.run);
+    going = moves.stop ∙ stands.going;
   }
 
   pub goes_ok : (moment : ℕ) → moment ≡ old.lines + 1 → IsWithin MOST_LINES old → Writing old mid step ow nw (Ok tt) → Running old mid (Ok tt) → Goes old (behind_ok moment)
@@ -121,12 +158,12 @@ module _ (step : Step) (old mid : Scripting) (ow nw : List ℕ) (accepted : refu
     good = moves.good;
     counts = moves.counts;
     few = λ few. omega (arith, is, within.lines);
-    runs = λ first run. subst (RanTo first old.store (behind_ok moment)) (sym (moves.stop ∙ within.going)) (runs first run);
+    runs = λ first run. subst (RanTo first old.store (behind_ok moment)) (sym (moves.stop ∙ within.going)) (subst (λ n. HasRun first n mid.lanes) (sym is) (runs first run));
     stood = λ may. subst (StoodTo (behind_ok moment)) (sym (moves.stop ∙ within.going)) (λ good. by (may (sym moves.good ∙ good)));
   }
     where
       by : (w : World) × ScriptStands old w → (w : World) × ScriptStands (behind_ok moment) w
-      by (w, stands) = ((done old.lanes.limits (at_line w) step).world, stands_ok moment is writes w stands)
+      by (w, stands) = ((done old.lanes.limits (at_line w) step).world, stands_ok moment is writes runs w stands)
 
   pub goes_err : (stop : Stop) → Writing old mid step ow nw (Err stop) → Running old mid (Err stop) → Goes old (behind_err stop)
   goes_err stop writes runs = record {
@@ -135,15 +172,17 @@ module _ (step : Step) (old mid : Scripting) (ow nw : List ℕ) (accepted : refu
     good = moves.good;
     counts = moves.counts;
     few = λ few. omega (arith, few, moves.lines);
-    runs = runs;
-    stood = λ may good. by (may (sym moves.good ∙ good));
+    runs = λ first run. subst (λ n. StopsForLinking first (n + 1) old.store mid.store mid.lanes stop) (sym moves.lines) (runs first run);
+    stood = λ may. tt;
   }
-    where
-      by : (w : World) × ScriptStands old w → IsHonest stop
-      by (w, stands) = writes w stands
 
-  pub within_ok : (moment n : ℕ) → moment ≡ old.lines + 1 → IsWithin n old → AreCounted (n + 1) mid.names → Writing old mid step ow nw (Ok tt) → IsWithin (n + 1) (behind_ok moment)
-  within_ok moment n is within counted writes = record {
+  -- why it ended it
+  pub takes_err : (stop : Stop) → IsWithin MOST_LINES old → Writing old mid step ow nw (Err stop) → Running old mid (Err stop) → (w : World) → ScriptStands old w → MayEnd (done old.lanes.limits (at_line w) step).world stop
+  takes_err stop within writes runs w stands =
+      may_end (done old.lanes.limits (at_line w) step).world mid.lanes (old.lines + 1) stop (omega (arith, within.lines)) (runs 0 stands.run).few (moment_behind step old accepted w stands old.lanes.limits) (writes w stands)
+
+  pub within_ok : (moment n : ℕ) → moment ≡ old.lines + 1 → IsWithin n old → AreCounted (n + 1) mid.names → Writing old mid step ow nw (Ok tt) → Running old mid (Ok tt) → IsWithin (n + 1) (behind_ok moment)
+  within_ok moment n is within counted writes runs = record {
     lines = omega (arith, is, within.lines);
     numbers = counted;
     going = moves.stop ∙ within.going;
@@ -151,13 +190,13 @@ module _ (step : Step) (old mid : Scripting) (ow nw : List ℕ) (accepted : refu
   }
     where
       by : (w : World) × ScriptStands old w → (w : World) × ScriptStands (behind_ok moment) w
-      by (w, stands) = ((done old.lanes.limits (at_line w) step).world, stands_ok moment is writes w stands)
+      by (w, stands) = ((done old.lanes.limits (at_line w) step).world, stands_ok moment is writes runs w stands)
 
-  pub takes_ok : (moment : ℕ) → moment ≡ old.lines + 1 → Writing old mid step ow nw (Ok tt) → (w : World) → ScriptStands old w
+  pub takes_ok : (moment : ℕ) → moment ≡ old.lines + 1 → Writing old mid step ow nw (Ok tt) → Running old mid (Ok tt) → (w : World) → ScriptStands old w
       → TookLine (refusal w step) (done old.lanes.limits (at_line w) step) old.speaks (behind_ok moment) ow nw
-  takes_ok moment is writes w stands = record {
+  takes_ok moment is writes runs w stands = record {
     accepted = not_refused step old accepted w stands;
-    stands = stands_ok moment is writes w stands;
+    stands = stands_ok moment is writes runs w stands;
     waits = (writes w stands).waits;
   }
 
@@ -177,8 +216,8 @@ pub few_steps : (s : Scripting) → IsWithin MOST_LINES s → (n : ℕ) × (AreC
 few_steps s h = (MOST_LINES, (h.numbers, omega arith))
 
 -- want of memory for what a step writes
-pub ran_short : (first : ℕ) (before now : Storing) (o : Opened) → HasRun first o → StopsForLinking first before now o NoMemory
-ran_short first before now o run = record { shelves = run.shelves; ends = tt }
+pub ran_short : (first steps : ℕ) (before now : Storing) (o : Opened) → HasRun first steps o → StopsForLinking first steps before now o NoMemory
+ran_short first steps before now o run = record { shelves = run.shelves; few = run.few; ends = tt }
 
 -- ---- a line
 
@@ -201,8 +240,8 @@ goes_wanting s going = record {
   good = refl;
   counts = omega arith;
   few = λ few. few;
-  runs = λ first run. record { shelves = run.shelves; ends = tt };
-  stood = λ may good. tt;
+  runs = λ first run. record { shelves = run.shelves; few = few_more s.lines s.lanes run.few; ends = tt };
+  stood = λ may. tt;
 }
 
 pub follows_by : (s t : Scripting) → s.stop ≡ None → Goes s t → Follows s t
@@ -221,7 +260,7 @@ abbrev passed : Scripting → Scripting
 passed s = record s { lines = s.lines + 1 }
 
 passed_stands : (s : Scripting) (w : World) → ScriptStands s w → ScriptStands (passed s) (at_line w)
-passed_stands s w h = record { good = h.good; stands = stands_at s.lanes s.store s.names w h.stands; moment = ap (λ n. n + 1) h.moment; owned = h.owned }
+passed_stands s w h = record { good = h.good; stands = stands_at s.lanes s.store s.names w h.stands; moment = ap (λ n. n + 1) h.moment; owned = h.owned; run = run_more 0 s.lines s.lanes h.run; going = h.going }
 
 pub passes : (s : Scripting) (w : World) (text waiting : List ℕ) → (length text == 0) ≡ true → ScriptStands s w
     → TookLine (text_refusal w text) (taken s.lanes.limits w text) s.speaks (passed s) waiting waiting
@@ -243,7 +282,7 @@ goes_passed s within = record {
   good = refl;
   counts = omega arith;
   few = λ few. omega (arith, within.lines);
-  runs = λ first run. subst (RanTo first s.store (passed s)) (sym within.going) run;
+  runs = λ first run. subst (RanTo first s.store (passed s)) (sym within.going) (run_more first s.lines s.lanes run);
   stood = λ may. subst (StoodTo (passed s)) (sym within.going) (λ good. by (may good));
 }
   where
@@ -326,6 +365,18 @@ module _ (told : Option World) (m : Meaning LineWhy) (before : List (List ℕ)) 
   pub takes_line : (result : Result (Unit {0}) (Untaken LineWhy Halted)) → ((v : World) → ScriptStands old v → TakesBy (text_refusal v text) v (taken limits v text) old.speaks new ow nw result)
       → Takes m (λ ls. StandsBehind told m ls new) before text ow nw result
   takes_line result takes = subst (λ n. Takes n (λ ls. StandsBehind told m ls new) before text ow nw result) (sym b.is) (takes_by result (takes w b.stands))
+
+  -- it failed at this line
+  pub fails_line : (result : Result (Unit {0}) (Untaken LineWhy Halted)) → ((v : World) → ScriptStands old v → TakesBy (text_refusal v text) v (taken limits v text) old.speaks new ow nw result)
+      → FailsBy (λ (halted : Halted). StoppedBehind told (before ++ text ∷ []) new) result
+  fails_line (Ok done) takes = tt
+  fails_line (Err (Refused why)) takes = tt
+  fails_line (Err (Failed halted)) takes = record {
+    first = b.first;
+    is_told = b.is_told;
+    ends = subst (λ l. IfSome new.stop (MayEnd (behind l b.first (before ++ text ∷ [])))) (sym goes.limits)
+        (subst (λ v. IfSome new.stop (MayEnd v)) (sym (world limits b.first before text)) (takes w b.stands));
+  }
 
 pub goes_of : (s t : Scripting) → s.stop ≡ None → Follows s t → Goes s t
 goes_of s t going follows = by s.stop going follows

@@ -22,13 +22,12 @@ use Rattle.fluid_desk.specs.declared.stop.Stop.TheVariants as stop
 use Rattle.fluid_desk.specs.declared.stop.StoredFault.{StoredFault}
 use Rattle.fluid_desk.specs.declared.stop.StoredFault.TheVariants.{Lane}
 use Rattle.fluid_desk.specs.Stands.{DeskStands, ShelvesTell, StoreStands}
-use Rattle.fluid_desk.specs.Stopping.{IsHonest}
 use Rattle.fluid_holding.specs.Holding.{HoldsOwn}
 use Rattle.fluid_door_link.specs.Hushing.{IsHushed}
 use Rattle.fluid_containers.specs.Ending.{EndsForLinking, StopsForLinking}
 use Rattle.fluid_world.specs.declared.ends.ScriptEnd.{ScriptEnd}
 use Rattle.fluid_world.specs.declared.ends.ScriptEnd.TheVariants.{Done, BadLine, ReadFault, WriteFault, KeeperFault, StoreFault, BadStored, NoMemory}
-use Rattle.fluid_world.specs.Taking.{Scripting, means}
+use Rattle.fluid_world.specs.Taking.{Scripting, means, IsLong}
 
 -- the end of a script that a step ended
 abbrev pub end_for : Stop → ScriptEnd
@@ -147,6 +146,17 @@ WasCut limits w (Some document) before now =
 abbrev pub WasBegun : (speaks : Bool) → Limits → World → Outside → Outside → Type 0
 WasBegun speaks limits w before now = Wrote (IsBegun (means speaks limits w)) before.source.left before.sink.written now.sink.written
 
+-- the same behind the last container, where one is loaded
+abbrev pub IsLongAtLast : Limits → World → (load : Option (List ℕ)) → Type 0
+IsLongAtLast limits w None = ⊥
+IsLongAtLast limits w (Some document) = IsLong (loaded_last limits w document).world
+
+-- a document is long behind some first lines of the input
+pub record GrowsLong (limits : Limits) (w : World) (load input : Option (List ℕ)) : Type 0 where
+  pub lines : List (List ℕ)
+  pub are_first : AreFirst input lines
+  pub long : IsLong (behind limits w lines) ⊎ IsLongAtLast limits (behind limits w lines) load
+
 abbrev pub Writes : Limits → World → (load : Option (List ℕ)) → Outside → Outside → ScriptEnd → Type 0
 Writes limits w load before now Done = DoesAll limits w load before now
 Writes limits w load before now (BadLine number why) = DidRefuse (is_none load) limits w number why before now
@@ -154,15 +164,16 @@ Writes limits w load before now ReadFault = Wrote (IsInterrupted (means (is_none
 Writes limits w load before now WriteFault = WasCut limits w load before now
 Writes limits w load before now (KeeperFault note) = WasBegun (is_none load) limits w before now
 Writes limits w load before now (StoreFault note) = WasBegun (is_none load) limits w before now
-Writes limits w load before now (BadStored fault) = (fault ≡ Lane Worn) × WasBegun (is_none load) limits w before now
+Writes limits w load before now (BadStored fault) = (fault ≡ Lane Worn) × (GrowsLong limits w load before.source.left × WasBegun (is_none load) limits w before now)
 Writes limits w load before now NoMemory = WasBegun (is_none load) limits w before now
 
 -- ---- the same, while the documents are open
 
--- a step ended it
+-- the last of so many steps ended it
 pub record StopsSo (first : ℕ) (before : Storing) (input : Reading) (start : Writing) (source : Reading) (sink : Writing) (s : Scripting) (stop : Stop) : Type 0 where
   pub quiet : NoFault input start source sink
-  pub stops : StopsForLinking first before s.store s.lanes stop
+  pub steps : ℕ
+  pub stops : StopsForLinking first steps before s.store s.lanes stop
 
 abbrev pub EndsBy : (first : ℕ) → (before : Storing) → Reading → Writing → Reading → Writing → Scripting → ScriptEnd → Type 0
 EndsBy first before input start source sink s Done = NoFault input start source sink
@@ -193,15 +204,14 @@ ShowsBy told old new s Done = PartsStand s told.world × Appends (written told.l
 ShowsBy told old new s WriteFault = AppendsFront (written told.lines) old.written new.written
 ShowsBy told old new s (KeeperFault note) = new ≡ old
 ShowsBy told old new s (StoreFault note) = new ≡ old
-ShowsBy told old new s (BadStored fault) = (fault ≡ Lane Worn) × (new ≡ old)
+ShowsBy told old new s (BadStored fault) = (fault ≡ Lane Worn) × (IsLong told.world × (new ≡ old))
 ShowsBy told old new s NoMemory = new ≡ old
 ShowsBy told old new s end = ⊥
 
 -- what comes behind all lines
-abbrev pub ConcludesBy : Option Stop → Limits → World → (load : Option (List ℕ)) → (old new : Writing) → Scripting → ScriptEnd → Type 0
-ConcludesBy (Some stop) limits w load old new s end = (new ≡ old) × ((end ≡ end_for stop) × IsHonest stop)
-ConcludesBy None limits w None old new s end = (end ≡ Done) × ((new ≡ old) × PartsStand s w)
-ConcludesBy None limits w (Some document) old new s end = ShowsBy (loaded_last limits w document) old new s end
+abbrev pub ConcludesBy : Limits → World → (load : Option (List ℕ)) → (old new : Writing) → Scripting → ScriptEnd → Type 0
+ConcludesBy limits w None old new s end = (end ≡ Done) × ((new ≡ old) × PartsStand s w)
+ConcludesBy limits w (Some document) old new s end = ShowsBy (loaded_last limits w document) old new s end
 
 -- as `Writes`, by what the open documents and the store stand for
 pub record DidSo (limits : Limits) (w : World) (input : Reading) (start : Writing) (source : Reading) (sink : Writing) (s : Scripting) : Type 0 where
@@ -246,5 +256,5 @@ WritesSo limits w load input start source sink s ReadFault = Wrote (IsInterrupte
 WritesSo limits w load input start source sink s WriteFault = CutSo limits w load input start sink
 WritesSo limits w load input start source sink s (KeeperFault note) = BegunSo (is_none load) limits w input start sink
 WritesSo limits w load input start source sink s (StoreFault note) = BegunSo (is_none load) limits w input start sink
-WritesSo limits w load input start source sink s (BadStored fault) = (fault ≡ Lane Worn) × BegunSo (is_none load) limits w input start sink
+WritesSo limits w load input start source sink s (BadStored fault) = (fault ≡ Lane Worn) × (GrowsLong limits w load input.left × BegunSo (is_none load) limits w input start sink)
 WritesSo limits w load input start source sink s NoMemory = BegunSo (is_none load) limits w input start sink

@@ -1,5 +1,5 @@
 -- A script goes on line by line.
-use Rattle.std.specs.Prelude.{◌≡◌, ◌≤◌, ℕ, Option, Some, None, refl}
+use Rattle.std.specs.Prelude.{◌≡◌, ◌≤◌, ◌+◌, ℕ, Option, Some, None, refl}
 use Rattle.std.proofs.Common.{sym, subst, ◌∙◌, arith}
 use Rattle.fluid_store.specs.Storing.{Storing}
 use Rattle.fluid_lanes.specs.Opened.{Opened}
@@ -19,12 +19,12 @@ ends_since first before mid now o (BadStored (Delta number)) le h = h
 ends_since first before mid now o (BadStored (Object fault)) le h = h
 ends_since first before mid now o NoMemory le h = h
 
-pub stops_since : (first : ℕ) (before mid now : Storing) (o : Opened) (stop : Stop) → before.faults ≤ mid.faults → StopsForLinking first mid now o stop → StopsForLinking first before now o stop
-stops_since first before mid now o stop le h = record { shelves = h.shelves; ends = ends_since first before mid now o stop le h.ends }
+pub stops_since : (first steps : ℕ) (before mid now : Storing) (o : Opened) (stop : Stop) → before.faults ≤ mid.faults → StopsForLinking first steps mid now o stop → StopsForLinking first steps before now o stop
+stops_since first steps before mid now o stop le h = record { shelves = h.shelves; few = h.few; ends = ends_since first before mid now o stop le h.ends }
 
 ran_since : (first : ℕ) (before mid : Storing) (s : Scripting) (stop : Option Stop) → before.faults ≤ mid.faults → RanTo first mid s stop → RanTo first before s stop
 ran_since first before mid s None le h = h
-ran_since first before mid s (Some stop) le h = stops_since first before mid s.store s.lanes stop le h
+ran_since first before mid s (Some stop) le h = stops_since first (s.lines + 1) before mid s.store s.lanes stop le h
 
 -- ---- following
 

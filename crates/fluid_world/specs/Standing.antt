@@ -10,7 +10,7 @@ use Rattle.fluid_transcript.specs.Sound.{IsSound}
 use Rattle.fluid_desk.specs.declared.stop.Stop.{Stop}
 use Rattle.fluid_desk.specs.declared.stop.Stop.TheVariants.{NoMemory}
 use Rattle.fluid_desk.specs.Stands.{DeskStands, StoreStands}
-use Rattle.fluid_desk.specs.Stopping.{IsHonest}
+use Rattle.fluid_desk.specs.Stopping.{MayStop}
 use Rattle.fluid_containers.specs.Holders.{IsHolderOf}
 use Rattle.fluid_world.specs.declared.named.Named.{Named}
 use Rattle.fluid_world.specs.declared.named.Named.TheVariants as a
@@ -37,7 +37,7 @@ pub record Took (told : Told) (lanes : Opened) (store : Storing) (names : Values
 
 abbrev pub StepTakes : Told → Opened → Storing → Values Named → Result (List ℕ) Stop → Type 0
 StepTakes told lanes store names (Ok bytes) = Took told lanes store names bytes
-StepTakes told lanes store names (Err stop) = IsHonest stop
+StepTakes told lanes store names (Err stop) = MayStop told.world lanes stop
 
 -- the bytes of this one line, or want of memory for them
 abbrev pub IsWrittenOf : Result (List ℕ) Stop → Result (List ℕ) Stop → Type 0

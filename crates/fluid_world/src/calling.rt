@@ -44,7 +44,7 @@ where
     requires accepted { sender_refusal (get names.old.table.values name) ≡ None }
     ensures does { (w : World) → WorldStands lanes.old objects.old names.old.table.values w → w.moment ≡ moment →
         StepTakes (done lanes.old.limits w (step.Send name text.now)) lanes.new objects.new names.new.table.values result }
-    ensures runs { (first : ℕ) → HasRun first lanes.old → RunsLinking first objects.old objects.new lanes.new result }
+    ensures runs { (first steps : ℕ) → HasRun first steps lanes.old → RunsLinking first (steps + 1) objects.old objects.new lanes.new result }
     ensures limits { lanes.new.limits ≡ lanes.old.limits }
     ensures counts { objects.old.faults ≤ objects.new.faults }
     ensures numbers { OnOk result ((n : ℕ) → AreCounted n names.old.table.values → AreCounted (n + 1) names.new.table.values) }
@@ -74,7 +74,7 @@ where
     requires room { 0 < names.old.table.spare }
     ensures does { (w : World) → WorldStands lanes.old objects.old names.old.table.values w → w.moment ≡ moment →
         StepTakes (done lanes.old.limits w (step.Send name text.now)) lanes.new objects.new names.new.table.values result }
-    ensures runs { (first : ℕ) → HasRun first lanes.old → RunsLinking first objects.old objects.new lanes.new result }
+    ensures runs { (first steps : ℕ) → HasRun first steps lanes.old → RunsLinking first (steps + 1) objects.old objects.new lanes.new result }
     ensures limits { lanes.new.limits ≡ lanes.old.limits }
     ensures counts { objects.old.faults ≤ objects.new.faults }
     ensures numbers { OnOk result ((n : ℕ) → AreCounted n names.old.table.values → AreCounted (n + 1) names.new.table.values) }
@@ -105,7 +105,7 @@ where
     requires accepted { connection_refusal (get names.old.table.values name.now) ≡ None }
     ensures does { (w : World) → WorldStands lanes.old objects.old names.old.table.values w → w.moment ≡ moment →
         StepTakes (done lanes.old.limits w (step.Send name.now text.now)) lanes.new objects.new names.new.table.values result }
-    ensures runs { (first : ℕ) → HasRun first lanes.old → RunsLinking first objects.old objects.new lanes.new result }
+    ensures runs { (first steps : ℕ) → HasRun first steps lanes.old → RunsLinking first (steps + 1) objects.old objects.new lanes.new result }
     ensures limits { lanes.new.limits ≡ lanes.old.limits }
     ensures counts { objects.old.faults ≤ objects.new.faults }
     ensures numbers { OnOk result ((n : ℕ) → AreCounted n names.old.table.values → AreCounted (n + 1) names.new.table.values) }
@@ -134,7 +134,7 @@ where
     requires accepted { connection_refusal (get names.old.table.values name.now) ≡ None }
     ensures does { (w : World) → WorldStands lanes.old _objects.now names.old.table.values w → w.moment ≡ moment →
         StepTakes (done lanes.old.limits w (step.Collect name.now)) lanes.new _objects.now names.new.table.values result }
-    ensures runs { (first : ℕ) → HasRun first lanes.old → RunsLinking first _objects.now _objects.now lanes.new result }
+    ensures runs { (first steps : ℕ) → HasRun first steps lanes.old → RunsLinking first (steps + 1) _objects.now _objects.now lanes.new result }
     ensures limits { lanes.new.limits ≡ lanes.old.limits }
     ensures numbers { OnOk result ((n : ℕ) → AreCounted n names.old.table.values → AreCounted (n + 1) names.new.table.values) }
 {
@@ -162,7 +162,7 @@ where
     requires accepted { connection_refusal (get names.old.table.values name.now) ≡ None }
     ensures does { (w : World) → WorldStands lanes.old _objects.now names.old.table.values w → w.moment ≡ moment →
         StepTakes (done lanes.old.limits w (step.Close name.now)) lanes.new _objects.now names.new.table.values result }
-    ensures runs { (first : ℕ) → HasRun first lanes.old → RunsLinking first _objects.now _objects.now lanes.new result }
+    ensures runs { (first steps : ℕ) → HasRun first steps lanes.old → RunsLinking first (steps + 1) _objects.now _objects.now lanes.new result }
     ensures limits { lanes.new.limits ≡ lanes.old.limits }
     ensures numbers { OnOk result ((n : ℕ) → AreCounted n names.old.table.values → AreCounted (n + 1) names.new.table.values) }
 {

@@ -86,7 +86,7 @@ where
     requires few { (n : ℕ) × (AreCounted n names.old.table.values × (n < largest)) }
     ensures does { (w : World) → good ≡ true → WorldStands lanes.old objects.old names.old.table.values w → HoldsOwn w.store → w.moment ≡ moment →
         StepTakes (done lanes.old.limits w step) lanes.new objects.new names.new.table.values result }
-    ensures runs { (first : ℕ) → HasRun first lanes.old → RunsLinking first objects.old objects.new lanes.new result }
+    ensures runs { (first steps : ℕ) → HasRun first steps lanes.old → RunsLinking first (steps + 1) objects.old objects.new lanes.new result }
     ensures limits { lanes.new.limits ≡ lanes.old.limits }
     ensures counts { objects.old.faults ≤ objects.new.faults }
     ensures numbers { OnOk result ((n : ℕ) → AreCounted n names.old.table.values → AreCounted (n + 1) names.new.table.values) }

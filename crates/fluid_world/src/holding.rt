@@ -49,7 +49,7 @@ where
     requires accepted { new_refusal (get names.old.table.values name) ≡ None }
     ensures does { (w : World) → good ≡ true → WorldStands lanes.old objects.old names.old.table.values w → w.moment ≡ moment →
         StepTakes (done lanes.old.limits w (step.Load name document.now pick.now)) lanes.new objects.new names.new.table.values result }
-    ensures runs { (first : ℕ) → HasRun first lanes.old → RunsLinking first objects.old objects.new lanes.new result }
+    ensures runs { (first steps : ℕ) → HasRun first steps lanes.old → RunsLinking first (steps + 1) objects.old objects.new lanes.new result }
     ensures limits { lanes.new.limits ≡ lanes.old.limits }
     ensures counts { objects.old.faults ≤ objects.new.faults }
     ensures numbers { OnOk result ((n : ℕ) → AreCounted n names.old.table.values → AreCounted (n + 1) names.new.table.values) }
@@ -92,7 +92,7 @@ where
     requires accepted { container_refusal (get names.old.table.values name.now) ≡ None }
     ensures does { (w : World) → good ≡ true → WorldStands lanes.old objects.old names.old.table.values w → w.moment ≡ moment →
         StepTakes (done lanes.old.limits w (step.Pump name.now)) lanes.new objects.new names.new.table.values result }
-    ensures runs { (first : ℕ) → HasRun first lanes.old → RunsLinking first objects.old objects.new lanes.new result }
+    ensures runs { (first steps : ℕ) → HasRun first steps lanes.old → RunsLinking first (steps + 1) objects.old objects.new lanes.new result }
     ensures limits { lanes.new.limits ≡ lanes.old.limits }
     ensures counts { objects.old.faults ≤ objects.new.faults }
     ensures numbers { OnOk result ((n : ℕ) → AreCounted n names.old.table.values → AreCounted (n + 1) names.new.table.values) }
@@ -126,7 +126,7 @@ where
     requires few { (n : ℕ) × (AreCounted n names.old.table.values × (n < largest)) }
     ensures does { (w : World) → good ≡ true → WorldStands lanes.old objects.old names.old.table.values w → w.moment ≡ moment →
         StepTakes (done lanes.old.limits w (step.Edit name.now (Ok op))) lanes.new objects.new names.new.table.values result }
-    ensures runs { (first : ℕ) → HasRun first lanes.old → RunsLinking first objects.old objects.new lanes.new result }
+    ensures runs { (first steps : ℕ) → HasRun first steps lanes.old → RunsLinking first (steps + 1) objects.old objects.new lanes.new result }
     ensures limits { lanes.new.limits ≡ lanes.old.limits }
     ensures counts { objects.old.faults ≤ objects.new.faults }
     ensures numbers { OnOk result ((n : ℕ) → AreCounted n names.old.table.values → AreCounted (n + 1) names.new.table.values) }
@@ -158,7 +158,7 @@ where
     requires few { (n : ℕ) × (AreCounted n names.old.table.values × (n < largest)) }
     ensures does { (w : World) → good ≡ true → WorldStands lanes.old objects.old names.old.table.values w → w.moment ≡ moment →
         StepTakes (done lanes.old.limits w (step.Beat name.now)) lanes.new objects.new names.new.table.values result }
-    ensures runs { (first : ℕ) → HasRun first lanes.old → RunsLinking first objects.old objects.new lanes.new result }
+    ensures runs { (first steps : ℕ) → HasRun first steps lanes.old → RunsLinking first (steps + 1) objects.old objects.new lanes.new result }
     ensures limits { lanes.new.limits ≡ lanes.old.limits }
     ensures counts { objects.old.faults ≤ objects.new.faults }
     ensures numbers { OnOk result ((n : ℕ) → AreCounted n names.old.table.values → AreCounted (n + 1) names.new.table.values) }
@@ -190,7 +190,7 @@ where
     requires few { (n : ℕ) × (AreCounted n names.old.table.values × (n < largest)) }
     ensures does { (w : World) → good ≡ true → WorldStands lanes.old objects.old names.old.table.values w → HoldsOwn w.store → w.moment ≡ moment →
         StepTakes (done lanes.old.limits w (step.Summarize name.now)) lanes.new objects.new names.new.table.values result }
-    ensures runs { (first : ℕ) → HasRun first lanes.old → RunsLinking first objects.old objects.new lanes.new result }
+    ensures runs { (first steps : ℕ) → HasRun first steps lanes.old → RunsLinking first (steps + 1) objects.old objects.new lanes.new result }
     ensures limits { lanes.new.limits ≡ lanes.old.limits }
     ensures counts { objects.old.faults ≤ objects.new.faults }
     ensures numbers { OnOk result ((n : ℕ) → AreCounted n names.old.table.values → AreCounted (n + 1) names.new.table.values) }
@@ -219,7 +219,7 @@ where
     requires accepted { container_refusal (get names.now.table.values name.now) ≡ None }
     ensures does { (w : World) → WorldStands lanes.old _objects.now names.now.table.values w → w.moment ≡ moment →
         StepTakes (done lanes.old.limits w (step.Show name.now)) lanes.new _objects.now names.now.table.values result }
-    ensures runs { (first : ℕ) → HasRun first lanes.old → RunsLinking first _objects.now _objects.now lanes.new result }
+    ensures runs { (first steps : ℕ) → HasRun first steps lanes.old → RunsLinking first (steps + 1) _objects.now _objects.now lanes.new result }
     ensures limits { lanes.new.limits ≡ lanes.old.limits }
 {
     steps_leave_others();

@@ -16,7 +16,7 @@ ghost use Rattle.fluid_desk.specs.Stopping.{HasRun};
 ghost use Rattle.fluid_door_link.specs.Hushing.{hushed, IsHushed, IsShortAsTold};
 ghost use Rattle.fluid_containers.specs.Ending.{RunsLinking};
 ghost use Rattle.fluid_containers.specs.Stepping.{MayStand};
-ghost use Rattle.fluid_world.specs.Taking.{HasStopped, RanTo, ScriptStands, StoodTo, means};
+ghost use Rattle.fluid_world.specs.Taking.{HasStopped, RanTo, ScriptStands, StoodTo, StopsAt, means};
 ghost use Rattle.fluid_world.specs.Ending.{ConcludesBy, EndsBy, HasCause, IsDeskOf, LastWrites, ShowsBy, Writes, WritesSo, end_for, full};
 
 use crate::ending::{end_for, why_of};
@@ -205,6 +205,7 @@ where
         RanTo first before script.old script.old.stop → HasEndCause input start source (K.seen output.old) ended → EndsBy first before input start source (K.seen output.new) script.new result }
     ensures writes { (w : World) (input : Reading) (start : Writing) (source : Reading) → script.old.good ≡ true → is_none load.entry ≡ script.old.speaks →
         Finished (means script.old.speaks script.old.lanes.limits w) (λ lines. ScriptStands script.old (behind script.old.lanes.limits w lines)) input start source (K.seen output.old) ended →
+        HasFailed (λ _. StopsAt script.old.lanes.limits w script.old.stop input.left) ended →
         WritesSo script.old.lanes.limits w (option_map (λ name. name.now) load.entry) input start source (K.seen output.new) script.new result }
 {
     match ended {
@@ -220,12 +221,12 @@ fn break_off<B: Shelves, O: Objects, W: Origin>(
 ) -> ScriptEnd
 where
     B::K: Drop,
-    requires stood { StoodTo script.old script.old.stop }
-    requires halted { HasFailed {A = Unit {0}} (λ _. HasStopped script.old) (Err stop) }
+    requires { HasFailed {A = Unit {0}} (λ _. HasStopped script.old) (Err stop) }
     ensures ends { (first : ℕ) (before : Storing) (input : Reading) (start : Writing) (source : Reading) (sink : Writing) →
         RanTo first before script.old script.old.stop → HasEndCause input start source sink (Err stop) → EndsBy first before input start source sink script.new result }
     ensures writes { (w : World) (load : Option (List ℕ)) (input : Reading) (start : Writing) (source : Reading) (sink : Writing) → script.old.good ≡ true → is_none load ≡ script.old.speaks →
         Finished (means script.old.speaks script.old.lanes.limits w) (λ lines. ScriptStands script.old (behind script.old.lanes.limits w lines)) input start source sink (Err stop) →
+        HasFailed {A = Unit {0}} (λ _. StopsAt script.old.lanes.limits w script.old.stop input.left) (Err stop) →
         WritesSo script.old.lanes.limits w load input start source sink script.new result }
 {
     match stop {
@@ -265,7 +266,7 @@ where
     ensures ends { (first : ℕ) (before : Storing) (input : Reading) (start : Writing) (source : Reading) → before.faults ≤ script.old.store.faults →
         RanTo first before script.old script.old.stop → NoFault input start source (K.seen output.old) → EndsBy first before input start source (K.seen output.new) script.new result }
     ensures writes { (w : World) → ScriptStands script.old w →
-        ConcludesBy script.old.stop script.old.lanes.limits w (option_map (λ name. name.now) load.entry) (K.seen output.old) (K.seen output.new) script.new result }
+        ConcludesBy script.old.lanes.limits w (option_map (λ name. name.now) load.entry) (K.seen output.old) (K.seen output.new) script.new result }
 {
     match script.take_stop() {
         Some(stop) => end_for(stop),
@@ -289,7 +290,7 @@ where
     requires lines { script.old.lines ≤ MOST_LINES + 1 }
     requires stands { MayStand good script.old.lanes }
     ensures ends { (first : ℕ) (before : Storing) (input : Reading) (start : Writing) (source : Reading) → before.faults ≤ script.old.store.faults →
-        HasRun first script.old.lanes → NoFault input start source (K.seen output.old) → EndsBy first before input start source (K.seen output.new) script.new result }
+        HasRun first script.old.lines script.old.lanes → NoFault input start source (K.seen output.old) → EndsBy first before input start source (K.seen output.new) script.new result }
     ensures writes { (w : World) → good ≡ true → ScriptStands script.old w →
         ShowsBy (loaded_last script.old.lanes.limits w document.now) (K.seen output.old) (K.seen output.new) script.new result }
 {
@@ -312,7 +313,7 @@ where
     requires stands { MayStand good script.old.lanes }
     ensures does { (w : World) → good ≡ true → ScriptStands script.old w →
         DeskDoesWith (loaded_last script.old.lanes.limits w document.now) script.new.lanes script.new.store result }
-    ensures runs { (first : ℕ) → HasRun first script.old.lanes → RunsLinking first script.old.store script.new.store script.new.lanes result }
+    ensures runs { (first : ℕ) → HasRun first script.old.lines script.old.lanes → RunsLinking first (script.old.lines + 1) script.old.store script.new.store script.new.lanes result }
 {
     let moment = script.lines + 1;
     load_last(

@@ -198,7 +198,7 @@ where
         requires accepted { refusal_by self.old.names step ≡ None }
         requires moment { moment ≡ self.old.lines + 1 }
         ensures moves { Moves self.old self.new }
-        ensures runs { (first : ℕ) → HasRun first self.old.lanes → RunsLinking first self.old.store self.new.store self.new.lanes result }
+        ensures runs { (first : ℕ) → HasRun first self.old.lines self.old.lanes → RunsLinking first (self.old.lines + 1) self.old.store self.new.store self.new.lanes result }
         ensures numbers { OnOk result ((n : ℕ) → AreCounted n self.old.names → AreCounted (n + 1) self.new.names) }
         ensures waits { OnErr result (waiting.new.items ≡ waiting.old.items) }
         ensures writes { (w : World) → ScriptStands self.old w →
@@ -241,7 +241,7 @@ impl<B: Shelves, O: Objects, W: Origin> Taker for Script<B, O, W>
 where
     B::K: Drop,
 {
-    ghost use Rattle.fluid_world.specs.Taking.{Follows, HasStopped, IsWithin, StandsBehind};
+    ghost use Rattle.fluid_world.specs.Taking.{Follows, HasStopped, IsWithin, StandsBehind, StoppedBehind};
     ghost use Rattle.fluid_world.specs.Going.{follows_itself, follows_on};
 
     type Why = LineWhy;
@@ -255,6 +255,8 @@ where
     ghost follows = { λ a b. Follows a b };
 
     ghost failed = { λ a b halted. HasStopped b };
+
+    ghost failed_at = { λ s m lines. StoppedBehind W.told lines s };
 
     ghost follows_itself = { λ s. follows_itself s };
 

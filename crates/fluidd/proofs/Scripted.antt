@@ -123,10 +123,10 @@ module _ (w : World) (load : Option (List ℕ)) (before now : Outside) where
     refused = λ e. absurd (omega arith);
     interrupted = λ e. absurd (omega arith);
     cut = λ e. absurd (omega arith);
-    begun = λ e. h.1;
-    worn = λ e. subst (IsRefusedBy before now) h.0 cause.1;
-    complete = λ bytes is all none. inr (inr (refl, subst (IsRefusedBy before now) h.0 cause.1));
-    refuses = λ bytes is refused none. inr (inr (refl, subst (IsRefusedBy before now) h.0 cause.1));
+    begun = λ e. h.1.1;
+    worn = λ e. (subst (IsRefusedBy before now) h.0 cause.1, h.1.0);
+    complete = λ bytes is all none. inr (inr (refl, h.1.0));
+    refuses = λ bytes is refused none. inr (inr (refl, h.1.0));
   }
   writes_as end.NoMemory cause h = record {
     whole = λ e. absurd (omega arith);

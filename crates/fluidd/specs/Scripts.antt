@@ -11,7 +11,7 @@ use Rattle.fluid_transcript.specs.World.{World}
 use Rattle.fluid_desk.specs.declared.stop.StoredFault.{StoredFault}
 use Rattle.fluid_desk.specs.declared.stop.StoredFault.TheVariants.{Lane}
 use Rattle.fluid_world.specs.Taking.{means}
-use Rattle.fluid_world.specs.Ending.{full, Outside, IsQuiet, IsRefusedBy, IsDeskOf, DoesAll, DidRefuse, WasBegun, WasCut}
+use Rattle.fluid_world.specs.Ending.{full, Outside, IsQuiet, IsRefusedBy, IsDeskOf, DoesAll, DidRefuse, GrowsLong, WasBegun, WasCut}
 use Rattle.fluid_world.specs.declared.ends.ScriptEnd.{ScriptEnd}
 use Rattle.fluid_world.specs.declared.ends.ScriptEnd.TheVariants as end
 use Rattle.fluidd.specs.declared.status.Status.{Status}
@@ -39,9 +39,9 @@ pub record NoneRose (before now : Outside) : Type 0 where
   pub shelves : Rose before.shelves.faults now.shelves.faults → ⊥
   pub store : Rose before.store.faults now.store.faults → ⊥
 
--- memory was wanting, or a document is worn
-abbrev pub FallsShort : (before now : Outside) → (status : ℕ) → Type 0
-FallsShort before now status = (status ≡ 6) ⊎ ((status ≡ 11) × IsRefusedBy before now (Lane Worn))
+-- memory was wanting, or the entries of a document and the lines come to the end of all numbers
+abbrev pub FallsShort : World → (load : Option (List ℕ)) → (before : Outside) → (status : ℕ) → Type 0
+FallsShort w load before status = (status ≡ 6) ⊎ ((status ≡ 11) × GrowsLong full w load before.source.left)
 
 -- where a desk tells a world, what the status says of what was written and of the desk that comes back
 pub record WritesAs (w : World) (load : Option (List ℕ)) (before now : Outside) (status : ℕ) : Type 0 where
@@ -55,11 +55,11 @@ pub record WritesAs (w : World) (load : Option (List ℕ)) (before now : Outside
   pub cut : status ≡ 5 → WasCut full w load before now
   -- 6, 7, 8, 11: a beginning that ends at a line's end
   pub begun : (status ≡ 6) ⊎ ((status ≡ 7) ⊎ ((status ≡ 8) ⊎ (status ≡ 11))) → WasBegun (is_none load) full w before now
-  -- 11: a document is worn
-  pub worn : status ≡ 11 → IsRefusedBy before now (Lane Worn)
+  -- 11: a document is worn: its entries and the lines come to the end of all numbers
+  pub worn : status ≡ 11 → IsRefusedBy before now (Lane Worn) × GrowsLong full w load before.source.left
   -- where no line is refused and nothing failed, all is done; and where one is, that is told
-  pub complete : (bytes : List ℕ) → before.source.left ≡ Some bytes → Accepts (means (is_none load) full w) [] (lines bytes) → NoneRose before now → (status ≡ 0) ⊎ FallsShort before now status
-  pub refuses : (bytes : List ℕ) → before.source.left ≡ Some bytes → HasRefused (means (is_none load) full w) bytes → NoneRose before now → (status ≡ 3) ⊎ FallsShort before now status
+  pub complete : (bytes : List ℕ) → before.source.left ≡ Some bytes → Accepts (means (is_none load) full w) [] (lines bytes) → NoneRose before now → (status ≡ 0) ⊎ FallsShort w load before status
+  pub refuses : (bytes : List ℕ) → before.source.left ≡ Some bytes → HasRefused (means (is_none load) full w) bytes → NoneRose before now → (status ≡ 3) ⊎ FallsShort w load before status
 
 -- what the status says of a run that began so and left the outside so
 pub record Scripts (told : Option World) (load : Option (List ℕ)) (before now : Outside) (status : ℕ) : Type 0 where

@@ -45,6 +45,8 @@ impl Taker for Document {
 
     ghost failed = { λ _ _ _. Unit {0} };
 
+    ghost failed_at = { λ _ _ _. Unit {0} };
+
     ghost follows_itself = { λ _. tt };
 
     ghost follows_on = { λ _ _ _ _ _. tt };

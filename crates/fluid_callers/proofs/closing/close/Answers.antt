@@ -1,5 +1,6 @@
+use Rattle.std.proofs.Common.{◌+◌}
 use Rattle.fluid_desk.proofs.Running.{told_runs}
-use Rattle.fluid_callers.proofs.Departing.{closes}
+use Rattle.fluid_callers.proofs.Departing.{closes, unclosed}
 use Rattle.fluid_callers.proofs.closing.close.Goals as goal
 
 pub returns-in-Ok-clause-does : goal.returns-in-Ok-clause-does
@@ -8,7 +9,8 @@ returns-in-Ok-clause-does g c = λ w desk sound is at.
     (c.told.ensures _ c.closed_line.ensures)
 
 pub returns-in-Ok-clause-runs : goal.returns-in-Ok-clause-runs
-returns-in-Ok-clause-runs g c = λ before run. told_runs before c.leave.new.lanes c.closed_line.result c.told.result (c.in-Ok.ensures.runs before run) c.told.ensures
+returns-in-Ok-clause-runs g c = λ before steps run. told_runs before (steps + 1) c.leave.new.lanes c.closed_line.result c.told.result (c.in-Ok.ensures.runs before steps run) c.told.ensures
 
 pub returns-in-Err-clause-does : goal.returns-in-Err-clause-does
-returns-in-Err-clause-does g c = λ w desk sound is at. (rw c.state.ensures at c.in-Err.ensures.does) w c.args.name.now desk sound at
+returns-in-Err-clause-does g c = λ w desk sound is at.
+    unclosed c.args.lanes.now.limits c.leave.new.lanes w c.args.name.now c.args.voice.now c.in-Err.stop is sound ((rw c.state.ensures at c.in-Err.ensures.does) w c.args.name.now desk sound at)

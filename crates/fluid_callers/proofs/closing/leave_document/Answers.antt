@@ -1,6 +1,6 @@
 use Rattle.fluid_desk.proofs.Doing.{used_of, many_of, used_there}
-use Rattle.fluid_desk.proofs.Running.{lane_runs}
-use Rattle.fluid_callers.proofs.Departing.{left_desk, never_beyond}
+use Rattle.fluid_desk.proofs.Running.{lane_runs, run_more, stops_more}
+use Rattle.fluid_callers.proofs.Departing.{left_desk, unleft, never_beyond}
 use Rattle.fluid_callers.proofs.closing.leave_document.Goals as goal
 
 pub lent-requires : goal.lent-requires
@@ -14,8 +14,8 @@ returns-in-Ok-true-clause-does g c = λ w name next desk sound at.
     (λ d of. c.leave_lane.ensures.does c.args.lanes.now.limits d of)
 
 pub returns-in-Ok-true-clause-runs : goal.returns-in-Ok-true-clause-runs
-returns-in-Ok-true-clause-runs g c = λ before run.
-    lane_runs before c.ready.new.lanes c.args.document.now c.lent.result.now c.leave_lane.new.lane c.leave_lane.result (c.in-Ok-true.ensures.runs before run) c.lent.ensures.value c.lent.ensures.out c.leave_lane.ensures.runs
+returns-in-Ok-true-clause-runs g c = λ before steps run.
+    lane_runs before steps c.ready.new.lanes c.args.document.now c.lent.result.now c.leave_lane.new.lane c.leave_lane.result (c.in-Ok-true.ensures.runs before steps run) c.lent.ensures.value c.lent.ensures.out c.leave_lane.ensures.runs
 
 pub returns-in-Ok-false-clause-does : goal.returns-in-Ok-false-clause-does
 returns-in-Ok-false-clause-does g c = λ w name next desk sound at.
@@ -24,4 +24,11 @@ returns-in-Ok-false-clause-does g c = λ w name next desk sound at.
     absurd (never_beyond c.args.lanes.now c.ready.new.lanes w c.args.document.now many.0 desk sound.0.open_is many.1)
 
 pub returns-in-Err-clause-does : goal.returns-in-Err-clause-does
-returns-in-Err-clause-does g c = λ w name next desk sound at. c.in-Err.ensures.honest w desk
+returns-in-Err-clause-does g c = λ w name next desk sound at.
+    unleft c.ready.new.lanes w name c.args.document.now c.args.id.now next c.in-Err.stop sound.0.open_is (c.in-Err.ensures.honest w desk)
+
+pub returns-in-Ok-false-clause-runs : goal.returns-in-Ok-false-clause-runs
+returns-in-Ok-false-clause-runs g c = λ before steps run. run_more before steps c.ready.new.lanes (c.in-Ok-false.ensures.runs before steps run)
+
+pub returns-in-Err-clause-runs : goal.returns-in-Err-clause-runs
+returns-in-Err-clause-runs g c = λ before steps run. stops_more before steps c.ready.new.lanes c.in-Err.stop (c.in-Err.ensures.runs before steps run)

@@ -1,5 +1,6 @@
 use Rattle.std.proofs.Common.{sym, ◌∙◌}
 use Rattle.fluid_callers.proofs.Collected.{gathers_none, next_reading, next_writing, left_unsound}
+use Rattle.fluid_desk.proofs.Running.{run_more}
 use Rattle.fluid_callers.proofs.collecting.gather.Goals as goal
 
 pub returns-in-Fresh-clause-does : goal.returns-in-Fresh-clause-does
@@ -15,3 +16,9 @@ returns-in-Writing-clause-does g c = λ w desk sound is at.
 
 pub returns-in-Used-clause-does : goal.returns-in-Used-clause-does
 returns-in-Used-clause-does g c = λ w desk sound is at. absurd (left_unsound w c.args.voice.now (sym c.state.ensures ∙ c.in-Used.is) sound)
+
+pub returns-in-Fresh-clause-runs : goal.returns-in-Fresh-clause-runs
+returns-in-Fresh-clause-runs g c = λ first steps run. run_more first steps c.args.lanes.now run
+
+pub returns-in-Used-clause-runs : goal.returns-in-Used-clause-runs
+returns-in-Used-clause-runs g c = λ first steps run. run_more first steps c.args.lanes.now run

@@ -1,5 +1,6 @@
 use Rattle.std.proofs.Common.{arith}
 use Rattle.fluid_callers.proofs.Collected.{fetched_none, range_reads, range_honest, range_fetched}
+use Rattle.fluid_callers.proofs.Ends.{delta_aside}
 use Rattle.fluid_callers.proofs.collecting.messages_from.Goals as goal
 
 pub returns-then-behind-from-clause-does : goal.returns-then-behind-from-clause-does
@@ -13,12 +14,19 @@ returns-in-Ok-clause-does g c = λ limits d of.
 pub returns-in-Err-clause-does : goal.returns-in-Err-clause-does
 returns-in-Err-clause-does g c = λ limits d of.
     let e = c.in-Err.ensures in
-    rw c.delta_stop.ensures (range_honest (λ v. v.items) c.args.from c.args.behind c.args.lane.now c.range.new.self limits d of c.in-Err.fault e.worn e.slice)
+    rw c.delta_stop.ensures (range_honest (λ v. v.items) c.args.from c.args.behind c.args.lane.now c.range.new.self limits d of c.in-Err.fault e.worn e.ranges e.slice)
 
 pub returns-in-Err-clause-runs : goal.returns-in-Err-clause-runs
 returns-in-Err-clause-runs g c =
     let e = c.in-Err.ensures in
     record {
       later = e.goes.later;
+      sides = delta_aside _ _ c.in-Err.fault e.goes.sides;
       ends = rw c.delta_stop.ensures (range_reads (λ v. v.items) c.args.from c.args.behind c.args.lane.now c.range.new.self c.in-Err.fault e.goes e.worn e.ranges e.slice);
     }
+
+pub returns-in-Ok-clause-runs : goal.returns-in-Ok-clause-runs
+returns-in-Ok-clause-runs g c = record { later = c.in-Ok.ensures.goes.later; sides = omega (arith, c.in-Ok.ensures.goes.sides); ends = tt }
+
+pub returns-then-behind-from-clause-runs : goal.returns-then-behind-from-clause-runs
+returns-then-behind-from-clause-runs g c = record { later = omega arith; sides = omega arith; ends = tt }

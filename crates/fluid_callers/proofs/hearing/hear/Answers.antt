@@ -3,7 +3,7 @@ use Rattle.fluid_voice.specs.Replies.{replies_to, state_after}
 use Rattle.fluid_transcript.specs.Lines.{reply_line}
 use Rattle.fluid_transcript.specs.Transcript.{written}
 use Rattle.fluid_callers.proofs.Acts.{replied, unheard}
-use Rattle.fluid_callers.proofs.Ends.{line_or_memory, unheard_runs}
+use Rattle.fluid_callers.proofs.Ends.{line_or_memory, heard_aside, unheard_runs}
 use Rattle.fluid_callers.proofs.hearing.hear.Goals as goal
 
 pub returns-in-Ok-clause-does : goal.returns-in-Ok-clause-does
@@ -17,6 +17,7 @@ returns-in-Ok-clause-runs g c =
     let e = c.in-Ok.ensures in
     record {
       later = e.lane.goes.later;
+      sides = heard_aside c.args.act c.args.lane.now c.do_act.new.lane (g.O.Objects.seen c.args.objects.now) (g.O.Objects.seen c.do_act.new.objects) c.in-Ok.end c.reply.result e.lane;
       counts = e.store.later;
       ends = line_or_memory c.args.act c.args.lane.now c.do_act.new.lane (g.O.Objects.seen c.args.objects.now) (g.O.Objects.seen c.do_act.new.objects)
           ((c.reply.new.voice ≡ state_after c.args.voice.now c.args.act c.in-Ok.end)

@@ -25,7 +25,7 @@ loop-act-preserved g c =
       len = search rules;
       some = heard_more c.args.name.now c.args.acts c.args.lane.now (g.O.Objects.seen c.args.objects.now) c.args.voice.now c.in-Some.act c.next.new.self.rest.items c.loop-act.lane c.hear.new.lane
           (g.O.Objects.seen c.loop-act.objects) (g.O.Objects.seen c.hear.new.objects) c.loop-act.voice c.hear.new.voice c.loop-act.lines c.hear.new.lines (rw left at c.loop-act.invariant.some)
-          c.in_ok-hear.ensures.runs.later c.in_ok-hear.ensures.runs.counts c.in_ok-hear.ensures.does;
+          c.in_ok-hear.ensures.runs.later c.in_ok-hear.ensures.runs.sides c.in_ok-hear.ensures.runs.counts c.in_ok-hear.ensures.does;
     }
 
 pub returns-in_err-hear-clause-does : goal.returns-in_err-hear-clause-does
@@ -44,6 +44,7 @@ returns-in_err-hear-clause-runs g c =
     let some = c.loop-act.invariant.some in
     rw (e.1, e.2) (record {
       later = omega (arith, some.later, runs.later);
+      sides = omega (arith, some.sides, runs.sides);
       counts = omega (arith, some.counts, runs.counts);
       ends = ends_later c.args.lane.now c.loop-act.lane c.hear.new.lane (g.O.Objects.seen c.args.objects.now) (g.O.Objects.seen c.loop-act.objects) (g.O.Objects.seen c.hear.new.objects) c.in_err-hear.field-0.0 some.later some.counts runs.ends;
     })
@@ -54,4 +55,4 @@ returns-clause-does g c = λ limits opened d h within is.
     (rw (nil_from_length _ (sym c.loop-act.invariant.len ∙ c.in-None.ensures.steps.0)) at c.loop-act.invariant.some) limits opened d h within is
 
 pub returns-clause-runs : goal.returns-clause-runs
-returns-clause-runs g c = record { later = c.loop-act.invariant.some.later; counts = c.loop-act.invariant.some.counts; ends = tt }
+returns-clause-runs g c = record { later = c.loop-act.invariant.some.later; sides = c.loop-act.invariant.some.sides; counts = c.loop-act.invariant.some.counts; ends = tt }

@@ -30,7 +30,9 @@ returns-in-Ok-clause-runs g c =
 
 pub returns-clause-does : goal.returns-clause-does
 returns-clause-does g c = λ limits w d of at.
-    rw c.unjoined.ensures (unjoined_honest c.args.lane.now c.do_act.new.lane c.args.objects.now c.do_act.new.objects c.in_ok-name.name c.args.moment c.in-Err.fault (done_cause c.in_ok-name.name c.null-detail.result c.args.moment c.null-detail.ensures c.args.lane.now c.do_act.new.lane c.args.objects.now c.do_act.new.objects c.in-Err.fault c.in-Err.ensures.cause))
+    rw c.unjoined.ensures (unjoined_honest c.args.lane.now c.do_act.new.lane c.args.objects.now c.do_act.new.objects c.in_ok-name.name c.args.moment limits d c.in-Err.fault of
+    (done_lane c.in_ok-name.name c.null-detail.result c.args.moment c.null-detail.ensures c.args.lane.now c.do_act.new.lane (Err c.in-Err.fault) c.in-Err.ensures.lane)
+    (done_cause c.in_ok-name.name c.null-detail.result c.args.moment c.null-detail.ensures c.args.lane.now c.do_act.new.lane c.args.objects.now c.do_act.new.objects c.in-Err.fault c.in-Err.ensures.cause))
 
 pub returns-clause-store : goal.returns-clause-store
 returns-clause-store g c = c.in-Err.ensures.store.untouched refl

@@ -1,6 +1,7 @@
-use Rattle.std.proofs.Common.{◌≡◌, true, rules}
+use Rattle.std.proofs.Common.{◌≡◌, refl, true, rules}
+use Rattle.fluid_steps.specs.declared.steps.Step.TheVariants as step
 use Rattle.fluid_transcript.specs.World.{document}
-use Rattle.fluid_desk.proofs.Doing.{used_of, many_of, used_there}
+use Rattle.fluid_desk.proofs.Doing.{used_of, many_of, used_there, may_unready}
 use Rattle.fluid_door_link.specs.Coursing.{HasStood}
 use Rattle.fluid_containers.proofs.Ends.{links_desk, stops_linking, turned_runs}
 use Rattle.fluid_containers.proofs.LoadedDesk.{loads_on, loads_away}
@@ -28,8 +29,8 @@ returns-in-Ok-true-clause-does g c = λ w good desk store sound at none.
     (λ u at_u of store_u. c.load_on.ensures.does old.limits u (document u name) good of store_u at_u)
 
 pub returns-in-Ok-true-clause-runs : goal.returns-in-Ok-true-clause-runs
-returns-in-Ok-true-clause-runs g c = λ first run.
-    links_desk first c.ready.new.lanes c.args.document.now c.lent.result.now c.load_on.new.lane c.args.objects.now c.load_on.new.objects c.load_on.result (c.in-Ok-true.ensures.runs first run)
+returns-in-Ok-true-clause-runs g c = λ first steps run.
+    links_desk first steps c.ready.new.lanes c.args.document.now c.lent.result.now c.load_on.new.lane c.args.objects.now c.load_on.new.objects c.load_on.result (c.in-Ok-true.ensures.runs first steps run)
     c.lent.ensures.value c.lent.ensures.out c.load_on.ensures.runs
 
 pub returns-in-Ok-true-clause-counts : goal.returns-in-Ok-true-clause-counts
@@ -42,11 +43,12 @@ returns-in-Ok-false-clause-does g c = λ w good desk store sound at none.
     loads_away c.args.lanes.now c.ready.new.lanes w c.args.document.now many.0 c.args.objects.now desk store many.1 c.args.name.now c.args.pick.now c.turned_away.result c.turned_away.ensures
 
 pub returns-in-Ok-false-clause-runs : goal.returns-in-Ok-false-clause-runs
-returns-in-Ok-false-clause-runs g c = λ first run.
-    turned_runs first c.ready.new.lanes c.args.objects.now c.args.objects.now c.args.name.now c.turned_away.result (c.in-Ok-false.ensures.runs first run) c.turned_away.ensures
+returns-in-Ok-false-clause-runs g c = λ first steps run.
+    turned_runs first steps c.ready.new.lanes c.args.objects.now c.args.objects.now c.args.name.now c.turned_away.result (c.in-Ok-false.ensures.runs first steps run) c.turned_away.ensures
 
 pub returns-in-Err-clause-does : goal.returns-in-Err-clause-does
-returns-in-Err-clause-does g c = λ w good desk store sound at none. c.in-Err.ensures.honest w desk
+returns-in-Err-clause-does g c = λ w good desk store sound at none.
+    may_unready c.args.lanes.now.limits w c.args.document.now c.ready.new.lanes (step.Load c.args.name.now c.args.document.now c.args.pick.now) c.in-Err.stop refl (c.in-Err.ensures.honest w desk)
 
 pub returns-in-Err-clause-runs : goal.returns-in-Err-clause-runs
-returns-in-Err-clause-runs g c = λ first run. stops_linking first c.args.objects.now c.args.objects.now c.ready.new.lanes c.in-Err.stop (c.in-Err.ensures.runs first run)
+returns-in-Err-clause-runs g c = λ first steps run. stops_linking first steps c.args.objects.now c.args.objects.now c.ready.new.lanes c.in-Err.stop (c.in-Err.ensures.runs first steps run)

@@ -3,7 +3,7 @@ use Rattle.fluid_transcript.specs.World.{document}
 use Rattle.fluid_desk.proofs.Doing.{used_of, many_of, used_there}
 use Rattle.fluid_door_link.specs.Coursing.{HasStood}
 use Rattle.fluid_containers.proofs.Ends.{links_desk, stops_linking, line_links}
-use Rattle.fluid_containers.proofs.LoadedDesk.{ends_on, ends_away}
+use Rattle.fluid_containers.proofs.LoadedDesk.{ends_on, ends_away, unended}
 use Rattle.fluid_containers.proofs.OnDesk.{used_stood}
 use Rattle.fluid_containers.proofs.loading.load_last.Goals as goal
 
@@ -28,8 +28,8 @@ returns-in-Ok-true-clause-does g c = λ w good desk store sound at.
     (λ u at_u of store_u. c.load_last_on.ensures.does old.limits u (document u name) good of store_u at_u)
 
 pub returns-in-Ok-true-clause-runs : goal.returns-in-Ok-true-clause-runs
-returns-in-Ok-true-clause-runs g c = λ first run.
-    links_desk first c.ready.new.lanes c.args.document.now c.lent.result.now c.load_last_on.new.lane c.args.objects.now c.load_last_on.new.objects c.load_last_on.result (c.in-Ok-true.ensures.runs first run)
+returns-in-Ok-true-clause-runs g c = λ first steps run.
+    links_desk first steps c.ready.new.lanes c.args.document.now c.lent.result.now c.load_last_on.new.lane c.args.objects.now c.load_last_on.new.objects c.load_last_on.result (c.in-Ok-true.ensures.runs first steps run)
     c.lent.ensures.value c.lent.ensures.out c.load_last_on.ensures.runs
 
 pub returns-in-Ok-true-clause-counts : goal.returns-in-Ok-true-clause-counts
@@ -42,10 +42,11 @@ returns-in-Ok-false-clause-does g c = λ w good desk store sound at.
     ends_away c.args.lanes.now c.ready.new.lanes w c.args.document.now many.0 c.args.objects.now desk store many.1 c.beyond.result c.beyond.ensures
 
 pub returns-in-Ok-false-clause-runs : goal.returns-in-Ok-false-clause-runs
-returns-in-Ok-false-clause-runs g c = λ first run. line_links first c.ready.new.lanes c.args.objects.now c.args.objects.now _ c.beyond.result (c.in-Ok-false.ensures.runs first run) c.beyond.ensures
+returns-in-Ok-false-clause-runs g c = λ first steps run. line_links first steps c.ready.new.lanes c.args.objects.now c.args.objects.now _ c.beyond.result (c.in-Ok-false.ensures.runs first steps run) c.beyond.ensures
 
 pub returns-in-Err-clause-does : goal.returns-in-Err-clause-does
-returns-in-Err-clause-does g c = λ w good desk store sound at. c.in-Err.ensures.honest w desk
+returns-in-Err-clause-does g c = λ w good desk store sound at.
+    unended c.args.lanes.now.limits c.ready.new.lanes w c.args.document.now c.in-Err.stop (c.in-Err.ensures.honest w desk)
 
 pub returns-in-Err-clause-runs : goal.returns-in-Err-clause-runs
-returns-in-Err-clause-runs g c = λ first run. stops_linking first c.args.objects.now c.args.objects.now c.ready.new.lanes c.in-Err.stop (c.in-Err.ensures.runs first run)
+returns-in-Err-clause-runs g c = λ first steps run. stops_linking first steps c.args.objects.now c.args.objects.now c.ready.new.lanes c.in-Err.stop (c.in-Err.ensures.runs first steps run)

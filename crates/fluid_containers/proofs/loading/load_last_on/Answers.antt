@@ -19,7 +19,7 @@ pub returns-in_err-loaded-clause-runs : goal.returns-in_err-loaded-clause-runs
 returns-in_err-loaded-clause-runs g c =
     let e = err_from_is_err_and c.from_residual.result c.from_residual.ensures.1 in
     let runs = c.in_err-loaded.ensures.runs in
-    rw (e.1, e.2) (record { later = runs.later; counts = runs.counts; ends = runs.ends })
+    rw (e.1, e.2) (record { later = runs.later; sides = runs.sides; counts = runs.counts; ends = runs.ends })
 
 pub returns-clause-does : goal.returns-clause-does
 returns-clause-does g c = λ limits w d good of store at.

@@ -21,7 +21,7 @@ pub returns-in_err-loaded-clause-runs : goal.returns-in_err-loaded-clause-runs
 returns-in_err-loaded-clause-runs g c =
     let e = err_from_is_err_and c.from_residual.result c.from_residual.ensures.1 in
     let runs = c.in_err-loaded.ensures.runs in
-    rw (e.1, e.2) (record { later = runs.later; counts = runs.counts; ends = runs.ends })
+    rw (e.1, e.2) (record { later = runs.later; sides = runs.sides; counts = runs.counts; ends = runs.ends })
 
 pub returns-in_err-line-clause-runs : goal.returns-in_err-line-clause-runs
 returns-in_err-line-clause-runs g c =
@@ -32,13 +32,13 @@ returns-in_err-line-clause-runs g c =
 pub returns-clause-runs : goal.returns-clause-runs
 returns-clause-runs g c =
     let runs = c.in_ok-loaded.ensures.runs in
-    record { later = runs.later; counts = runs.counts; ends = tt }
+    record { later = runs.later; sides = runs.sides; counts = runs.counts; ends = tt }
 
 pub returns-in_err-line-clause-does : goal.returns-in_err-line-clause-does
 returns-in_err-line-clause-does g c = λ limits w d good of store at.
     let e = err_from_is_err_and c.from_residual-in_err-line.result c.from_residual-in_err-line.ensures.1 in
     let made = c.in_ok-loaded.ensures.does limits w d good of store at in
-    rw (e.1, e.2) (wanting_honest c.in_err-line.field-0.0 (c.in_err-line.ensures _ (c.load_line.ensures (ledger_of (joined_to limits w d)) w.store (loading limits w d c.args.document.now c.args.pick.now) made.becomes)))
+    rw (e.1, e.2) (wanting_honest _ c.in_err-line.field-0.0 (c.in_err-line.ensures _ (c.load_line.ensures (ledger_of (joined_to limits w d)) w.store (loading limits w d c.args.document.now c.args.pick.now) made.becomes)))
 
 pub returns-clause-does : goal.returns-clause-does
 returns-clause-does g c = λ limits w d good of store at.

@@ -4,7 +4,8 @@ use Rattle.fluid_loader.specs.Calls.{noop_of}
 use Rattle.fluid_containers.specs.Saying.{SaysBeaten}
 use Rattle.fluid_containers.proofs.Counts.{beat_counts, submit_trees}
 use Rattle.fluid_containers.proofs.Stepped.{beats_left}
-use Rattle.fluid_containers.proofs.Ends.{left_well, left_honest, left_links, left_wants, unlent_links, beaten_wants}
+use Rattle.fluid_containers.proofs.Bounded.{beat_one, left_ends}
+use Rattle.fluid_containers.proofs.Ends.{left_well, left_links, left_wants, unlent_links, beaten_wants}
 use Rattle.fluid_containers.proofs.Stored.{told_good, seen_as}
 use Rattle.fluid_containers.proofs.stepping.beat_lane.Goals as goal
 
@@ -16,7 +17,9 @@ returns-in_err-own-clause-runs g c = unlent_links c.args.lane.now c.args.objects
 
 pub returns-in-Some-clause-does : goal.returns-in-Some-clause-does
 returns-in-Some-clause-does g c = λ good limits w d k of store at stands is.
-    left_honest g.W.Begun.good g.W.Begun.began c.args.lane.now _ g.W.Begun.before c.args.objects.now _ c.beat-answer.new.link.course.now c.into_stop.result c.beat-answer.new.link.bad_trees c.in-Some.fault c.stop_for.result c.requires.lane c.requires.store c.know.ensures.at (search rules) c.know.ensures.along good c.know.ensures.trees (submit_trees (noop_of c.args.holder.now.container) (seen_as g.W.Begun.good c.new-link.result.lane.now c.new-link.result.objects.now c.new-link.result.notes.now.client c.new-link.result.moment c.new-link.result.faults c.new-link.result.refusals c.new-link.result.bad_trees c.new-link.result.notes.now.messages.items c.new-link.result.notes.now.fetched.items c.new-link.result.notes.now.handles.items c.new-link.result.notes.now.taken.items) (seen_as g.W.Begun.good c.beat-answer.new.link.lane.now c.beat-answer.new.link.objects.now c.beat-answer.new.link.notes.now.client c.beat-answer.new.link.moment c.beat-answer.new.link.faults c.beat-answer.new.link.refusals c.beat-answer.new.link.bad_trees c.beat-answer.new.link.notes.now.messages.items c.beat-answer.new.link.notes.now.fetched.items c.beat-answer.new.link.notes.now.handles.items c.beat-answer.new.link.notes.now.taken.items) c.beat-answer.result c.beat-answer.ensures.says ∙ c.new-link.ensures.counts.1.1) c.in-Some.is c.stop_for.ensures
+    left_ends g.W.Begun.good g.W.Begun.began c.args.lane.now _ g.W.Begun.before c.args.objects.now _ c.beat-answer.new.link.course.now c.into_stop.result c.beat-answer.new.link.bad_trees c.in-Some.fault c.stop_for.result c.requires.lane c.requires.store c.know.ensures.at (search rules) c.know.ensures.along good c.know.ensures.trees (submit_trees (noop_of c.args.holder.now.container) (seen_as g.W.Begun.good c.new-link.result.lane.now c.new-link.result.objects.now c.new-link.result.notes.now.client c.new-link.result.moment c.new-link.result.faults c.new-link.result.refusals c.new-link.result.bad_trees c.new-link.result.notes.now.messages.items c.new-link.result.notes.now.fetched.items c.new-link.result.notes.now.handles.items c.new-link.result.notes.now.taken.items) (seen_as g.W.Begun.good c.beat-answer.new.link.lane.now c.beat-answer.new.link.objects.now c.beat-answer.new.link.notes.now.client c.beat-answer.new.link.moment c.beat-answer.new.link.faults c.beat-answer.new.link.refusals c.beat-answer.new.link.bad_trees c.beat-answer.new.link.notes.now.messages.items c.beat-answer.new.link.notes.now.fetched.items c.beat-answer.new.link.notes.now.handles.items c.beat-answer.new.link.notes.now.taken.items) c.beat-answer.result c.beat-answer.ensures.says ∙ c.new-link.ensures.counts.1.1) c.in-Some.is c.stop_for.ensures limits d of w.store store (seen_as g.W.Begun.good c.new-link.result.lane.now c.new-link.result.objects.now c.new-link.result.notes.now.client c.new-link.result.moment c.new-link.result.faults c.new-link.result.refusals c.new-link.result.bad_trees c.new-link.result.notes.now.messages.items c.new-link.result.notes.now.fetched.items c.new-link.result.notes.now.handles.items c.new-link.result.notes.now.taken.items) (seen_as g.W.Begun.good c.beat-answer.new.link.lane.now c.beat-answer.new.link.objects.now c.beat-answer.new.link.notes.now.client c.beat-answer.new.link.moment c.beat-answer.new.link.faults c.beat-answer.new.link.refusals c.beat-answer.new.link.bad_trees c.beat-answer.new.link.notes.now.messages.items c.beat-answer.new.link.notes.now.fetched.items c.beat-answer.new.link.notes.now.handles.items c.beat-answer.new.link.notes.now.taken.items)
+    (told_good g.W.Begun.good good c.new-link.result.lane.now _ c.new-link.result.objects.now _ c.new-link.ensures.lane.1 c.new-link.ensures.objects.1) c.beat-answer.new.link.lane.now c.beat-answer.new.link.objects.now refl (search rules) (search rules)
+    (beat_one (noop_of c.args.holder.now.container) (seen_as g.W.Begun.good c.new-link.result.lane.now c.new-link.result.objects.now c.new-link.result.notes.now.client c.new-link.result.moment c.new-link.result.faults c.new-link.result.refusals c.new-link.result.bad_trees c.new-link.result.notes.now.messages.items c.new-link.result.notes.now.fetched.items c.new-link.result.notes.now.handles.items c.new-link.result.notes.now.taken.items) (seen_as g.W.Begun.good c.beat-answer.new.link.lane.now c.beat-answer.new.link.objects.now c.beat-answer.new.link.notes.now.client c.beat-answer.new.link.moment c.beat-answer.new.link.faults c.beat-answer.new.link.refusals c.beat-answer.new.link.bad_trees c.beat-answer.new.link.notes.now.messages.items c.beat-answer.new.link.notes.now.fetched.items c.beat-answer.new.link.notes.now.handles.items c.beat-answer.new.link.notes.now.taken.items) c.beat-answer.result c.beat-answer.ensures.says) c.lane-1.given.0 (search rules)
 
 pub returns-in-Some-clause-runs : goal.returns-in-Some-clause-runs
 returns-in-Some-clause-runs g c = left_links g.W.Begun.good g.W.Begun.began c.args.lane.now _ g.W.Begun.before c.args.objects.now _ c.beat-answer.new.link.course.now c.into_stop.result c.in-Some.fault c.stop_for.result c.requires.lane c.requires.store (search rules) (search rules) c.know.ensures.along c.in-Some.is c.stop_for.ensures
@@ -36,7 +39,7 @@ returns-clause-does g c = λ good limits w d k of store at stands is.
     c.beat-answer.new.self c.beat-answer.ensures.stays c.submissions_are_counted.ensures (c.new-link.ensures.moment ∙ sym at) c.beat-answer.result c.beaten.result c.beat-answer.ensures.leaves c.beat-answer.ensures.says (subst (λ n. SaysBeaten c.args.name.now n c.beat-answer.result c.beaten.result) c.seq.ensures c.beaten.ensures)
 
 pub returns-clause-runs : goal.returns-clause-runs
-returns-clause-runs g c = left_wants g.W.Begun.good g.W.Begun.began c.args.lane.now _ g.W.Begun.before c.args.objects.now _ c.beat-answer.new.link.course.now c.into_stop.result c.beaten.result c.requires.lane c.requires.store (search rules) (search rules) c.know.ensures.along (beaten_wants c.args.name.now c.seq.result c.beat-answer.result c.beaten.result c.beaten.ensures)
+returns-clause-runs g c = left_wants g.W.Begun.good g.W.Begun.began c.args.lane.now _ g.W.Begun.before c.args.objects.now _ c.beat-answer.new.link.course.now c.into_stop.result c.beaten.result c.requires.lane c.requires.store (search rules) (search rules) c.know.ensures.along c.in-None.is (beaten_wants c.args.name.now c.seq.result c.beat-answer.result c.beaten.result c.beaten.ensures)
 
 pub returns-clause-numbers : goal.returns-clause-numbers
 returns-clause-numbers g c = beat_counts c.args.holder.now.container c.beat-answer.new.self c.beat-answer.result c.beat-answer.ensures.leaves

@@ -3,7 +3,8 @@ use Rattle.fluid_loader.specs.Link.{Fits}
 use Rattle.fluid_loader.specs.Calls.{op_of}
 use Rattle.fluid_containers.proofs.Counts.{edit_counts, edit_trees}
 use Rattle.fluid_containers.proofs.Stepped.{edits_left}
-use Rattle.fluid_containers.proofs.Ends.{left_well, left_honest, left_links, left_wants, unlent_links, edited_wants}
+use Rattle.fluid_containers.proofs.Bounded.{edit_one, left_ends}
+use Rattle.fluid_containers.proofs.Ends.{left_well, left_links, left_wants, unlent_links, edited_wants}
 use Rattle.fluid_containers.proofs.Stored.{told_good, seen_as}
 use Rattle.fluid_containers.proofs.stepping.edit_lane.Goals as goal
 
@@ -15,7 +16,9 @@ returns-in_err-own-clause-runs g c = unlent_links c.args.lane.now c.args.objects
 
 pub returns-in-Some-clause-does : goal.returns-in-Some-clause-does
 returns-in-Some-clause-does g c = λ good limits w d k of store at stands is.
-    left_honest g.W.Begun.good g.W.Begun.began c.args.lane.now _ g.W.Begun.before c.args.objects.now _ c.edit-answer.new.link.course.now c.into_stop.result c.edit-answer.new.link.bad_trees c.in-Some.fault c.stop_for.result c.requires.lane c.requires.store c.know.ensures.at (search rules) c.know.ensures.along good c.know.ensures.trees (edit_trees c.args.holder.now.container c.edit-answer.new.self c.args.edit (seen_as g.W.Begun.good c.new-link.result.lane.now c.new-link.result.objects.now c.new-link.result.notes.now.client c.new-link.result.moment c.new-link.result.faults c.new-link.result.refusals c.new-link.result.bad_trees c.new-link.result.notes.now.messages.items c.new-link.result.notes.now.fetched.items c.new-link.result.notes.now.handles.items c.new-link.result.notes.now.taken.items) (seen_as g.W.Begun.good c.edit-answer.new.link.lane.now c.edit-answer.new.link.objects.now c.edit-answer.new.link.notes.now.client c.edit-answer.new.link.moment c.edit-answer.new.link.faults c.edit-answer.new.link.refusals c.edit-answer.new.link.bad_trees c.edit-answer.new.link.notes.now.messages.items c.edit-answer.new.link.notes.now.fetched.items c.edit-answer.new.link.notes.now.handles.items c.edit-answer.new.link.notes.now.taken.items) c.edit-answer.result c.edit-answer.ensures.does ∙ c.new-link.ensures.counts.1.1) c.in-Some.is c.stop_for.ensures
+    left_ends g.W.Begun.good g.W.Begun.began c.args.lane.now _ g.W.Begun.before c.args.objects.now _ c.edit-answer.new.link.course.now c.into_stop.result c.edit-answer.new.link.bad_trees c.in-Some.fault c.stop_for.result c.requires.lane c.requires.store c.know.ensures.at (search rules) c.know.ensures.along good c.know.ensures.trees (edit_trees c.args.holder.now.container c.edit-answer.new.self c.args.edit (seen_as g.W.Begun.good c.new-link.result.lane.now c.new-link.result.objects.now c.new-link.result.notes.now.client c.new-link.result.moment c.new-link.result.faults c.new-link.result.refusals c.new-link.result.bad_trees c.new-link.result.notes.now.messages.items c.new-link.result.notes.now.fetched.items c.new-link.result.notes.now.handles.items c.new-link.result.notes.now.taken.items) (seen_as g.W.Begun.good c.edit-answer.new.link.lane.now c.edit-answer.new.link.objects.now c.edit-answer.new.link.notes.now.client c.edit-answer.new.link.moment c.edit-answer.new.link.faults c.edit-answer.new.link.refusals c.edit-answer.new.link.bad_trees c.edit-answer.new.link.notes.now.messages.items c.edit-answer.new.link.notes.now.fetched.items c.edit-answer.new.link.notes.now.handles.items c.edit-answer.new.link.notes.now.taken.items) c.edit-answer.result c.edit-answer.ensures.does ∙ c.new-link.ensures.counts.1.1) c.in-Some.is c.stop_for.ensures limits d of w.store store (seen_as g.W.Begun.good c.new-link.result.lane.now c.new-link.result.objects.now c.new-link.result.notes.now.client c.new-link.result.moment c.new-link.result.faults c.new-link.result.refusals c.new-link.result.bad_trees c.new-link.result.notes.now.messages.items c.new-link.result.notes.now.fetched.items c.new-link.result.notes.now.handles.items c.new-link.result.notes.now.taken.items) (seen_as g.W.Begun.good c.edit-answer.new.link.lane.now c.edit-answer.new.link.objects.now c.edit-answer.new.link.notes.now.client c.edit-answer.new.link.moment c.edit-answer.new.link.faults c.edit-answer.new.link.refusals c.edit-answer.new.link.bad_trees c.edit-answer.new.link.notes.now.messages.items c.edit-answer.new.link.notes.now.fetched.items c.edit-answer.new.link.notes.now.handles.items c.edit-answer.new.link.notes.now.taken.items)
+    (told_good g.W.Begun.good good c.new-link.result.lane.now _ c.new-link.result.objects.now _ c.new-link.ensures.lane.1 c.new-link.ensures.objects.1) c.edit-answer.new.link.lane.now c.edit-answer.new.link.objects.now refl (search rules) (search rules)
+    (edit_one c.args.holder.now.container c.edit-answer.new.self c.args.edit (seen_as g.W.Begun.good c.new-link.result.lane.now c.new-link.result.objects.now c.new-link.result.notes.now.client c.new-link.result.moment c.new-link.result.faults c.new-link.result.refusals c.new-link.result.bad_trees c.new-link.result.notes.now.messages.items c.new-link.result.notes.now.fetched.items c.new-link.result.notes.now.handles.items c.new-link.result.notes.now.taken.items) (seen_as g.W.Begun.good c.edit-answer.new.link.lane.now c.edit-answer.new.link.objects.now c.edit-answer.new.link.notes.now.client c.edit-answer.new.link.moment c.edit-answer.new.link.faults c.edit-answer.new.link.refusals c.edit-answer.new.link.bad_trees c.edit-answer.new.link.notes.now.messages.items c.edit-answer.new.link.notes.now.fetched.items c.edit-answer.new.link.notes.now.handles.items c.edit-answer.new.link.notes.now.taken.items) c.edit-answer.result c.edit-answer.ensures.does) c.lane-1.given.0 (search rules)
 
 pub returns-in-Some-clause-runs : goal.returns-in-Some-clause-runs
 returns-in-Some-clause-runs g c = left_links g.W.Begun.good g.W.Begun.began c.args.lane.now _ g.W.Begun.before c.args.objects.now _ c.edit-answer.new.link.course.now c.into_stop.result c.in-Some.fault c.stop_for.result c.requires.lane c.requires.store (search rules) (search rules) c.know.ensures.along c.in-Some.is c.stop_for.ensures
@@ -35,7 +38,7 @@ returns-clause-does g c = λ good limits w d k of store at stands is.
     c.edit-answer.new.self c.edit-answer.ensures.stays c.args.edit c.submissions_are_counted.ensures (c.new-link.ensures.moment ∙ sym at) c.edit-answer.result c.edited.result c.edit-answer.ensures.does c.edited.ensures
 
 pub returns-clause-runs : goal.returns-clause-runs
-returns-clause-runs g c = left_wants g.W.Begun.good g.W.Begun.began c.args.lane.now _ g.W.Begun.before c.args.objects.now _ c.edit-answer.new.link.course.now c.into_stop.result c.edited.result c.requires.lane c.requires.store (search rules) (search rules) c.know.ensures.along (edited_wants c.args.name.now c.edit-answer.result c.edited.result c.edited.ensures)
+returns-clause-runs g c = left_wants g.W.Begun.good g.W.Begun.began c.args.lane.now _ g.W.Begun.before c.args.objects.now _ c.edit-answer.new.link.course.now c.into_stop.result c.edited.result c.requires.lane c.requires.store (search rules) (search rules) c.know.ensures.along c.in-None.is (edited_wants c.args.name.now c.edit-answer.result c.edited.result c.edited.ensures)
 
 pub returns-clause-numbers : goal.returns-clause-numbers
 returns-clause-numbers g c = edit_counts c.args.holder.now.container c.edit-answer.new.self c.args.edit (seen_as g.W.Begun.good c.new-link.result.lane.now c.new-link.result.objects.now c.new-link.result.notes.now.client c.new-link.result.moment c.new-link.result.faults c.new-link.result.refusals c.new-link.result.bad_trees c.new-link.result.notes.now.messages.items c.new-link.result.notes.now.fetched.items c.new-link.result.notes.now.handles.items c.new-link.result.notes.now.taken.items) (seen_as g.W.Begun.good c.edit-answer.new.link.lane.now c.edit-answer.new.link.objects.now c.edit-answer.new.link.notes.now.client c.edit-answer.new.link.moment c.edit-answer.new.link.faults c.edit-answer.new.link.refusals c.edit-answer.new.link.bad_trees c.edit-answer.new.link.notes.now.messages.items c.edit-answer.new.link.notes.now.fetched.items c.edit-answer.new.link.notes.now.handles.items c.edit-answer.new.link.notes.now.taken.items) c.edit-answer.result c.edit-answer.ensures.does

@@ -1,7 +1,9 @@
 use Rattle.std.proofs.Common.{rules, refl, ap, ◌∙◌}
+use Rattle.fluid_loader.specs.Link.{Linked}
 use Rattle.fluid_containers.proofs.Counts.{pump_counts, pump_trees}
 use Rattle.fluid_containers.proofs.Stepped.{pumps_left}
-use Rattle.fluid_containers.proofs.Ends.{left_well, left_honest, left_links, left_wants, unlent_links, pumped_wants}
+use Rattle.fluid_containers.proofs.Bounded.{same_one, left_ends}
+use Rattle.fluid_containers.proofs.Ends.{left_well, left_links, left_wants, unlent_links, pumped_wants}
 use Rattle.fluid_containers.proofs.Stored.{told_good, seen_as}
 use Rattle.fluid_containers.proofs.stepping.pump_lane.Goals as goal
 
@@ -10,7 +12,9 @@ returns-in_err-own-clause-runs g c = unlent_links c.args.lane.now c.args.objects
 
 pub returns-in-Some-clause-does : goal.returns-in-Some-clause-does
 returns-in-Some-clause-does g c = λ good limits w d k of store at stands is.
-    left_honest g.W.Begun.good g.W.Begun.began c.args.lane.now _ g.W.Begun.before c.args.objects.now _ c.pump-answer.new.link.course.now c.into_stop.result c.pump-answer.new.link.bad_trees c.in-Some.fault c.stop_for.result c.requires.lane c.requires.store c.know.ensures.at (search rules) c.know.ensures.along good c.know.ensures.trees (pump_trees (seen_as g.W.Begun.good c.new-link.result.lane.now c.new-link.result.objects.now c.new-link.result.notes.now.client c.new-link.result.moment c.new-link.result.faults c.new-link.result.refusals c.new-link.result.bad_trees c.new-link.result.notes.now.messages.items c.new-link.result.notes.now.fetched.items c.new-link.result.notes.now.handles.items c.new-link.result.notes.now.taken.items) (seen_as g.W.Begun.good c.pump-answer.new.link.lane.now c.pump-answer.new.link.objects.now c.pump-answer.new.link.notes.now.client c.pump-answer.new.link.moment c.pump-answer.new.link.faults c.pump-answer.new.link.refusals c.pump-answer.new.link.bad_trees c.pump-answer.new.link.notes.now.messages.items c.pump-answer.new.link.notes.now.fetched.items c.pump-answer.new.link.notes.now.handles.items c.pump-answer.new.link.notes.now.taken.items) c.pump-answer.ensures.reads ∙ c.new-link.ensures.counts.1.1) c.in-Some.is c.stop_for.ensures
+    left_ends g.W.Begun.good g.W.Begun.began c.args.lane.now _ g.W.Begun.before c.args.objects.now _ c.pump-answer.new.link.course.now c.into_stop.result c.pump-answer.new.link.bad_trees c.in-Some.fault c.stop_for.result c.requires.lane c.requires.store c.know.ensures.at (search rules) c.know.ensures.along good c.know.ensures.trees (pump_trees (seen_as g.W.Begun.good c.new-link.result.lane.now c.new-link.result.objects.now c.new-link.result.notes.now.client c.new-link.result.moment c.new-link.result.faults c.new-link.result.refusals c.new-link.result.bad_trees c.new-link.result.notes.now.messages.items c.new-link.result.notes.now.fetched.items c.new-link.result.notes.now.handles.items c.new-link.result.notes.now.taken.items) (seen_as g.W.Begun.good c.pump-answer.new.link.lane.now c.pump-answer.new.link.objects.now c.pump-answer.new.link.notes.now.client c.pump-answer.new.link.moment c.pump-answer.new.link.faults c.pump-answer.new.link.refusals c.pump-answer.new.link.bad_trees c.pump-answer.new.link.notes.now.messages.items c.pump-answer.new.link.notes.now.fetched.items c.pump-answer.new.link.notes.now.handles.items c.pump-answer.new.link.notes.now.taken.items) c.pump-answer.ensures.reads ∙ c.new-link.ensures.counts.1.1) c.in-Some.is c.stop_for.ensures limits d of w.store store (seen_as g.W.Begun.good c.new-link.result.lane.now c.new-link.result.objects.now c.new-link.result.notes.now.client c.new-link.result.moment c.new-link.result.faults c.new-link.result.refusals c.new-link.result.bad_trees c.new-link.result.notes.now.messages.items c.new-link.result.notes.now.fetched.items c.new-link.result.notes.now.handles.items c.new-link.result.notes.now.taken.items) (seen_as g.W.Begun.good c.pump-answer.new.link.lane.now c.pump-answer.new.link.objects.now c.pump-answer.new.link.notes.now.client c.pump-answer.new.link.moment c.pump-answer.new.link.faults c.pump-answer.new.link.refusals c.pump-answer.new.link.bad_trees c.pump-answer.new.link.notes.now.messages.items c.pump-answer.new.link.notes.now.fetched.items c.pump-answer.new.link.notes.now.handles.items c.pump-answer.new.link.notes.now.taken.items)
+    (told_good g.W.Begun.good good c.new-link.result.lane.now _ c.new-link.result.objects.now _ c.new-link.ensures.lane.1 c.new-link.ensures.objects.1) c.pump-answer.new.link.lane.now c.pump-answer.new.link.objects.now refl (search rules) (search rules)
+    (same_one (seen_as g.W.Begun.good c.new-link.result.lane.now c.new-link.result.objects.now c.new-link.result.notes.now.client c.new-link.result.moment c.new-link.result.faults c.new-link.result.refusals c.new-link.result.bad_trees c.new-link.result.notes.now.messages.items c.new-link.result.notes.now.fetched.items c.new-link.result.notes.now.handles.items c.new-link.result.notes.now.taken.items) (seen_as g.W.Begun.good c.pump-answer.new.link.lane.now c.pump-answer.new.link.objects.now c.pump-answer.new.link.notes.now.client c.pump-answer.new.link.moment c.pump-answer.new.link.faults c.pump-answer.new.link.refusals c.pump-answer.new.link.bad_trees c.pump-answer.new.link.notes.now.messages.items c.pump-answer.new.link.notes.now.fetched.items c.pump-answer.new.link.notes.now.handles.items c.pump-answer.new.link.notes.now.taken.items) (ap (λ (x : Linked). x.told) c.pump-answer.ensures.reads.same)) c.lane-1.given.0 (search rules)
 
 pub returns-in-Some-clause-runs : goal.returns-in-Some-clause-runs
 returns-in-Some-clause-runs g c = left_links g.W.Begun.good g.W.Begun.began c.args.lane.now _ g.W.Begun.before c.args.objects.now _ c.pump-answer.new.link.course.now c.into_stop.result c.in-Some.fault c.stop_for.result c.requires.lane c.requires.store (search rules) (search rules) c.know.ensures.along c.in-Some.is c.stop_for.ensures
@@ -30,7 +34,7 @@ returns-clause-does g c = λ good limits w d k of store at stands is.
     c.pump-answer.new.self c.pump-answer.ensures.stays c.containers_catch_up.ensures c.pump-answer.result c.pumped.result c.pump-answer.ensures.does c.pumped.ensures
 
 pub returns-clause-runs : goal.returns-clause-runs
-returns-clause-runs g c = left_wants g.W.Begun.good g.W.Begun.began c.args.lane.now _ g.W.Begun.before c.args.objects.now _ c.pump-answer.new.link.course.now c.into_stop.result c.pumped.result c.requires.lane c.requires.store (search rules) (search rules) c.know.ensures.along (pumped_wants c.args.name.now c.pump-answer.result c.pumped.result c.pumped.ensures)
+returns-clause-runs g c = left_wants g.W.Begun.good g.W.Begun.began c.args.lane.now _ g.W.Begun.before c.args.objects.now _ c.pump-answer.new.link.course.now c.into_stop.result c.pumped.result c.requires.lane c.requires.store (search rules) (search rules) c.know.ensures.along c.in-None.is (pumped_wants c.args.name.now c.pump-answer.result c.pumped.result c.pumped.ensures)
 
 pub returns-clause-numbers : goal.returns-clause-numbers
 returns-clause-numbers g c = pump_counts c.args.holder.now.container c.pump-answer.new.self (seen_as g.W.Begun.good c.new-link.result.lane.now c.new-link.result.objects.now c.new-link.result.notes.now.client c.new-link.result.moment c.new-link.result.faults c.new-link.result.refusals c.new-link.result.bad_trees c.new-link.result.notes.now.messages.items c.new-link.result.notes.now.fetched.items c.new-link.result.notes.now.handles.items c.new-link.result.notes.now.taken.items) (seen_as g.W.Begun.good c.pump-answer.new.link.lane.now c.pump-answer.new.link.objects.now c.pump-answer.new.link.notes.now.client c.pump-answer.new.link.moment c.pump-answer.new.link.faults c.pump-answer.new.link.refusals c.pump-answer.new.link.bad_trees c.pump-answer.new.link.notes.now.messages.items c.pump-answer.new.link.notes.now.fetched.items c.pump-answer.new.link.notes.now.handles.items c.pump-answer.new.link.notes.now.taken.items) c.pump-answer.result c.pump-answer.ensures.does

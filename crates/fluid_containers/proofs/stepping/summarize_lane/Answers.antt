@@ -5,7 +5,8 @@ use Rattle.fluid_containers.specs.Saying.{SaysProposed}
 use Rattle.fluid_containers.proofs.Counts.{summarize_counts}
 use Rattle.fluid_containers.proofs.Lanes.{told_as, tells}
 use Rattle.fluid_containers.proofs.Summarized.{summarizes_left, summarize_trees}
-use Rattle.fluid_containers.proofs.Ends.{left_well, left_honest, left_links, left_wants, unlent_links, proposed_wants}
+use Rattle.fluid_containers.proofs.Bounded.{summarize_one, left_ends}
+use Rattle.fluid_containers.proofs.Ends.{left_well, left_links, left_wants, unlent_links, proposed_wants}
 use Rattle.fluid_containers.proofs.Stored.{told_good, seen_as}
 use Rattle.fluid_containers.proofs.stepping.summarize_lane.Goals as goal
 
@@ -17,7 +18,9 @@ returns-in_err-own-clause-runs g c = unlent_links c.args.lane.now c.args.objects
 
 pub returns-in-Some-clause-does : goal.returns-in-Some-clause-does
 returns-in-Some-clause-does g c = λ good limits w d k of store at stands is owned.
-    left_honest g.W.Begun.good g.W.Begun.began c.args.lane.now _ g.W.Begun.before c.args.objects.now _ c.summarize-answer.new.link.course.now c.into_stop.result c.summarize-answer.new.link.bad_trees c.in-Some.fault c.stop_for.result c.requires.lane c.requires.store c.know.ensures.at (search rules) c.know.ensures.along good c.know.ensures.trees (summarize_trees c.based_trees_are_taken.ensures c.args.holder.now.container c.summarize-answer.new.self (seen_as g.W.Begun.good c.new-link.result.lane.now c.new-link.result.objects.now c.new-link.result.notes.now.client c.new-link.result.moment c.new-link.result.faults c.new-link.result.refusals c.new-link.result.bad_trees c.new-link.result.notes.now.messages.items c.new-link.result.notes.now.fetched.items c.new-link.result.notes.now.handles.items c.new-link.result.notes.now.taken.items) (seen_as g.W.Begun.good c.summarize-answer.new.link.lane.now c.summarize-answer.new.link.objects.now c.summarize-answer.new.link.notes.now.client c.summarize-answer.new.link.moment c.summarize-answer.new.link.faults c.summarize-answer.new.link.refusals c.summarize-answer.new.link.bad_trees c.summarize-answer.new.link.notes.now.messages.items c.summarize-answer.new.link.notes.now.fetched.items c.summarize-answer.new.link.notes.now.handles.items c.summarize-answer.new.link.notes.now.taken.items) (told_as limits d w.store) c.summarize-answer.result (told_good g.W.Begun.good good c.new-link.result.lane.now _ c.new-link.result.objects.now _ c.new-link.ensures.lane.1 c.new-link.ensures.objects.1 ∙ tells limits c.args.lane.now d c.args.objects.now w.store of store) is.based c.summarize-answer.ensures.does ∙ c.new-link.ensures.counts.1.1) c.in-Some.is c.stop_for.ensures
+    left_ends g.W.Begun.good g.W.Begun.began c.args.lane.now _ g.W.Begun.before c.args.objects.now _ c.summarize-answer.new.link.course.now c.into_stop.result c.summarize-answer.new.link.bad_trees c.in-Some.fault c.stop_for.result c.requires.lane c.requires.store c.know.ensures.at (search rules) c.know.ensures.along good c.know.ensures.trees (summarize_trees c.based_trees_are_taken.ensures c.args.holder.now.container c.summarize-answer.new.self (seen_as g.W.Begun.good c.new-link.result.lane.now c.new-link.result.objects.now c.new-link.result.notes.now.client c.new-link.result.moment c.new-link.result.faults c.new-link.result.refusals c.new-link.result.bad_trees c.new-link.result.notes.now.messages.items c.new-link.result.notes.now.fetched.items c.new-link.result.notes.now.handles.items c.new-link.result.notes.now.taken.items) (seen_as g.W.Begun.good c.summarize-answer.new.link.lane.now c.summarize-answer.new.link.objects.now c.summarize-answer.new.link.notes.now.client c.summarize-answer.new.link.moment c.summarize-answer.new.link.faults c.summarize-answer.new.link.refusals c.summarize-answer.new.link.bad_trees c.summarize-answer.new.link.notes.now.messages.items c.summarize-answer.new.link.notes.now.fetched.items c.summarize-answer.new.link.notes.now.handles.items c.summarize-answer.new.link.notes.now.taken.items) (told_as limits d w.store) c.summarize-answer.result (told_good g.W.Begun.good good c.new-link.result.lane.now _ c.new-link.result.objects.now _ c.new-link.ensures.lane.1 c.new-link.ensures.objects.1 ∙ tells limits c.args.lane.now d c.args.objects.now w.store of store) is.based c.summarize-answer.ensures.does ∙ c.new-link.ensures.counts.1.1) c.in-Some.is c.stop_for.ensures limits d of w.store store (seen_as g.W.Begun.good c.new-link.result.lane.now c.new-link.result.objects.now c.new-link.result.notes.now.client c.new-link.result.moment c.new-link.result.faults c.new-link.result.refusals c.new-link.result.bad_trees c.new-link.result.notes.now.messages.items c.new-link.result.notes.now.fetched.items c.new-link.result.notes.now.handles.items c.new-link.result.notes.now.taken.items) (seen_as g.W.Begun.good c.summarize-answer.new.link.lane.now c.summarize-answer.new.link.objects.now c.summarize-answer.new.link.notes.now.client c.summarize-answer.new.link.moment c.summarize-answer.new.link.faults c.summarize-answer.new.link.refusals c.summarize-answer.new.link.bad_trees c.summarize-answer.new.link.notes.now.messages.items c.summarize-answer.new.link.notes.now.fetched.items c.summarize-answer.new.link.notes.now.handles.items c.summarize-answer.new.link.notes.now.taken.items)
+    (told_good g.W.Begun.good good c.new-link.result.lane.now _ c.new-link.result.objects.now _ c.new-link.ensures.lane.1 c.new-link.ensures.objects.1) c.summarize-answer.new.link.lane.now c.summarize-answer.new.link.objects.now refl (search rules) (search rules)
+    (summarize_one c.args.holder.now.container c.summarize-answer.new.self (seen_as g.W.Begun.good c.new-link.result.lane.now c.new-link.result.objects.now c.new-link.result.notes.now.client c.new-link.result.moment c.new-link.result.faults c.new-link.result.refusals c.new-link.result.bad_trees c.new-link.result.notes.now.messages.items c.new-link.result.notes.now.fetched.items c.new-link.result.notes.now.handles.items c.new-link.result.notes.now.taken.items) (seen_as g.W.Begun.good c.summarize-answer.new.link.lane.now c.summarize-answer.new.link.objects.now c.summarize-answer.new.link.notes.now.client c.summarize-answer.new.link.moment c.summarize-answer.new.link.faults c.summarize-answer.new.link.refusals c.summarize-answer.new.link.bad_trees c.summarize-answer.new.link.notes.now.messages.items c.summarize-answer.new.link.notes.now.fetched.items c.summarize-answer.new.link.notes.now.handles.items c.summarize-answer.new.link.notes.now.taken.items) c.summarize-answer.result c.summarize-answer.ensures.does) c.lane-1.given.0 (search rules)
 
 pub returns-in-Some-clause-runs : goal.returns-in-Some-clause-runs
 returns-in-Some-clause-runs g c = left_links g.W.Begun.good g.W.Begun.began c.args.lane.now _ g.W.Begun.before c.args.objects.now _ c.summarize-answer.new.link.course.now c.into_stop.result c.in-Some.fault c.stop_for.result c.requires.lane c.requires.store (search rules) (search rules) c.know.ensures.along c.in-Some.is c.stop_for.ensures
@@ -38,7 +41,7 @@ returns-clause-does g c = λ good limits w d k of store at stands is owned.
     (subst (λ n. SaysProposed c.args.name.now n c.summarize-answer.result c.proposed.result) c.seq.ensures c.proposed.ensures)
 
 pub returns-clause-runs : goal.returns-clause-runs
-returns-clause-runs g c = left_wants g.W.Begun.good g.W.Begun.began c.args.lane.now _ g.W.Begun.before c.args.objects.now _ c.summarize-answer.new.link.course.now c.into_stop.result c.proposed.result c.requires.lane c.requires.store (search rules) (search rules) c.know.ensures.along (proposed_wants c.args.name.now c.seq.result c.summarize-answer.result c.proposed.result c.proposed.ensures)
+returns-clause-runs g c = left_wants g.W.Begun.good g.W.Begun.began c.args.lane.now _ g.W.Begun.before c.args.objects.now _ c.summarize-answer.new.link.course.now c.into_stop.result c.proposed.result c.requires.lane c.requires.store (search rules) (search rules) c.know.ensures.along c.in-None.is (proposed_wants c.args.name.now c.seq.result c.summarize-answer.result c.proposed.result c.proposed.ensures)
 
 pub returns-clause-numbers : goal.returns-clause-numbers
 returns-clause-numbers g c = summarize_counts c.args.holder.now.container c.summarize-answer.new.self (seen_as g.W.Begun.good c.new-link.result.lane.now c.new-link.result.objects.now c.new-link.result.notes.now.client c.new-link.result.moment c.new-link.result.faults c.new-link.result.refusals c.new-link.result.bad_trees c.new-link.result.notes.now.messages.items c.new-link.result.notes.now.fetched.items c.new-link.result.notes.now.handles.items c.new-link.result.notes.now.taken.items) (seen_as g.W.Begun.good c.summarize-answer.new.link.lane.now c.summarize-answer.new.link.objects.now c.summarize-answer.new.link.notes.now.client c.summarize-answer.new.link.moment c.summarize-answer.new.link.faults c.summarize-answer.new.link.refusals c.summarize-answer.new.link.bad_trees c.summarize-answer.new.link.notes.now.messages.items c.summarize-answer.new.link.notes.now.fetched.items c.summarize-answer.new.link.notes.now.handles.items c.summarize-answer.new.link.notes.now.taken.items) c.summarize-answer.result c.summarize-answer.ensures.does

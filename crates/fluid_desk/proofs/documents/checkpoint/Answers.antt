@@ -1,8 +1,8 @@
-use Rattle.std.proofs.Common.{refl}
+use Rattle.std.proofs.Common.{◌+◌, refl}
 use Rattle.fluid_steps.specs.declared.steps.Step.TheVariants as step
 use Rattle.fluid_transcript.specs.World.{document}
-use Rattle.fluid_desk.proofs.Doing.{used_of, many_of, used_there, steps_on, steps_away}
-use Rattle.fluid_desk.proofs.Running.{lane_runs, line_runs}
+use Rattle.fluid_desk.proofs.Doing.{used_of, many_of, used_there, may_unready, steps_on, steps_away}
+use Rattle.fluid_desk.proofs.Running.{lane_runs, line_runs, run_more, stops_more}
 use Rattle.fluid_desk.proofs.documents.checkpoint.Goals as goal
 
 pub lent-requires : goal.lent-requires
@@ -16,8 +16,8 @@ returns-in-Ok-true-clause-does g c = λ w desk at.
     (λ v at of. c.checkpoint.ensures.does c.args.lanes.now.limits v (document v c.args.name.now) of)
 
 pub returns-in-Ok-true-clause-runs : goal.returns-in-Ok-true-clause-runs
-returns-in-Ok-true-clause-runs g c = λ before run.
-    lane_runs before c.ready.new.lanes c.args.name.now c.lent.result.now c.checkpoint.new.lane c.checkpoint.result (c.in-Ok-true.ensures.runs before run) c.lent.ensures.value c.lent.ensures.out c.checkpoint.ensures.runs
+returns-in-Ok-true-clause-runs g c = λ before steps run.
+    lane_runs before steps c.ready.new.lanes c.args.name.now c.lent.result.now c.checkpoint.new.lane c.checkpoint.result (c.in-Ok-true.ensures.runs before steps run) c.lent.ensures.value c.lent.ensures.out c.checkpoint.ensures.runs
 
 pub returns-in-Ok-false-clause-does : goal.returns-in-Ok-false-clause-does
 returns-in-Ok-false-clause-does g c = λ w desk at.
@@ -26,7 +26,11 @@ returns-in-Ok-false-clause-does g c = λ w desk at.
     steps_away c.args.lanes.now c.ready.new.lanes w c.args.name.now (step.Checkpoint c.args.name.now) many.0 c.told.result desk refl refl many.1 (c.told.ensures _ c.turned_away_line.ensures)
 
 pub returns-in-Ok-false-clause-runs : goal.returns-in-Ok-false-clause-runs
-returns-in-Ok-false-clause-runs g c = λ before run. line_runs before c.ready.new.lanes _ c.told.result (c.in-Ok-false.ensures.runs before run) (c.told.ensures _ c.turned_away_line.ensures)
+returns-in-Ok-false-clause-runs g c = λ before steps run. line_runs before (steps + 1) c.ready.new.lanes _ c.told.result (run_more before steps c.ready.new.lanes (c.in-Ok-false.ensures.runs before steps run)) (c.told.ensures _ c.turned_away_line.ensures)
 
 pub returns-in-Err-clause-does : goal.returns-in-Err-clause-does
-returns-in-Err-clause-does g c = λ w desk at. c.in-Err.ensures.honest w desk
+returns-in-Err-clause-does g c = λ w desk at.
+    may_unready c.args.lanes.now.limits w c.args.name.now c.ready.new.lanes (step.Checkpoint c.args.name.now) c.in-Err.stop refl (c.in-Err.ensures.honest w desk)
+
+pub returns-in-Err-clause-runs : goal.returns-in-Err-clause-runs
+returns-in-Err-clause-runs g c = λ before steps run. stops_more before steps c.ready.new.lanes c.in-Err.stop (c.in-Err.ensures.runs before steps run)

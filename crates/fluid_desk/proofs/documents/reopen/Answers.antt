@@ -1,8 +1,8 @@
-use Rattle.std.proofs.Common.{sym, subst}
+use Rattle.std.proofs.Common.{◌+◌, sym, subst}
 use Rattle.fluid_desk.specs.Stopping.{RunsOn}
 use Rattle.fluid_desk.proofs.Doing.{left_same}
 use Rattle.fluid_desk.proofs.Reopening.{reopens, reopens_away, reopens_honest, reopened_there, reopen_run, unreopened_runs}
-use Rattle.fluid_desk.proofs.Running.{line_runs, told_runs}
+use Rattle.fluid_desk.proofs.Running.{line_runs, run_more, stops_more, told_runs}
 use Rattle.fluid_desk.proofs.documents.reopen.Goals as goal
 
 pub lent-requires : goal.lent-requires
@@ -14,9 +14,10 @@ returns-in-Ok-clause-does g c = λ w desk at.
     (λ d of. c.told.ensures _ (c.reopened_line.ensures _ (c.numbers_of.ensures c.args.lanes.now.limits d of))) c.in-Ok.field-0 c.in-Ok.ensures.does
 
 pub returns-in-Ok-clause-runs : goal.returns-in-Ok-clause-runs
-returns-in-Ok-clause-runs g c = λ before run.
-    subst (λ o. RunsOn before o c.told.result) (sym (left_same c.reopen.new.self c.args.name.now c.lent.result.now c.lent.ensures.value))
-    (told_runs before c.reopen.new.self _ c.told.result (reopen_run before c.args.lanes.now c.reopen.new.self c.args.name.now c.args.moment run c.in-Ok.field-0 c.in-Ok.ensures.does) c.told.ensures)
+returns-in-Ok-clause-runs g c = λ before steps run.
+    subst (λ o. RunsOn before (steps + 1) o c.told.result) (sym (left_same c.reopen.new.self c.args.name.now c.lent.result.now c.lent.ensures.value))
+    (told_runs before (steps + 1) c.reopen.new.self _ c.told.result
+    (run_more before steps c.reopen.new.self (reopen_run before steps c.args.lanes.now c.reopen.new.self c.args.name.now c.args.moment run c.in-Ok.field-0 c.in-Ok.ensures.does)) c.told.ensures)
 
 pub returns-in-Ok-turned_away-clause-does : goal.returns-in-Ok-turned_away-clause-does
 returns-in-Ok-turned_away-clause-does g c = λ w desk at.
@@ -24,16 +25,20 @@ returns-in-Ok-turned_away-clause-does g c = λ w desk at.
     (c.told-in-Ok-turned_away.ensures _ c.turned_away_line.ensures)
 
 pub returns-in-Ok-turned_away-clause-runs : goal.returns-in-Ok-turned_away-clause-runs
-returns-in-Ok-turned_away-clause-runs g c = λ before run.
-    line_runs before c.reopen.new.self _ c.told-in-Ok-turned_away.result
-    (subst (RunsOn before c.reopen.new.self) (sym c.in-Ok-turned_away.ensures) (unreopened_runs before c.args.lanes.now c.reopen.new.self c.args.name.now c.args.moment run c.in-Err.fault c.in-Err.ensures.does))
+returns-in-Ok-turned_away-clause-runs g c = λ before steps run.
+    line_runs before (steps + 1) c.reopen.new.self _ c.told-in-Ok-turned_away.result
+    (run_more before steps c.reopen.new.self
+    (subst (RunsOn before steps c.reopen.new.self) (sym c.in-Ok-turned_away.ensures)
+    (unreopened_runs before steps c.args.lanes.now c.reopen.new.self c.args.name.now c.args.moment run c.in-Err.fault c.in-Err.ensures.does)))
     (c.told-in-Ok-turned_away.ensures _ c.turned_away_line.ensures)
 
 pub returns-in-Err-turned_away-clause-does : goal.returns-in-Err-turned_away-clause-does
 returns-in-Err-turned_away-clause-does g c = λ w desk at.
-    reopens_honest c.args.lanes.now c.reopen.new.self w c.args.name.now c.args.moment desk c.in-Err.fault c.in-Err-turned_away.stop c.in-Err.ensures.does c.in-Err-turned_away.ensures
+    let law = c.kept_is_loaded.ensures in
+    reopens_honest c.args.lanes.now c.reopen.new.self w c.args.name.now c.args.moment desk law.first law.checkpoints c.in-Err.fault c.in-Err-turned_away.stop c.in-Err.ensures.does c.in-Err-turned_away.ensures
 
 pub returns-in-Err-turned_away-clause-runs : goal.returns-in-Err-turned_away-clause-runs
-returns-in-Err-turned_away-clause-runs g c = λ before run.
-    subst (RunsOn before c.reopen.new.self) (sym c.in-Err-turned_away.ensures)
-    (unreopened_runs before c.args.lanes.now c.reopen.new.self c.args.name.now c.args.moment run c.in-Err.fault c.in-Err.ensures.does)
+returns-in-Err-turned_away-clause-runs g c = λ before steps run.
+    stops_more before steps c.reopen.new.self c.in-Err-turned_away.stop
+    (subst (RunsOn before steps c.reopen.new.self) (sym c.in-Err-turned_away.ensures)
+    (unreopened_runs before steps c.args.lanes.now c.reopen.new.self c.args.name.now c.args.moment run c.in-Err.fault c.in-Err.ensures.does))

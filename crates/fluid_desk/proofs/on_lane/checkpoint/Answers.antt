@@ -1,4 +1,6 @@
+use Rattle.std.proofs.Common.{arith}
 use Rattle.fluid_desk.proofs.Steps.{stores, stores_none, line_ends, unstored_ends}
+use Rattle.fluid_desk.proofs.Few.{fault_aside}
 use Rattle.fluid_desk.proofs.on_lane.checkpoint.Goals as goal
 
 pub returns-in-Ok-clause-does : goal.returns-in-Ok-clause-does
@@ -9,7 +11,7 @@ returns-in-Ok-clause-does g c = λ limits w d of.
 pub returns-in-Ok-clause-runs : goal.returns-in-Ok-clause-runs
 returns-in-Ok-clause-runs g c =
     let e = c.in-Ok.ensures in
-    record { later = e.goes.later; ends = line_ends c.args.lane.now c.checkpoint.new.self _ _ (c.told.ensures _ c.stored_line.ensures) }
+    record { later = e.goes.later; sides = omega (arith, e.goes.sides); ends = line_ends c.args.lane.now c.checkpoint.new.self _ _ (c.told.ensures _ c.stored_line.ensures) }
 
 pub returns-in-Err-clause-does : goal.returns-in-Err-clause-does
 returns-in-Err-clause-does g c = λ limits w d of.
@@ -19,4 +21,4 @@ returns-in-Err-clause-does g c = λ limits w d of.
 pub returns-in-Err-clause-runs : goal.returns-in-Err-clause-runs
 returns-in-Err-clause-runs g c =
     let e = c.in-Err.ensures in
-    record { later = e.goes.later; ends = unstored_ends _ _ c.args.name.now c.in-Err.fault _ e.gate e.stores.cause c.unstored.ensures }
+    record { later = e.goes.later; sides = fault_aside _ _ c.in-Err.fault e.goes.sides; ends = unstored_ends _ _ c.args.name.now c.in-Err.fault _ e.gate e.stores.cause c.unstored.ensures }

@@ -27,6 +27,7 @@ returns-in-Ok-None-clause-does g c = λ limits w d of held at.
 pub returns-in-Ok-None-clause-runs : goal.returns-in-Ok-None-clause-runs
 returns-in-Ok-None-clause-runs g c = record {
   later = omega (arith, ap (λ s. s.keeping.faults) c.in-Ok-None.ensures.same);
+  sides = omega (arith, ap (λ s. s.sides) c.in-Ok-None.ensures.same);
   counts = omega arith;
   ends = told_ends_with c.args.lane.now c.job.new.self _ _ _ c.told.result c.told.ensures;
 }

@@ -6,6 +6,7 @@ pub returns-then-has_write_fault : goal.returns-then-has_write_fault
 returns-then-has_write_fault g c = record {
   cause = λ input start source h. h;
   failed = λ old h. h;
+  failed_at = λ m input h. h;
   finished = λ m input start source h. stays-cut m _ input source start (g.K.Sink.seen c.args.output.now) _ _ (sym c.has_write_fault.ensures ∙ c.if-has_write_fault.true) h;
 }
 
@@ -15,6 +16,7 @@ returns-in-Ok g c =
     record {
       cause = λ input start source h. finish-cause input source start (g.K.Sink.seen c.args.output.now) (g.K.Sink.seen c.hand_on.new.output) _ none h c.in-Ok.ensures.cause.quiet;
       failed = λ old h. h;
+      failed_at = λ m input h. h;
       finished = λ m input start source h. finished m _ input source start (g.K.Sink.seen c.args.output.now) (g.K.Sink.seen c.hand_on.new.output) _ _ none h c.in-Ok.ensures.gone;
     }
 
@@ -24,5 +26,6 @@ returns-in-Err g c =
     record {
       cause = λ input start source h. rose _ _ _ (unfailed input source start (g.K.Sink.seen c.args.output.now) c.args.settled none h) c.in-Err.ensures.cause.failed;
       failed = λ old h. tt;
+      failed_at = λ m input h. tt;
       finished = λ m input start source h. finished-cut m _ input source start (g.K.Sink.seen c.args.output.now) (g.K.Sink.seen c.hand_on.new.output) _ _ none h c.in-Err.ensures.cut;
     }

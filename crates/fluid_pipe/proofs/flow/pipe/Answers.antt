@@ -12,6 +12,12 @@ pub returns-clause-failed : goal.returns-clause-failed
 returns-clause-failed g c =
     c.finish.ensures.failed c.args.taker.now (c.settle-settled.ensures.failed c.args.taker.now c.take_all-taken.ensures.failed)
 
+pub returns-clause-failed_at : goal.returns-clause-failed_at
+returns-clause-failed_at g c =
+    λ m stands.
+    let input = g.S.Source.seen c.args.input.now in
+    c.finish.ensures.failed_at m input (c.settle-settled.ensures.failed_at m input (c.take_all-taken.ensures.failed_at m stands))
+
 pub returns-clause-finished : goal.returns-clause-finished
 returns-clause-finished g c =
     λ m stands.

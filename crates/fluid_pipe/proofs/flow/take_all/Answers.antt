@@ -1,7 +1,7 @@
-use Rattle.std.proofs.Common.{◌∙◌, refl, arith}
+use Rattle.std.proofs.Common.{refl, arith}
 use Rattle.std.proofs.lemmas.Result.{err_from_is_err_and}
 use Rattle.fluid_pipe.proofs.Advances.{hands_on, starts, takes}
-use Rattle.fluid_pipe.proofs.Endings.{carry-failed, cut-ends, ended, no-failure, read-cause, read-on, stopped, write-cause, written-on}
+use Rattle.fluid_pipe.proofs.Endings.{carry-failed, cut-ends, ended, failed-behind, no-failure, read-cause, read-on, stopped, write-cause, written-on}
 use Rattle.fluid_pipe.proofs.flow.take_all.Goals as goal
 
 pub loop-lines-init : goal.loop-lines-init
@@ -38,6 +38,7 @@ returns-in_err-hand_on_if_many g c =
       cause = write-cause _ _ _ _ _ _ quiet c.in_err-hand_on_if_many.ensures.cause;
       follows = g.met.T.Taker.follows_on _ _ _ i.1 c.in_ok-take_next.ensures.follows;
       failed = no-failure _ _ _ _ c.in_err-hand_on_if_many.ensures.cause;
+      failed_at = λ m stands. no-failure _ _ _ _ c.in_err-hand_on_if_many.ensures.cause;
       ends = λ m stands.
           let p = i.2 m stands in
           let taken = rw c.if-branch.true at (c.in_ok-take_next.ensures.steps m p.before p.gone p.reached) in
@@ -52,6 +53,9 @@ returns-in_err-take_next g c =
       cause = read-cause _ _ _ _ _ _ i.0.quiet c.in_err-take_next.ensures.quiet;
       follows = g.met.T.Taker.follows_on _ _ _ i.1 c.in_err-take_next.ensures.follows;
       failed = carry-failed _ _ (λ fault h. g.met.T.Taker.failed_on _ _ _ fault i.1 h) _ c.in_err-take_next.ensures.failed;
+      failed_at = λ m stands.
+          let p = i.2 m stands in
+          failed-behind m _ (g.T.Taker.failed_at c.take_next.new.taker m) _ _ _ _ _ _ _ p (c.in_err-take_next.ensures.failed_at m p.before p.gone p.reached);
       ends = λ m stands.
           let p = i.2 m stands in
           stopped m _ _ _ _ _ c.take_next.new.lines _ _ _ _ _ _ p (c.in_err-take_next.ensures.steps m p.before p.gone p.reached);
@@ -64,6 +68,7 @@ returns g c =
       cause = read-on _ _ _ _ _ i.0.quiet c.in_ok-take_next.ensures.quiet;
       follows = g.met.T.Taker.follows_on _ _ _ i.1 c.in_ok-take_next.ensures.follows;
       failed = tt;
+      failed_at = λ m stands. tt;
       ends = λ m stands.
           let p = i.2 m stands in
           let ending = rw c.if-branch.false at (c.in_ok-take_next.ensures.steps m p.before p.gone p.reached) in

@@ -1,5 +1,5 @@
 use Rattle.std.proofs.Common.{◌∙◌, ap, ◌++◌}
-use Rattle.fluid_pipe.proofs.Answers.{few, too_long, not_utf8, too_many, takes_line, refuses_line}
+use Rattle.fluid_pipe.proofs.Answers.{too_long, not_utf8, too_many, takes_line, refuses_line}
 use Rattle.fluid_pipe.proofs.flow.take_next.Goals as goal
 
 pub returns-in-Err-TooLong-clause-steps : goal.returns-in-Err-TooLong-clause-steps

@@ -22,9 +22,9 @@ returns-clause-does g c = λ w stands at.
     (c.close.ensures.does w stands.desk has.sound has.is at) c.one.ensures)
 
 pub returns-clause-runs : goal.returns-clause-runs
-returns-clause-runs g c = λ first run.
-    one_links first c.args._objects.now c.args._objects.now c.close.new.lanes c.close.result c.one.result
-    (on_links first c.args._objects.now c.args._objects.now c.close.new.lanes c.close.result (c.close.ensures.runs first run)) c.one.ensures
+returns-clause-runs g c = λ first steps run.
+    one_links first (steps + 1) c.args._objects.now c.args._objects.now c.close.new.lanes c.close.result c.one.result
+    (on_links first (steps + 1) c.args._objects.now c.args._objects.now c.close.new.lanes c.close.result (c.close.ensures.runs first steps run)) c.one.ensures
 
 pub returns-clause-numbers : goal.returns-clause-numbers
 returns-clause-numbers g c = counted_ok c.one.result (λ n few. subst (AreCounted (n + 1)) (sym c.take_voice-voice.ensures.left) (used_counted c.args.names.now.table.values c.args.name.now n few))

@@ -23,7 +23,7 @@ returns-clause-does g c = λ w stands at.
     (c.collect-lines.ensures.does w stands.desk has.sound has.is at))
 
 pub returns-clause-runs : goal.returns-clause-runs
-returns-clause-runs g c = λ first run. reading_links first c.args._objects.now c.args._objects.now c.collect-lines.new.lanes c.collect-lines.result (c.collect-lines.ensures.runs first run)
+returns-clause-runs g c = λ first steps run. reading_links first (steps + 1) c.args._objects.now c.args._objects.now c.collect-lines.new.lanes c.collect-lines.result (c.collect-lines.ensures.runs first steps run)
 
 pub returns-clause-numbers : goal.returns-clause-numbers
 returns-clause-numbers g c = counted_ok c.collect-lines.result (λ n few.

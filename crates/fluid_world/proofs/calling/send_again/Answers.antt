@@ -23,7 +23,7 @@ returns-clause-does g c = λ w stands at.
     (c.send-lines.ensures.does w stands.desk stands.held has.sound has.is at))
 
 pub returns-clause-runs : goal.returns-clause-runs
-returns-clause-runs g c = λ first run. hearing_links first c.args.objects.now c.send-lines.new.objects c.send-lines.new.lanes c.send-lines.result (c.send-lines.ensures.runs first run)
+returns-clause-runs g c = λ first steps run. hearing_links first (steps + 1) c.args.objects.now c.send-lines.new.objects c.send-lines.new.lanes c.send-lines.result (c.send-lines.ensures.runs first steps run)
 
 pub returns-clause-numbers : goal.returns-clause-numbers
 returns-clause-numbers g c = counted_ok c.send-lines.result (λ n few.

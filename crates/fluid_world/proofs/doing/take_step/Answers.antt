@@ -1,4 +1,4 @@
-use Rattle.std.proofs.Common.{rules, refl, sym, ap, subst, ◌∙◌, ◌≡◌, ◌≤◌, None, length}
+use Rattle.std.proofs.Common.{◌+◌, rules, refl, sym, ap, subst, ◌∙◌, ◌≡◌, ◌≤◌, None, length}
 use Rattle.std.specs.FinMap.{get}
 use Rattle.fluid_readback.specs.Laws.{longest_text}
 use Rattle.fluid_steps.specs.declared.steps.Step.TheVariants as step
@@ -17,9 +17,9 @@ returns-in-Scribe-clause-does g c = λ w good stands own at.
     (c.scribe.ensures.does w stands.desk stands.held at) c.one.ensures)
 
 pub returns-in-Scribe-clause-runs : goal.returns-in-Scribe-clause-runs
-returns-in-Scribe-clause-runs g c = λ first run.
-    one_links first c.args.objects.now c.scribe.new.objects c.scribe.new.lanes c.scribe.result c.one.result
-    (with_links first c.args.objects.now c.scribe.new.objects c.scribe.new.lanes c.scribe.result (c.scribe.ensures.runs first run)) c.one.ensures
+returns-in-Scribe-clause-runs g c = λ first steps run.
+    one_links first (steps + 1) c.args.objects.now c.scribe.new.objects c.scribe.new.lanes c.scribe.result c.one.result
+    (with_links first (steps + 1) c.args.objects.now c.scribe.new.objects c.scribe.new.lanes c.scribe.result (c.scribe.ensures.runs first steps run)) c.one.ensures
 
 pub returns-in-Scribe-clause-numbers : goal.returns-in-Scribe-clause-numbers
 returns-in-Scribe-clause-numbers g c = counted_ok c.one.result (same_counted c.args.names.now.table.values)
@@ -31,9 +31,9 @@ returns-in-Checkpoint-clause-does g c = λ w good stands own at.
     c.steps_leave_others.ensures.store (c.checkpoint.ensures.does w stands.desk at) c.one-in-Checkpoint.ensures)
 
 pub returns-in-Checkpoint-clause-runs : goal.returns-in-Checkpoint-clause-runs
-returns-in-Checkpoint-clause-runs g c = λ first run.
-    one_links first c.args.objects.now c.args.objects.now c.checkpoint.new.lanes c.checkpoint.result c.one-in-Checkpoint.result
-    (on_links first c.args.objects.now c.args.objects.now c.checkpoint.new.lanes c.checkpoint.result (c.checkpoint.ensures.runs first run)) c.one-in-Checkpoint.ensures
+returns-in-Checkpoint-clause-runs g c = λ first steps run.
+    one_links first (steps + 1) c.args.objects.now c.args.objects.now c.checkpoint.new.lanes c.checkpoint.result c.one-in-Checkpoint.result
+    (on_links first (steps + 1) c.args.objects.now c.args.objects.now c.checkpoint.new.lanes c.checkpoint.result (c.checkpoint.ensures.runs first steps run)) c.one-in-Checkpoint.ensures
 
 pub returns-in-Checkpoint-clause-numbers : goal.returns-in-Checkpoint-clause-numbers
 returns-in-Checkpoint-clause-numbers g c = counted_ok c.one-in-Checkpoint.result (same_counted c.args.names.now.table.values)
@@ -45,9 +45,9 @@ returns-in-Restart-clause-does g c = λ w good stands own at.
     c.steps_leave_others.ensures.store (c.restart.ensures.does w stands.desk at) c.one-in-Restart.ensures)
 
 pub returns-in-Restart-clause-runs : goal.returns-in-Restart-clause-runs
-returns-in-Restart-clause-runs g c = λ first run.
-    one_links first c.args.objects.now c.args.objects.now c.restart.new.lanes c.restart.result c.one-in-Restart.result
-    (on_links first c.args.objects.now c.args.objects.now c.restart.new.lanes c.restart.result (c.restart.ensures.runs first run)) c.one-in-Restart.ensures
+returns-in-Restart-clause-runs g c = λ first steps run.
+    one_links first (steps + 1) c.args.objects.now c.args.objects.now c.restart.new.lanes c.restart.result c.one-in-Restart.result
+    (on_links first (steps + 1) c.args.objects.now c.args.objects.now c.restart.new.lanes c.restart.result (c.restart.ensures.runs first steps run)) c.one-in-Restart.ensures
 
 pub returns-in-Restart-clause-numbers : goal.returns-in-Restart-clause-numbers
 returns-in-Restart-clause-numbers g c = counted_ok c.one-in-Restart.result (same_counted c.args.names.now.table.values)
@@ -59,9 +59,9 @@ returns-in-Reopen-clause-does g c = λ w good stands own at.
     c.steps_leave_others.ensures.store (c.reopen.ensures.does w stands.desk at) c.one-in-Reopen.ensures)
 
 pub returns-in-Reopen-clause-runs : goal.returns-in-Reopen-clause-runs
-returns-in-Reopen-clause-runs g c = λ first run.
-    one_links first c.args.objects.now c.args.objects.now c.reopen.new.lanes c.reopen.result c.one-in-Reopen.result
-    (on_links first c.args.objects.now c.args.objects.now c.reopen.new.lanes c.reopen.result (c.reopen.ensures.runs first run)) c.one-in-Reopen.ensures
+returns-in-Reopen-clause-runs g c = λ first steps run.
+    one_links first (steps + 1) c.args.objects.now c.args.objects.now c.reopen.new.lanes c.reopen.result c.one-in-Reopen.result
+    (on_links first (steps + 1) c.args.objects.now c.args.objects.now c.reopen.new.lanes c.reopen.result (c.reopen.ensures.runs first steps run)) c.one-in-Reopen.ensures
 
 pub returns-in-Reopen-clause-numbers : goal.returns-in-Reopen-clause-numbers
 returns-in-Reopen-clause-numbers g c = counted_ok c.one-in-Reopen.result (same_counted c.args.names.now.table.values)
@@ -73,9 +73,9 @@ returns-in-Sweep-clause-does g c = λ w good stands own at.
     c.steps_leave_others.ensures.store (c.sweep.ensures.does w stands.desk at) c.one-in-Sweep.ensures)
 
 pub returns-in-Sweep-clause-runs : goal.returns-in-Sweep-clause-runs
-returns-in-Sweep-clause-runs g c = λ first run.
-    one_links first c.args.objects.now c.args.objects.now c.sweep.new.lanes c.sweep.result c.one-in-Sweep.result
-    (on_links first c.args.objects.now c.args.objects.now c.sweep.new.lanes c.sweep.result (c.sweep.ensures.runs first run)) c.one-in-Sweep.ensures
+returns-in-Sweep-clause-runs g c = λ first steps run.
+    one_links first (steps + 1) c.args.objects.now c.args.objects.now c.sweep.new.lanes c.sweep.result c.one-in-Sweep.result
+    (on_links first (steps + 1) c.args.objects.now c.args.objects.now c.sweep.new.lanes c.sweep.result (c.sweep.ensures.runs first steps run)) c.one-in-Sweep.ensures
 
 pub returns-in-Sweep-clause-numbers : goal.returns-in-Sweep-clause-numbers
 returns-in-Sweep-clause-numbers g c = counted_ok c.one-in-Sweep.result (same_counted c.args.names.now.table.values)
@@ -87,9 +87,9 @@ returns-in-Count-clause-does g c = λ w good stands own at.
     c.steps_leave_others.ensures.store (c.count.ensures.does w stands.desk at) c.one-in-Count.ensures)
 
 pub returns-in-Count-clause-runs : goal.returns-in-Count-clause-runs
-returns-in-Count-clause-runs g c = λ first run.
-    one_links first c.args.objects.now c.args.objects.now c.count.new.lanes c.count.result c.one-in-Count.result
-    (on_links first c.args.objects.now c.args.objects.now c.count.new.lanes c.count.result (c.count.ensures.runs first run)) c.one-in-Count.ensures
+returns-in-Count-clause-runs g c = λ first steps run.
+    one_links first (steps + 1) c.args.objects.now c.args.objects.now c.count.new.lanes c.count.result c.one-in-Count.result
+    (on_links first (steps + 1) c.args.objects.now c.args.objects.now c.count.new.lanes c.count.result (c.count.ensures.runs first steps run)) c.one-in-Count.ensures
 
 pub returns-in-Count-clause-numbers : goal.returns-in-Count-clause-numbers
 returns-in-Count-clause-numbers g c = counted_ok c.one-in-Count.result (same_counted c.args.names.now.table.values)

@@ -24,7 +24,7 @@ returns-clause-does g c = λ w good stands at.
     (c.edit-line.ensures.does w has.0 good stands.desk stands.held stands.sound at has.1.0 has.1.1) c.one.ensures)
 
 pub returns-clause-runs : goal.returns-clause-runs
-returns-clause-runs g c = λ first run. one_links first c.args.objects.now c.edit-line.new.objects c.edit-line.new.lanes c.edit-line.result c.one.result (c.edit-line.ensures.runs first run) c.one.ensures
+returns-clause-runs g c = λ first steps run. one_links first (steps + 1) c.args.objects.now c.edit-line.new.objects c.edit-line.new.lanes c.edit-line.result c.one.result (c.edit-line.ensures.runs first steps run) c.one.ensures
 
 pub returns-clause-numbers : goal.returns-clause-numbers
 returns-clause-numbers g c = counted_ok c.one.result (λ n few.

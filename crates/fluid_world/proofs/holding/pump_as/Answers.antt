@@ -23,7 +23,7 @@ returns-clause-does g c = λ w good stands at.
     (c.pump-line.ensures.does w has.0 good stands.desk stands.held stands.sound at has.1.0 has.1.1) c.one.ensures)
 
 pub returns-clause-runs : goal.returns-clause-runs
-returns-clause-runs g c = λ first run. one_links first c.args.objects.now c.pump-line.new.objects c.pump-line.new.lanes c.pump-line.result c.one.result (c.pump-line.ensures.runs first run) c.one.ensures
+returns-clause-runs g c = λ first steps run. one_links first (steps + 1) c.args.objects.now c.pump-line.new.objects c.pump-line.new.lanes c.pump-line.result c.one.result (c.pump-line.ensures.runs first steps run) c.one.ensures
 
 pub returns-clause-numbers : goal.returns-clause-numbers
 returns-clause-numbers g c = counted_ok c.one.result (λ n few.

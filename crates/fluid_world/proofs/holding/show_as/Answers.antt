@@ -1,4 +1,4 @@
-use Rattle.std.proofs.Common.{refl}
+use Rattle.std.proofs.Common.{◌+◌, refl}
 use Rattle.std.specs.FinMap.{get}
 use Rattle.fluid_steps.specs.declared.steps.Step.TheVariants as step
 use Rattle.fluid_world.proofs.Linked.{on_links, one_links}
@@ -13,6 +13,6 @@ returns-clause-does g c = λ w stands at.
     c.steps_leave_others.ensures.store (c.show.ensures.does w has.0 stands.desk stands.sound at has.1.0 has.1.1) c.one.ensures
 
 pub returns-clause-runs : goal.returns-clause-runs
-returns-clause-runs g c = λ first run.
-    one_links first c.args._objects.now c.args._objects.now c.show.new.lanes c.show.result c.one.result
-    (on_links first c.args._objects.now c.args._objects.now c.show.new.lanes c.show.result (c.show.ensures.runs first run)) c.one.ensures
+returns-clause-runs g c = λ first steps run.
+    one_links first (steps + 1) c.args._objects.now c.args._objects.now c.show.new.lanes c.show.result c.one.result
+    (on_links first (steps + 1) c.args._objects.now c.args._objects.now c.show.new.lanes c.show.result (c.show.ensures.runs first steps run)) c.one.ensures

@@ -23,7 +23,7 @@ returns-clause-does g c = λ w good stands own at.
     (c.summarize-line.ensures.does w has.0 good stands.desk stands.held stands.sound at has.1.0 has.1.1 own) c.one.ensures)
 
 pub returns-clause-runs : goal.returns-clause-runs
-returns-clause-runs g c = λ first run. one_links first c.args.objects.now c.summarize-line.new.objects c.summarize-line.new.lanes c.summarize-line.result c.one.result (c.summarize-line.ensures.runs first run) c.one.ensures
+returns-clause-runs g c = λ first steps run. one_links first (steps + 1) c.args.objects.now c.summarize-line.new.objects c.summarize-line.new.lanes c.summarize-line.result c.one.result (c.summarize-line.ensures.runs first steps run) c.one.ensures
 
 pub returns-clause-numbers : goal.returns-clause-numbers
 returns-clause-numbers g c = counted_ok c.one.result (λ n few.

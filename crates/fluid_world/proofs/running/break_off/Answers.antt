@@ -9,28 +9,28 @@ pub returns-in-Refused-clause-ends : goal.returns-in-Refused-clause-ends
 returns-in-Refused-clause-ends g c = λ first before input start source sink ran cause. refused_cause input start source sink (Err c.args.stop) c.in-Refused.number c.in-Refused.refusal (same_err c.args.stop _ c.in-Refused.is) cause
 
 pub returns-in-Refused-clause-writes : goal.returns-in-Refused-clause-writes
-returns-in-Refused-clause-writes g c = λ w load input start source sink good speaks finished.
+returns-in-Refused-clause-writes g c = λ w load input start source sink good speaks finished failed.
     refused_writes w load input start source c.args.script.now speaks sink _ (Err c.args.stop) c.in-Refused.number c.in-Refused.refusal (same_err c.args.stop _ c.in-Refused.is) finished (ap (λ why. end.BadLine c.in-Refused.number why) c.why_of.ensures)
 
 pub returns-in-ReadFault-clause-ends : goal.returns-in-ReadFault-clause-ends
 returns-in-ReadFault-clause-ends g c = λ first before input start source sink ran cause. read_cause input start source sink (Err c.args.stop) (same_err c.args.stop _ c.in-ReadFault.is) cause
 
 pub returns-in-ReadFault-clause-writes : goal.returns-in-ReadFault-clause-writes
-returns-in-ReadFault-clause-writes g c = λ w load input start source sink good speaks finished.
+returns-in-ReadFault-clause-writes g c = λ w load input start source sink good speaks finished failed.
     interrupted_writes w load input start source c.args.script.now speaks sink (Err c.args.stop) (same_err c.args.stop _ c.in-ReadFault.is) finished
 
 pub returns-in-WriteFault-clause-ends : goal.returns-in-WriteFault-clause-ends
 returns-in-WriteFault-clause-ends g c = λ first before input start source sink ran cause. write_cause input start source sink (Err c.args.stop) (same_err c.args.stop _ c.in-WriteFault.is) cause
 
 pub returns-in-WriteFault-clause-writes : goal.returns-in-WriteFault-clause-writes
-returns-in-WriteFault-clause-writes g c = λ w load input start source sink good speaks finished.
+returns-in-WriteFault-clause-writes g c = λ w load input start source sink good speaks finished failed.
     cut_writes w load input start source c.args.script.now speaks sink (Err c.args.stop) (same_err c.args.stop _ c.in-WriteFault.is) finished
 
 pub returns-in-NoMemory-clause-ends : goal.returns-in-NoMemory-clause-ends
 returns-in-NoMemory-clause-ends g c = λ first before input start source sink ran cause. memory_cause input start source sink (Err c.args.stop) (same_err c.args.stop _ c.in-NoMemory.is) cause
 
 pub returns-in-NoMemory-clause-writes : goal.returns-in-NoMemory-clause-writes
-returns-in-NoMemory-clause-writes g c = λ w load input start source sink good speaks finished.
+returns-in-NoMemory-clause-writes g c = λ w load input start source sink good speaks finished failed.
     short_writes w load input start source c.args.script.now speaks sink (Err c.args.stop) (same_err c.args.stop _ c.in-NoMemory.is) finished
 
 pub returns-in-Failed-clause-ends : goal.returns-in-Failed-clause-ends
@@ -39,8 +39,8 @@ returns-in-Failed-clause-ends g c = λ first before input start source sink ran 
     (failed_cause input start source sink (Err c.args.stop) _ (same_err c.args.stop _ c.in-Failed.is) cause)
 
 pub returns-in-Failed-clause-writes : goal.returns-in-Failed-clause-writes
-returns-in-Failed-clause-writes g c = λ w load input start source sink good speaks finished.
-    failed_writes w load input start source c.args.script.now speaks sink c.halt.new.script c.args.script.now.stop c.halt.result (Err c.args.stop) _ (same_err c.args.stop _ c.in-Failed.is) finished c.halt.ensures.end c.requires.stood good
+returns-in-Failed-clause-writes g c = λ w load input start source sink good speaks finished failed.
+    failed_writes w load input start source c.args.script.now speaks sink c.halt.new.script c.args.script.now.stop c.halt.result (Err c.args.stop) _ (same_err c.args.stop _ c.in-Failed.is) finished c.halt.ensures.end failed
 
 pub halt-requires : goal.halt-requires
-halt-requires g c = subst (HasFailed {A = Unit {0}} (λ _. HasStopped c.args.script.now)) (same_err c.args.stop _ c.in-Failed.is) c.requires.halted
+halt-requires g c = subst (HasFailed {A = Unit {0}} (λ _. HasStopped c.args.script.now)) (same_err c.args.stop _ c.in-Failed.is) c.requires

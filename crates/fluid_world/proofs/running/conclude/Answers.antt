@@ -16,15 +16,15 @@ returns-in-Some-clause-ends g c = λ first before input start source le ran quie
 
 pub returns-in-Some-clause-writes : goal.returns-in-Some-clause-writes
 returns-in-Some-clause-writes g c = λ w stands.
-    stopped_concludes c.args.script.now.lanes.limits w _ (g.K.Sink.seen c.args.output.now) c.args.script.now c.take_stop.new.self c.args.script.now.stop c.end_for.result
-    (ap (option_map end_for) (sym c.take_stop.ensures.stop ∙ c.in-Some.is) ∙ ap Some (sym c.end_for.ensures)) c.requires.stood stands.good
+    stopped_concludes c.args.script.now.lanes.limits w _ (g.K.Sink.seen c.args.output.now) (g.K.Sink.seen c.args.output.now) c.take_stop.new.self c.args.script.now.stop c.in-Some.stop c.end_for.result
+    (sym c.take_stop.ensures.stop ∙ c.in-Some.is) stands.going
 
 pub returns-in-None-load-clause-ends : goal.returns-in-None-load-clause-ends
 returns-in-None-load-clause-ends g c = λ first before input start source le ran quiet. quiet
 
 pub returns-in-None-load-clause-writes : goal.returns-in-None-load-clause-writes
 returns-in-None-load-clause-writes g c = λ w stands.
-    nothing_concludes c.args.script.now.lanes.limits w (g.K.Sink.seen c.args.output.now) c.take_stop.new.self c.args.script.now.stop _ (sym c.take_stop.ensures.stop ∙ c.in-None.is) (ap (option_map (λ name. name.now)) c.in-None-load.is)
+    nothing_concludes c.args.script.now.lanes.limits w (g.K.Sink.seen c.args.output.now) c.take_stop.new.self _ (ap (option_map (λ name. name.now)) c.in-None-load.is)
     (parts_of c.args.script.now c.take_stop.new.self w (ap (λ (s : Scripting). s.lanes) c.take_stop.ensures.rest) (ap (λ (s : Scripting). s.store) c.take_stop.ensures.rest) stands)
 
 pub returns-in-Some-load-clause-ends : goal.returns-in-Some-load-clause-ends
@@ -35,8 +35,8 @@ returns-in-Some-load-clause-ends g c = λ first before input start source le ran
 pub returns-in-Some-load-clause-writes : goal.returns-in-Some-load-clause-writes
 returns-in-Some-load-clause-writes g c = λ w stands.
     let limits : c.take_stop.new.self.lanes.limits ≡ c.args.script.now.lanes.limits = ap (λ (s : Scripting). s.lanes.limits) c.take_stop.ensures.rest in
-    last_concludes c.args.script.now.lanes.limits w (g.K.Sink.seen c.args.output.now) (g.K.Sink.seen c.show_last.new.output) c.show_last.new.script c.show_last.result c.in-Some-load.document.now c.args.script.now.stop _
-    (sym c.take_stop.ensures.stop ∙ c.in-None.is) (ap (option_map (λ name. name.now)) c.in-Some-load.is)
+    last_concludes c.args.script.now.lanes.limits w (g.K.Sink.seen c.args.output.now) (g.K.Sink.seen c.show_last.new.output) c.show_last.new.script c.show_last.result c.in-Some-load.document.now _
+    (ap (option_map (λ name. name.now)) c.in-Some-load.is)
     (subst (λ (l : Limits). ShowsBy (loaded_last l w c.in-Some-load.document.now) (g.K.Sink.seen c.args.output.now) (g.K.Sink.seen c.show_last.new.output) c.show_last.new.script c.show_last.result) limits
     (c.show_last.ensures.writes w (ap (λ (s : Scripting). s.good) c.take_stop.ensures.rest ∙ stands.good) (stands_unstopped c.args.script.now c.take_stop.new.self w c.take_stop.ensures.rest stands)))
 

@@ -17,4 +17,4 @@ returns-clause-does g c = rw (← c.script.view_is) (λ w good stands.
     c.load_last.ensures.does (at_line w) good at.desk at.held at.sound (ap (λ n. n + 1) stands.moment))
 
 pub returns-clause-runs : goal.returns-clause-runs
-returns-clause-runs g c = rw (← c.script.view_is) (λ first run. c.load_last.ensures.runs first run)
+returns-clause-runs g c = rw (← c.script.view_is) (λ first run. c.load_last.ensures.runs first c.script.inside.lines run)

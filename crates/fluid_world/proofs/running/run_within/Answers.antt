@@ -6,7 +6,7 @@ use Rattle.fluid_door_link.specs.Hushing.{hushed, IsShortAsTold}
 use Rattle.fluid_world.specs.Ending.{Outside, Writes, WritesSo}
 use Rattle.fluid_world.specs.Taking.{IsWithin}
 use Rattle.fluid_world.proofs.Ended.{short_at_first, closes_cause, closes_writes}
-use Rattle.fluid_world.proofs.FromStart.{within_at_first, few_lines, stood_then, counted_then, ran_then, good_then, limits_then, speaks_then, finished_then, if_told, none_is}
+use Rattle.fluid_world.proofs.FromStart.{within_at_first, few_lines, stood_then, counted_then, ran_then, good_then, limits_then, speaks_then, finished_then, failed_then, if_told, none_is}
 use Rattle.fluid_world.proofs.running.run_within.Goals as goal
 
 pub begin-script-requires : goal.begin-script-requires
@@ -58,4 +58,6 @@ returns-clause-writes g c =
     (good_then shelves c.args.limits objects c.is_none.result c.worlds.ensures.first told c.requires.stands c.begin-script.result c.pipe-ended.new.taker c.begin-script.ensures c.pipe-ended.ensures.follows w some)
     (none_is _ c.is_none.result c.is_none.ensures ∙ sym (speaks_then shelves c.args.limits objects c.is_none.result c.worlds.ensures.first told c.requires.stands c.begin-script.result c.pipe-ended.new.taker c.begin-script.ensures c.pipe-ended.ensures.follows))
     (finished_then shelves c.args.limits objects c.is_none.result c.worlds.ensures.first told c.requires.stands c.begin-script.result c.pipe-ended.new.taker c.begin-script.ensures c.pipe-ended.ensures.follows w some before.source before.sink now.source
-    (g.K.Sink.seen c.pipe-ended.new.output) c.pipe-ended.result c.pipe-ended.ensures.finished))))
+    (g.K.Sink.seen c.pipe-ended.new.output) c.pipe-ended.result c.pipe-ended.ensures.finished)
+    (failed_then shelves c.args.limits objects c.is_none.result c.worlds.ensures.first told c.requires.stands c.begin-script.result c.pipe-ended.new.taker c.begin-script.ensures c.pipe-ended.ensures.follows w some before.source.left
+    c.pipe-ended.result c.pipe-ended.ensures.failed_at))))

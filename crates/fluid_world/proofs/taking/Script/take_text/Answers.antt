@@ -1,9 +1,11 @@
 use Rattle.std.proofs.Common.{◌≡◌, ◌∙◌, refl, sym, subst, arith, Result, Ok, Err}
+use Rattle.std.specs.Prelude.{IfSome}
 use Rattle.fluid_io.specs.declared.lines.TheConstants.{MOST_LINES}
 use Rattle.fluid_steps.specs.Grammar.{step_spelled}
 use Rattle.fluid_steps.specs.declared.steps.Step.{Step}
 use Rattle.fluid_steps.specs.declared.refusal.LineWhy.{LineWhy}
-use Rattle.fluid_world.specs.Taking.{IsWithin, Follows, HasStopped}
+use Rattle.fluid_transcript.specs.Transcript.{taken}
+use Rattle.fluid_world.specs.Taking.{Scripting, MayEnd, IsWithin, Follows, HasStopped}
 use Rattle.fluid_world.specs.Going.{follows_itself}
 use Rattle.fluid_world.proofs.Spelled.{spelled_short}
 use Rattle.fluid_world.proofs.Tooked.{passes, goes_passed, within_passed, goes_wanting, follows_by, takes_spelled, refuses_spelled, leaves_own}
@@ -56,3 +58,11 @@ returns-then-text-gt-LONGEST_TEXT-clause-halts g c = subst HasStopped (sym c.hal
 
 pub returns-in-Err-clause-halts : goal.returns-in-Err-clause-halts
 returns-in-Err-clause-halts g c = subst HasStopped (sym c.halt-in-Err.ensures) refl
+
+pub returns-then-text-gt-LONGEST_TEXT-clause-takes : goal.returns-then-text-gt-LONGEST_TEXT-clause-takes
+returns-then-text-gt-LONGEST_TEXT-clause-takes g c = λ w h.
+    subst (λ (s : Scripting). IfSome s.stop (MayEnd (taken c.args.self.now.lanes.limits w c.args.text.now).world)) (sym c.halt.ensures) tt
+
+pub returns-in-Err-clause-takes : goal.returns-in-Err-clause-takes
+returns-in-Err-clause-takes g c = λ w h.
+    subst (λ (s : Scripting). IfSome s.stop (MayEnd (taken c.args.self.now.lanes.limits w c.args.text.now).world)) (sym c.halt-in-Err.ensures) tt

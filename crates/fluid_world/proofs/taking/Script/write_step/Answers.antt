@@ -3,6 +3,8 @@ use Rattle.std.proofs.lemmas.Result.{err_from_is_err_and}
 use Rattle.fluid_document.specs.Entries.{most}
 use Rattle.fluid_io.specs.declared.lines.TheConstants.{MOST_LINES}
 use Rattle.fluid_transcript.specs.Transcript.{at_line, done}
+use Rattle.fluid_desk.specs.declared.stop.Stop.TheVariants.{NoMemory}
+use Rattle.fluid_desk.proofs.Honest.{may_want}
 use Rattle.fluid_containers.specs.Stepping.{MayStand as MayShow}
 use Rattle.fluid_world.specs.Naming.{refusal_by}
 use Rattle.fluid_world.specs.Taking.{Scripting, IsWithin}
@@ -33,15 +35,20 @@ returns-in_err-lines-clause-writes g c = rw (← c.self.view_is) (λ w h.
 pub returns-in_err-lines-clause-runs : goal.returns-in_err-lines-clause-runs
 returns-in_err-lines-clause-runs g c = rw (← c.self.view_is) (λ first run.
     let e = err_from_is_err_and c.from_residual.result c.from_residual.ensures.1 in
-    rw (e.1, e.2) (c.in_err-lines.ensures.runs first run))
+    rw (e.1, e.2) (c.in_err-lines.ensures.runs first c.self.inside.lines run))
 
 pub returns-in_err-put-clause-runs : goal.returns-in_err-put-clause-runs
 returns-in_err-put-clause-runs g c = rw (← c.self.view_is) (λ first run.
     let e = err_from_is_err_and c.from_residual-in_err-put.result c.from_residual-in_err-put.ensures.1 in
-    rw (e.1, e.2) (ran_short first c.self.inside.objects c.take_step.new.objects c.take_step.new.lanes (c.in_ok-lines.ensures.runs first run)))
+    rw (e.1, e.2) (ran_short first (c.self.inside.lines + 1) c.self.inside.objects c.take_step.new.objects c.take_step.new.lanes (c.in_ok-lines.ensures.runs first c.self.inside.lines run)))
 
 pub returns-clause-runs : goal.returns-clause-runs
-returns-clause-runs g c = rw (← c.self.view_is) (λ first run. c.in_ok-lines.ensures.runs first run)
+returns-clause-runs g c = rw (← c.self.view_is) (λ first run. c.in_ok-lines.ensures.runs first c.self.inside.lines run)
 
 pub returns-clause-numbers : goal.returns-clause-numbers
 returns-clause-numbers g c = rw (← c.self.view_is) (λ n few. c.in_ok-lines.ensures.numbers n few)
+
+pub returns-in_err-put-clause-writes : goal.returns-in_err-put-clause-writes
+returns-in_err-put-clause-writes g c = rw (← c.self.view_is) (λ w h.
+    let e = err_from_is_err_and c.from_residual-in_err-put.result c.from_residual-in_err-put.ensures.1 in
+    rw (e.1, e.2) (may_want (done c.self.inside.lanes.limits (at_line w) c.args.step).world c.take_step.new.lanes NoMemory refl))
