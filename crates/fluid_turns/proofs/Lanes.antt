@@ -31,6 +31,7 @@ use Rattle.fluid_desk.proofs.Gates as gates
 use Rattle.fluid_desk.proofs.Steps.{worn_ends}
 use Rattle.fluid_desk.proofs.Desks.{acts}
 use Rattle.fluid_desk.proofs.Doing.{lane_of_desk}
+use Rattle.fluid_desk.proofs.Honest.{worn_same, may_lent}
 use Rattle.fluid_workload.specs.Working.{work, named, behind_entry}
 use Rattle.fluid_turns.specs.Entering.{IsSubmission, unentered_by, with_entry, HasEntered, EntersLane, EntersDesk}
 
@@ -87,7 +88,7 @@ module _ (limits : Limits) (old new : Standing) (d : Document) (raw : Raw) (of :
   unentered_does (lane.LogFailed note) gate = tt
   unentered_does (lane.DeltaFailed note) gate = tt
   unentered_does lane.NoMemory gate = tt
-  unentered_does lane.Worn gate = tt
+  unentered_does lane.Worn gate = worn_same limits old new d of (gates.worn_one {A = Verdict} old new (lane.Full old.limits.entries) IsOutside (is_full_for old raw).0 gate (λ is. cc) (λ may. may))
   unentered_does (lane.BadRecord place) gate = passed (lane.BadRecord place) (λ is. cc) (λ is. cc) gate (λ is. is)
   unentered_does (lane.BadCheckpoint number fault) gate = passed (lane.BadCheckpoint number fault) (λ is. cc) (λ is. cc) gate (λ is. is)
   unentered_does (lane.NoCheckpoint asked stored) gate = passed (lane.NoCheckpoint asked stored) (λ is. cc) (λ is. cc) gate (λ is. is)
@@ -148,7 +149,7 @@ module _ (limits : Limits) (w : World) (client : ℕ) (raw : Raw) where
   pub enters_desk : (o : Opened) (old new : Standing) (result : Result (Option Verdict) Stop) → limits ≡ o.limits → DeskStands o w → is_open w work ≡ true → get o.lanes work ≡ Some old
       → EntersLane limits (document w work) raw new result → EntersDesk limits w client raw (with_lane o work new) result
   enters_desk o old new (Ok said) limits_are desk opened there has = record { stands = desk_by o new said limits_are desk opened (ap is_some there) has; verdict_is = has.verdict_is }
-  enters_desk o old new (Err stop) limits_are desk opened there has = has
+  enters_desk o old new (Err stop) limits_are desk opened there has = may_lent w o work new stop has
 
 pub enters_named : (limits : Limits) (w : World) (client : ℕ) (raw : Raw) (o : Opened) (name : List ℕ) (old new : Standing) (result : Result (Option Verdict) Stop) → limits ≡ o.limits → DeskStands o w → is_open w work ≡ true → name ≡ work → get o.lanes name ≡ Some old
     → ((d : Document) → IsLaneOf o.limits old d → EntersLane o.limits d raw new result) → EntersDesk limits w client raw (with_lane o name new) result

@@ -15,7 +15,7 @@ use Rattle.fluid_voice.specs.Ends.{entry_end}
 use Rattle.fluid_transcript.specs.World.{World, Document, document, ledger_of}
 use Rattle.fluid_desk.specs.declared.stop.Stop.{Stop}
 use Rattle.fluid_desk.specs.Stands.{IsLaneOf, DeskStands}
-use Rattle.fluid_desk.specs.Stopping.{stop_of, IsHonest}
+use Rattle.fluid_desk.specs.Stopping.{stop_of, IsHonest, steps_on, MayStop}
 use Rattle.fluid_workload.specs.Working.{work, behind_entry}
 
 abbrev pub IsSubmission : Raw → Type 0
@@ -45,7 +45,7 @@ pub record HasEntered (limits : Limits) (d : Document) (raw : Raw) (new : Standi
 
 abbrev pub EntersLane : Limits → Document → Raw → Standing → Result (Option Verdict) Stop → Type 0
 EntersLane limits d raw new (Ok said) = HasEntered limits d raw new said
-EntersLane limits d raw new (Err stop) = IsHonest stop
+EntersLane limits d raw new (Err stop) = IsHonest (steps_on d new) stop
 
 -- on a desk: the entry of a client's connection
 pub record DeskEntered (limits : Limits) (w : World) (client : ℕ) (raw : Raw) (new : Opened) (said : Option Verdict) : Type 0 where
@@ -54,4 +54,4 @@ pub record DeskEntered (limits : Limits) (w : World) (client : ℕ) (raw : Raw) 
 
 abbrev pub EntersDesk : Limits → World → (client : ℕ) → Raw → Opened → Result (Option Verdict) Stop → Type 0
 EntersDesk limits w client raw new (Ok said) = DeskEntered limits w client raw new said
-EntersDesk limits w client raw new (Err stop) = IsHonest stop
+EntersDesk limits w client raw new (Err stop) = MayStop w new stop

@@ -1,5 +1,5 @@
 //! A submission on the lane of the document.
-ghost use Rattle.std.specs.Prelude.{◌≡◌, ℕ, true};
+ghost use Rattle.std.specs.Prelude.{◌≡◌, ◌+◌, ℕ, true};
 ghost use Rattle.fluid_types.specs.Fits.{Fits};
 ghost use Rattle.fluid_rules.specs.declared.limits.Limits.{Limits as ALimits};
 ghost use Rattle.fluid_transcript.specs.World.{World, Document, is_open};
@@ -28,7 +28,7 @@ where
     requires fits { Fits raw.now }
     requires kind { IsSubmission raw.now }
     ensures does { (w : World) (client : ℕ) → DeskStands lanes.old w → is_open w work ≡ true → document.now ≡ work → EntersDesk lanes.old.limits w client raw.now lanes.new result }
-    ensures runs { (first : ℕ) → HasRun first lanes.old → RunsOn first lanes.new result }
+    ensures runs { (first steps : ℕ) → HasRun first steps lanes.old → RunsOn first (steps + 1) lanes.new result }
     ensures limits { lanes.new.limits ≡ lanes.old.limits }
 {
     if !lanes.is_open(document) {

@@ -1,7 +1,7 @@
 use Rattle.std.proofs.Common.{refl, sym, subst, ◌∙◌}
 use Rattle.std.specs.Prelude.{◌≡◌, true}
 use Rattle.fluid_transcript.specs.World.{is_open}
-use Rattle.fluid_desk.proofs.Running.{lane_runs}
+use Rattle.fluid_desk.proofs.Running.{lane_runs, run_more}
 use Rattle.fluid_turns.proofs.Figured.{never_shut}
 use Rattle.fluid_turns.proofs.Lanes.{enters_named}
 use Rattle.fluid_turns.proofs.entering.enter.Goals as goal
@@ -16,5 +16,8 @@ returns-clause-does g c = λ w client desk opened at.
     (c.enter_lane.ensures.does c.args.lanes.now.limits)
 
 pub returns-clause-runs : goal.returns-clause-runs
-returns-clause-runs g c = λ first run.
-    lane_runs first c.args.lanes.now c.args.document.now c.lent.result.now c.enter_lane.new.lane c.enter_lane.result run c.lent.ensures.value c.lent.ensures.out c.enter_lane.ensures.runs
+returns-clause-runs g c = λ first steps run.
+    lane_runs first steps c.args.lanes.now c.args.document.now c.lent.result.now c.enter_lane.new.lane c.enter_lane.result run c.lent.ensures.value c.lent.ensures.out c.enter_lane.ensures.runs
+
+pub returns-then-not-is_open-clause-runs : goal.returns-then-not-is_open-clause-runs
+returns-then-not-is_open-clause-runs g c = λ first steps run. run_more first steps c.args.lanes.now run

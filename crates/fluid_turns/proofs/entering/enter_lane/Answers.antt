@@ -1,5 +1,6 @@
-use Rattle.std.proofs.Common.{sym, subst}
+use Rattle.std.proofs.Common.{sym, subst, arith}
 use Rattle.fluid_desk.specs.Stopping.{LaneEndsBy}
+use Rattle.fluid_desk.proofs.Few.{fault_aside}
 use Rattle.fluid_turns.specs.Entering.{EntersLane}
 use Rattle.fluid_turns.proofs.Lanes.{submission_kind, taken, unentered_does, unentered_runs}
 use Rattle.fluid_turns.proofs.entering.enter_lane.Goals as goal
@@ -20,5 +21,9 @@ returns-in-Err-clause-runs g c =
     let e = c.in-Err.ensures in
     record {
       later = e.goes.later;
+      sides = fault_aside _ _ c.in-Err.fault e.goes.sides;
       ends = subst (LaneEndsBy c.args.lane.now c.submit.new.self) (sym c.unentered.ensures) (unentered_runs c.args.lane.now c.submit.new.self c.args.raw.now c.in-Err.fault e.gate e.enters.cause);
     }
+
+pub returns-in-Ok-clause-runs : goal.returns-in-Ok-clause-runs
+returns-in-Ok-clause-runs g c = record { later = c.in-Ok.ensures.goes.later; sides = omega (arith, c.in-Ok.ensures.goes.sides); ends = tt }
