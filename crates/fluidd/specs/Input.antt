@@ -1,11 +1,12 @@
 -- Which line of an input is refused, and which raw entries the other lines spell.
-use Rattle.std.specs.Prelude.{ℕ, ◌==◌, List, length, Option, Some, None, Result, Ok, Err, if◌then◌else◌}
+use Rattle.std.specs.Prelude.{ℕ, ◌==◌, ◌&&◌, nat_le, List, length, Option, Some, None, Result, Ok, Err, if◌then◌else◌}
 use Rattle.std.specs.List.{filter_map}
 use Rattle.fluid_types.specs.Ledger.{Ledger}
 use Rattle.fluid_types.specs.declared.entries.Raw.{Raw}
 use Rattle.fluid_types.specs.declared.fault.CodecFault.{CodecFault}
 use Rattle.fluid_types.specs.Records.{raw_spelled}
-use Rattle.fluid_rules.specs.Counted.{is_full, has_too_many_clients}
+use Rattle.fluid_rules.specs.Rules.{joined, ledger}
+use Rattle.fluid_rules.specs.Counted.{is_counted, counted, is_new_client}
 use Rattle.fluid_rules.specs.declared.limits.Limits.{Limits}
 use Rattle.fluidd.specs.declared.refusal.Why.{Why}
 use Rattle.fluidd.specs.declared.refusal.Why.TheVariants.{Unreadable, DocumentFull, TooManyClients}
@@ -36,8 +37,8 @@ full = record { entries = 4194304; clients = 1024; checkpoints = 4096; bytes = 1
 -- this is a new one and as many as may be are joined
 unfoldable pub limit_refusal : Limits → Ledger → Raw → Option Why
 limit_refusal limits l raw =
-    if is_full limits.entries l raw then Some DocumentFull
-    else (if has_too_many_clients limits.clients l raw then Some TooManyClients else None)
+    if is_counted raw && nat_le limits.entries (counted l) then Some DocumentFull
+    else (if is_new_client l raw && nat_le limits.clients (length (joined l)) then Some TooManyClients else None)
 
 -- ---- which line is refused
 
