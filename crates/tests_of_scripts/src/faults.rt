@@ -3,7 +3,7 @@ ghost use Rattle.fluid_log.specs.Places.{shelves_seen};
 ghost use Rattle.fluid_log.specs.Shelving.{AreWhole};
 
 use crate::runs::{has_written, name_of, numbers, shelves_of, told_end};
-use crate::scripts::{THREE_CHECKPOINTS, THREE_CHECKPOINTS_SAY};
+use crate::scripts::{RESTARTS, RESTARTS_SAY, THREE_CHECKPOINTS};
 use fluid_io::{MemorySink, MemorySource};
 use fluid_log::{Keeper, MemoryKeeper, MemoryShelves};
 use fluid_rules::Limits;
@@ -32,13 +32,18 @@ const BEHIND: &[(usize, usize)] = &[
     (9, 2),
     (9, 2),
     (10, 3),
+    (10, 3),
+    (10, 3),
+    (10, 3),
+    (10, 3),
+    (10, 3),
 ];
 
 // So many lines were written, and they are the first of those that are written without a fault.
 fn lines_written(rt: &impl Abort, sink: &MemorySink) -> usize {
     let written = sink.written();
     assert!(rt;
-        THREE_CHECKPOINTS_SAY.as_bytes().starts_with(written),
+        RESTARTS_SAY.as_bytes().starts_with(written),
         "another output"
     );
     let mut lines = 0_usize;
@@ -128,7 +133,7 @@ fn fails(
     store: &[u64],
     wanted: &str,
 ) -> bool {
-    let input = Vec::from_slice(alloc, THREE_CHECKPOINTS.as_bytes()).expect(rt, "memory");
+    let input = Vec::from_slice(alloc, RESTARTS.as_bytes()).expect(rt, "memory");
     let mut source = MemorySource::new(input, Vec::new(alloc));
     let mut sink = MemorySink::new(alloc, Vec::new(alloc));
     let (end, shelves, objects) = script_within(
@@ -145,7 +150,7 @@ fn fails(
     let whole = told == "done";
     assert!(rt; whole || told == wanted, "{told}, wanted {wanted}");
     let lines = lines_written(rt, &sink);
-    assert!(rt; !whole || lines == 17, "{lines} lines");
+    assert!(rt; !whole || lines == 22, "{lines} lines");
     if whole {
         // The call that fails may be the next one.
         drop(shelves);
@@ -266,7 +271,7 @@ fn each_fails(rt: &impl Abort, alloc: Global, adds: bool) {
         }
         failed = failed.saturating_add(1);
     }
-    assert!(rt; 20 <= failed && failed < 999, "{failed} calls failed");
+    assert!(rt; 40 <= failed && failed < 999, "{failed} calls failed");
 }
 
 #[test]

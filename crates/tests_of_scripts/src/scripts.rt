@@ -86,7 +86,7 @@ checkpoint d
 load r d latest
 "#;
 
-pub const THREE_CHECKPOINTS_SAY: &str = r#"d checkpoint 0 at 0
+const THREE_CHECKPOINTS_SAY: &str = r#"d checkpoint 0 at 0
 p loaded d at 1
 p edited
 q loaded d at 3
@@ -106,7 +106,7 @@ r loaded d at 10
 "#;
 
 // The same, and then the document begins again from each of them, and from one that there isn't.
-const RESTARTS: &str = r#"checkpoint d
+pub const RESTARTS: &str = r#"checkpoint d
 load p d none
 edit p {"type":"attach","address":"m","kind":"map"}
 load q d none
@@ -130,7 +130,7 @@ restart d 3
 count d
 "#;
 
-const RESTARTS_SAY: &str = r#"d checkpoint 0 at 0
+pub const RESTARTS_SAY: &str = r#"d checkpoint 0 at 0
 p loaded d at 1
 p edited
 q loaded d at 3
