@@ -20,6 +20,7 @@ let edits = CHANNELS.map((body) => ({ body, id: null })); // what didn't come ba
 const held = new Map();                              // messages that came ahead of their turn
 
 const say = (...event) => { if (socket.readyState === 1) socket.send(JSON.stringify(event)); };
+const end = () => { id = null; socket.close(); }; // what waits goes under the next id
 
 function submit(type, contents) {
   say("submitOp", id, [{ clientSequenceNumber: ++last, contents, referenceSequenceNumber: number, type }]);
@@ -42,7 +43,7 @@ function take(message) {
   if (type !== "leave") return;
   const left = JSON.parse(data); // what didn't come before its line's leave never comes, and has to be sent again
   for (const edit of edits) if (edit.id === left) edit.id = null;
-  if (id === left) socket.close();
+  if (id === left) end();
 }
 
 function hear([event, ...rest]) {
@@ -55,7 +56,7 @@ function hear([event, ...rest]) {
     isOther = event === "deltas" && rest[0] === number && !isDeepStrictEqual(messages[0], newest);
   } else { // an error or a nack: the line is of no more use
     console.log("--", JSON.stringify(rest));
-    return socket.close();
+    return end();
   }
   if (isOther) {
     console.log("-- another order stands here: the service began anew, and so do I");
