@@ -1,4 +1,6 @@
 //! What a run is given.
+ghost use Rattle.std.specs.Prelude.{◌≡◌};
+ghost use Rattle.std.specs.FinMap.{empty};
 ghost use Rattle.fluid_log.specs.Memory.{memory_seen};
 ghost use Rattle.fluid_log.specs.Places.{shelves_seen};
 ghost use Rattle.fluid_serve.specs.Desks.{AreReady};
@@ -19,7 +21,9 @@ pub struct Desk<B, O, C> {
 impl<C> Desk<MemoryShelves, MemoryObjects, C> {
     /// A desk in memory, on which nothing is kept yet. Takes no memory.
     pub fn in_memory(alloc: Global, clock: C) -> Desk<MemoryShelves, MemoryObjects, C>
-        ensures { AreReady memory_seen (shelves_seen result.shelves) }
+        ensures ready { AreReady memory_seen (shelves_seen result.shelves) }
+        ensures shelves { result.shelves.places ≡ empty }
+        ensures objects { result.objects.held ≡ empty }
     {
         let shelves = MemoryShelves::new(alloc, Vec::new(alloc));
         new_shelves_are_kept(&shelves);

@@ -4,3 +4,7 @@ mod Statuses
 mod Shown
 mod Served
 mod Scripted
+mod Nothing
+mod Few
+mod Short
+mod Unworn

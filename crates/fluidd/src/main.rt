@@ -21,7 +21,8 @@ use fluid_io::{StdClock, StdSink, StdSource};
 use fluid_json::Text;
 use fluid_serve::Desk;
 use fluid_socket::TcpFront;
-use run::run_untold;
+use laws::new_desks_tell;
+use run::run_first;
 use status::Status;
 use std::process::ExitCode;
 use std::{env, io};
@@ -41,13 +42,15 @@ fn main(rt: HostRuntime) -> ExitCode {
     let Ok(front) = TcpFront::new(alloc, rt, StdSink::new(rt.stderr())) else {
         return ExitCode::from(Status::NoMemory.code());
     };
-    let (status, _desk, _front, _spawner) = run_untold(
+    let desk = Desk::in_memory(alloc, StdClock::new(rt));
+    new_desks_tell(&desk.shelves, &desk.objects);
+    let (status, _desk, _front, _spawner) = run_first(
         &rt,
         alloc,
         &words,
         &mut input,
         &mut output,
-        Desk::in_memory(alloc, StdClock::new(rt)),
+        desk,
         front,
         ThreadSpawner::new(),
     );

@@ -1,7 +1,8 @@
 //! The top call of the program.
-ghost use Rattle.std.specs.Prelude.{◌≡◌, ℕ, List, Bool, Option, IfSome, option_map};
+ghost use Rattle.std.specs.Prelude.{◌≡◌, ℕ, List, Bool, Option, Some, IfSome, option_map};
+ghost use Rattle.std.specs.FinMap.{empty};
 ghost use Rattle.fluid_log.specs.Shelving.{AreWhole};
-ghost use Rattle.fluid_transcript.specs.World.{World};
+ghost use Rattle.fluid_transcript.specs.World.{World, first_world};
 ghost use Rattle.fluid_world.specs.Ending.{IsDeskOf};
 ghost use Rattle.fluid_serve.specs.Desks.{AreReady, ShelvesComeBack};
 ghost use Rattle.fluidd.specs.Input.{full};
@@ -115,8 +116,9 @@ where
     }
 }
 
-/// The same over a desk of which no world is told.
-pub(crate) fn run_untold<R, S, K, B, O, C, F, P>(
+/// The same over a desk on which nothing is kept yet, which tells the first world: what `main` calls. Nothing that is stored is
+/// refused then, and no document comes to the end of its numbers: `script` and `load` never end with 11.
+pub fn run_first<R, S, K, B, O, C, F, P>(
     rt: &R,
     alloc: Global,
     words: &[Text],
@@ -138,6 +140,22 @@ where
     F::W: Send + Drop,
     P: Spawner + Send + Drop,
     requires ready { AreReady B.K.seen (B.seen desk.shelves) }
+    requires first { IsDeskOf (B.seen desk.shelves) (O.seen desk.objects) (first_world empty empty) }
+    ensures sequence { task_of words.now ≡ Doing Sequence →
+        Sequences full (S.seen input.old) (K.seen output.old) (S.seen input.new) (K.seen output.new) result.0 }
+    ensures script { (load : Option (List ℕ)) → task_of words.now ≡ Doing (scripting load) →
+        Scripts (Some (first_world empty empty)) load (record { source = S.seen input.old; sink = K.seen output.old; shelves = B.seen desk.shelves; store = O.seen desk.objects })
+        (record { source = S.seen input.new; sink = K.seen output.new; shelves = B.seen result.1.shelves; store = O.seen result.1.objects }) result.0 }
+    ensures stored { IsScripting (task_of words.now) → result.0 ≡ 11 → ⊥ }
+    ensures serve { (port connections : ℕ) (lines : Bool) → task_of words.now ≡ Doing (Serve port connections lines) →
+        ServesConnections connections (F.seen front) (P.refusals spawner) (F.seen result.2) (P.refusals result.3) result.0 ×
+        (ShelvesComeBack (B.seen desk.shelves) (B.seen result.1.shelves) × (K.seen output.new ≡ K.seen output.old)) }
+    ensures page { (text : List ℕ) → task_of words.now ≡ Showing text →
+        Shows 0 text (K.seen output.old) (K.seen output.new) result.0 }
+    ensures usage { task_of words.now ≡ Usage → Shows 2 usage_line (K.seen output.old) (K.seen output.new) result.0 }
+    ensures untouched { (IsReading (task_of words.now) → ⊥) → S.seen input.new ≡ S.seen input.old }
+    ensures desk { (UsesDesk (task_of words.now) → ⊥) → (B.seen result.1.shelves ≡ B.seen desk.shelves) × (O.seen result.1.objects ≡ O.seen desk.objects) }
+    ensures kept { (IsServing (task_of words.now) → ⊥) → (F.seen result.2 ≡ F.seen front) × (P.refusals result.3 ≡ P.refusals spawner) }
 {
     run(rt, alloc, words, input, output, desk, front, spawner)
 }

@@ -1,11 +1,15 @@
 //! `serve` through the top call: its statuses, each for its cause, and two connections beside one another.
 
-use crate::run::run_untold;
+use crate::laws::new_desks_tell;
+use crate::run::run_first;
 use fluid_front::{Front, FrontFault, MemoryFront, ThreadSpawner};
 use fluid_io::{Failed, FixedClock, MemorySink, MemorySource, Sink, Source};
 use fluid_json::Text;
 use fluid_lines::{MemoryWire, Recv, Wire, WireFault, WireScript};
+use fluid_log::MemoryShelves;
 use fluid_serve::Desk;
+use fluid_service::new_shelves_are_kept;
+use fluid_store::MemoryObjects;
 use std::alloc::Global;
 use std::collections::VecDeque;
 use std::marker::Model;
@@ -18,30 +22,43 @@ use std::thread::Threads;
 
 // ---- one run
 
-/// Runs words over a new desk, this front and at most so many threads, and gives the status.
+/// Runs words over a new desk whose shelves and whose store fail at these calls, this front and at most so many threads, and
+/// gives the status.
 pub(crate) fn run_on<R, S, K, F>(
     rt: &R,
     alloc: Global,
     words: &[Text],
     input: &mut S,
     output: &mut K,
+    failing: (&[u64], &[u64]),
     front: F,
     threads: u32,
 ) -> u8
 where
-    R: Threads + Wait + Net + Sync,
+    R: Threads + Wait + Net + Sync + Abort,
     S: Source,
     K: Sink,
     F: Front + Send + Drop,
     F::W: Send + Drop,
 {
-    let (status, desk, front, spawner) = run_untold(
+    let (of_shelves, of_store) = failing;
+    let failing = Vec::from_slice(alloc, of_shelves).expect(rt, "memory");
+    let shelves = MemoryShelves::new(alloc, failing);
+    let failing = Vec::from_slice(alloc, of_store).expect(rt, "memory");
+    let objects = MemoryObjects::new(alloc, failing);
+    new_shelves_are_kept(&shelves);
+    new_desks_tell(&shelves, &objects);
+    let (status, desk, front, spawner) = run_first(
         rt,
         alloc,
         words,
         input,
         output,
-        Desk::in_memory(alloc, FixedClock::new(7)),
+        Desk {
+            shelves,
+            objects,
+            clock: FixedClock::new(7),
+        },
         front,
         ThreadSpawner::at_most(threads),
     );
@@ -65,7 +82,16 @@ where
     }
     let mut input = MemorySource::in_pieces(Vec::new(alloc), 1, Vec::new(alloc));
     let mut output = MemorySink::in_pieces(alloc, 1, Vec::new(alloc));
-    let status = run_on(rt, alloc, &all, &mut input, &mut output, front, threads);
+    let status = run_on(
+        rt,
+        alloc,
+        &all,
+        &mut input,
+        &mut output,
+        (&[], &[]),
+        front,
+        threads,
+    );
     assert!(rt; output.written().is_empty());
     drop(output);
     drop(input);

@@ -291,6 +291,44 @@ bad line 3: document is full
     ),
 ];
 
+// Words, steps, which calls of the shelves and which of the store fail, the status, and what is written.
+const DESKS: &[(&[&str], &str, &[u64], &[u64], u8, &str)] = &[
+    (
+        &["script"],
+        "count d\ncount e\n",
+        &[3],
+        &[1],
+        0,
+        "d 0 entries, number 0, minimum 0\ne 0 entries, number 0, minimum 0\n",
+    ),
+    (
+        &["script"],
+        "count d\ncount e\n",
+        &[2],
+        &[],
+        7,
+        "d 0 entries, number 0, minimum 0\n",
+    ),
+    (
+        &["script"],
+        "load p d none\nsummarize p\n",
+        &[],
+        &[1],
+        8,
+        "p loaded d at 1\n",
+    ),
+    (
+        &["script"],
+        "count d\ncount\n",
+        &[],
+        &[],
+        3,
+        "d 0 entries, number 0, minimum 0\nbad line 2: bad step\n",
+    ),
+    (&["load", "d"], "count d\n", &[], &[1], 0, "d at 1: {}\n"),
+    (&["load", "d"], "count e\n", &[2], &[], 7, ""),
+];
+
 fn texts(rt: &impl Abort, alloc: Global, words: &[&str]) -> Vec<Text> {
     let mut texts = Vec::new(alloc);
     for word in words {
@@ -325,7 +363,16 @@ fn ends<R: Threads + Wait + Net + Sync + Abort>(rt: &R, alloc: Global, row: &Run
     let mut source = source(rt, alloc, row.input, row.most, row.reads);
     let mut sink = sink(rt, alloc, row.most, row.writes);
     let front = front_of(rt, alloc, 0, &[]);
-    let status = run_on(rt, alloc, &words, &mut source, &mut sink, front, 0);
+    let status = run_on(
+        rt,
+        alloc,
+        &words,
+        &mut source,
+        &mut sink,
+        (&[], &[]),
+        front,
+        0,
+    );
     assert!(rt; status == row.status, "{status}");
     has_written(rt, &sink, row.length, row.output);
     drop(sink);
@@ -346,6 +393,34 @@ fn sequenced(
     assert!(rt; status == *wanted, "{status}");
     has_written(rt, &sink, output.len(), output);
     drop(sink);
+}
+
+// Runs the steps of a row over a desk that fails as it says.
+fn does_steps<R: Threads + Wait + Net + Sync + Abort>(
+    rt: &R,
+    alloc: Global,
+    row: &(&[&str], &str, &[u64], &[u64], u8, &str),
+) {
+    let (words, steps, shelves, store, wanted, output) = row;
+    let words = texts(rt, alloc, words);
+    let mut source = source(rt, alloc, steps, usize::MAX, &[]);
+    let mut sink = sink(rt, alloc, usize::MAX, &[]);
+    let front = front_of(rt, alloc, 0, &[]);
+    let status = run_on(
+        rt,
+        alloc,
+        &words,
+        &mut source,
+        &mut sink,
+        (shelves, store),
+        front,
+        0,
+    );
+    assert!(rt; status == *wanted, "{status}");
+    has_written(rt, &sink, output.len(), output);
+    drop(sink);
+    drop(source);
+    drop(words);
 }
 
 // How many bytes are left in a source, which are fewer than 100.
@@ -390,6 +465,13 @@ fn a_long_input_is_answered_as_far_as_it_was_read_and_written(rt: HostRuntime) {
     }
     drop(output);
     drop(input);
+}
+
+#[test]
+fn steps_are_done_as_far_as_the_desk_goes(rt: HostRuntime) {
+    for row in DESKS {
+        does_steps(&rt, rt.alloc(), row);
+    }
 }
 
 #[test]
