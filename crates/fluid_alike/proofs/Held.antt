@@ -1,0 +1,258 @@
+-- A tree stands where its objects are held, under the id of its own object.
+use Rattle.std.proofs.Common.{◌≡◌, ◌≢◌, ℕ, zero, suc, ◌==◌, ◌||◌, List, [], ◌∷◌, ◌++◌, fold, Bool, true, false, cond, Option, Some, None, Result, Ok, Err, codes, refl, sym, ap, subst, ◌∙◌}
+use Rattle.std.specs.List.{list_any}
+use Rattle.std.specs.Ordering.{eq_by_cmp}
+use Rattle.std.specs.Str.{bytes_eq}
+use Rattle.std.specs.FinMap.{get}
+use Rattle.std.specs.FinMap.Entries.{put, find, find-put}
+use Rattle.std.proofs.lemmas.Bool.{or_parts}
+use Rattle.std.proofs.lemmas.List.{append_cancel_right}
+use Rattle.std.proofs.lemmas.List.Folds.{list_any-append}
+use Rattle.std.proofs.lemmas.Slice.Eq.{bytes_eq-Decides}
+use Rattle.sha1.specs.Sha1.{sha1}
+use Rattle.fluid_table.proofs.Places.{byte_order_total}
+use Rattle.fluid_tree.specs.Identity.{id_within, entries_within, unrefused as unrefused_or, ◌>>=◌}
+use Rattle.fluid_tree.specs.Names.{is_bad, is_refused, first_refused}
+use Rattle.fluid_tree.specs.Object.{object_bytes, tree_bytes, sort_key}
+use Rattle.fluid_tree.specs.Summary.{Summary, blob, tree, handle, Children, no_children, child, names, is_tree}
+use Rattle.fluid_tree.specs.declared.fault.TreeFault.{TreeFault}
+use Rattle.fluid_tree.specs.declared.object.Object.TheVariants.{Blob}
+use Rattle.fluid_tree.specs.declared.object.ObjectEntry.{ObjectEntry}
+use Rattle.fluid_store.specs.Held.{byte_order, Held}
+use Rattle.fluid_store.specs.Keeping.{Holds}
+use Rattle.fluid_store.specs.Listed.{Keyed, own_bytes, own_entries, object_of, in_key_order, joined, objects, keyed}
+use Rattle.fluid_store.specs.Standing.{Stands, AllStand}
+use Rattle.fluid_store.specs.declared.listing.StoredObject.{StoredObject}
+use Rattle.fluid_store.proofs.Added.{same_key, itself}
+use Rattle.fluid_store.proofs.Sized.{id_size}
+
+-- ---- keys
+
+abbrev NotIn : List ℕ → Keyed → Type 0
+NotIn k [] = Unit {0}
+NotIn k (p ∷ ps) = (k ≢ p.0) × NotIn k ps
+
+abbrev AreDistinct : Keyed → Type 0
+AreDistinct [] = Unit {0}
+AreDistinct (p ∷ ps) = NotIn p.0 ps × AreDistinct ps
+
+abbrev step : Keyed → List ℕ × List StoredObject → Keyed
+step sorted one = put byte_order one.0 one.1 sorted
+
+apart : (b : Bool) (q k : List ℕ) → q ≢ k → eq_by_cmp byte_order q k ≡ b → b ≡ false
+apart true q k differ is = absurd (differ (same_key q k is))
+apart false q k differ is = refl
+
+found_still : (ps acc : Keyed) (k : List ℕ) → NotIn k ps → find byte_order k (fold step acc ps) ≡ find byte_order k acc
+found_still [] acc k out = refl
+found_still (p ∷ ps) acc k out =
+    found_still ps (step acc p) k out.1 ∙ find-put byte_order byte_order_total k p.0 p.1 acc ∙ ap (λ b. cond b (Some p.1) (find byte_order k acc)) (apart _ k p.0 out.0 refl)
+
+found_here : (ps acc : Keyed) (p : List ℕ × List StoredObject) → NotIn p.0 ps → find byte_order p.0 (fold step (step acc p) ps) ≡ Some p.1
+found_here ps acc p out = found_still ps (step acc p) p.0 out ∙ find-put byte_order byte_order_total p.0 p.0 p.1 acc ∙ ap (λ b. cond b (Some p.1) (find byte_order p.0 acc)) (itself p.0)
+
+-- ---- what is held of all is held of each
+
+front_holds : (held : Held) (a b : List StoredObject) → Holds held (a ++ b) → Holds held a
+front_holds held [] b h = tt
+front_holds held (o ∷ os) b h = (h.0, front_holds held os b h.1)
+
+back_holds : (held : Held) (a b : List StoredObject) → Holds held (a ++ b) → Holds held b
+back_holds held [] b h = h
+back_holds held (o ∷ os) b h = back_holds held os b h.1
+
+pub both_hold : (held : Held) (a b : List StoredObject) → Holds held (a ++ b) → Holds held a × Holds held b
+both_hold held a b h = (front_holds held a b h, back_holds held a b h)
+
+found_holds : (held : Held) (ms : Keyed) (k : List ℕ) (os : List StoredObject) → Holds held (joined ms) → find byte_order k ms ≡ Some os → Holds held os
+found_holds held [] k os h is = cc
+found_holds held (m ∷ ms) k os h is = by_first (eq_by_cmp byte_order k m.0) (found_holds held ms k os (back_holds held m.1 (joined ms) h)) is
+  where
+    by_first : (b : Bool) → (find byte_order k ms ≡ Some os → Holds held os) → cond b (Some m.1) (find byte_order k ms) ≡ Some os → Holds held os
+    by_first true rest e = let same : m.1 ≡ os = cc in subst (Holds held) same (front_holds held m.1 (joined ms) h)
+    by_first false rest e = rest e
+
+abbrev EachHolds : Held → Keyed → Type 0
+EachHolds held [] = Unit {0}
+EachHolds held (p ∷ ps) = Holds held p.1 × EachHolds held ps
+
+each_holds : (held : Held) (ps acc : Keyed) → AreDistinct ps → Holds held (joined (fold step acc ps)) → EachHolds held ps
+each_holds held [] acc distinct h = tt
+each_holds held (p ∷ ps) acc distinct h = (found_holds held (fold step (step acc p) ps) p.0 p.1 h (found_here ps acc p distinct.0), each_holds held ps (step acc p) distinct.1 h)
+
+-- ---- names that aren't refused
+
+has_slash : List ℕ → Bool
+has_slash = list_any (λ x. x == 47 || x == 0)
+
+plain_name : (n : List ℕ) → is_bad n ≡ false → has_slash n ≡ false
+unfolding has_slash
+plain_name n good = (or_parts (bytes_eq n [] || bytes_eq n (codes ".") || bytes_eq n (codes "..")) (has_slash n) good).1
+
+or-true : (b : Bool) → (b || true) ≡ true
+or-true true = refl
+or-true false = refl
+
+slashed : (n : List ℕ) → has_slash (n ++ 47 ∷ []) ≡ true
+unfolding has_slash
+slashed n = list_any-append _ n (47 ∷ []) ∙ or-true _
+
+keys_apart : (b c : Bool) (n m : List ℕ) → has_slash n ≡ false → has_slash m ≡ false → n ≢ m → sort_key b n ≢ sort_key c m
+keys_apart false false n m p q differ e = differ e
+keys_apart true true n m p q differ e = differ (append_cancel_right n m (47 ∷ []) e)
+keys_apart false true n m p q differ e = let clash : false ≡ true = sym p ∙ ap has_slash e ∙ slashed m in cc
+keys_apart true false n m p q differ e = let clash : false ≡ true = sym q ∙ ap has_slash (sym e) ∙ slashed n in cc
+
+names_apart : (n m : List ℕ) → bytes_eq n m ≡ false → n ≢ m
+names_apart n m differ e = let same = (bytes_eq-Decides n m).1 e in let clash : false ≡ true = sym differ ∙ same in cc
+
+-- the first name isn't refused, nor are those behind it
+unrefused : (before : List (List ℕ)) (n : List ℕ) (ns : List (List ℕ)) → first_refused before (n ∷ ns) ≡ None → (is_refused before n ≡ false) × (first_refused (n ∷ before) ns ≡ None)
+unfolding first_refused
+unrefused before n ns h = by_name (is_refused before n) h
+  where
+    by_name : (b : Bool) → cond b (Some n) (first_refused (n ∷ before) ns) ≡ None → (b ≡ false) × (first_refused (n ∷ before) ns ≡ None)
+    by_name true e = cc
+    by_name false e = (refl, e)
+
+first_key : (m : List ℕ) (s : Summary) (cs : Children) → keyed (child m s cs) ≡ (sort_key (is_tree s) m, objects s) ∷ keyed cs
+unfolding keyed
+first_key m s cs = refl
+
+no_key : keyed no_children ≡ []
+unfolding keyed
+no_key = refl
+
+-- a name that was looked at stands at no key behind it
+not_in : (n : List ℕ) (b : Bool) (before : List (List ℕ)) (cs : Children) → has_slash n ≡ false → ((m : List ℕ) → list_any (λ one. bytes_eq one m) before ≡ false → bytes_eq n m ≡ false)
+    → first_refused before (names cs) ≡ None → NotIn (sort_key b n) (keyed cs)
+not_in n b before no_children plain known h = subst (NotIn (sort_key b n)) (sym no_key) tt
+not_in n b before (child m s cs) plain known h =
+    let here = unrefused before m (names cs) h in
+    let parts = or_parts (is_bad m) _ here.0 in
+    subst (NotIn (sort_key b n)) (sym (first_key m s cs)) (
+      keys_apart b (is_tree s) n m plain (plain_name m parts.0) (names_apart n m (known m parts.1)),
+      not_in n b (m ∷ before) cs plain (λ k none. known k (or_parts (bytes_eq m k) _ none).1) here.1,
+    )
+
+keys_distinct : (before : List (List ℕ)) (cs : Children) → first_refused before (names cs) ≡ None → AreDistinct (keyed cs)
+keys_distinct before no_children h = subst AreDistinct (sym no_key) tt
+keys_distinct before (child m s cs) h =
+    let here = unrefused before m (names cs) h in
+    let parts = or_parts (is_bad m) _ here.0 in
+    subst AreDistinct (sym (first_key m s cs))
+    (not_in m (is_tree s) (m ∷ before) cs (plain_name m parts.0) (λ k none. (or_parts (bytes_eq m k) _ none).0) here.1, keys_distinct (m ∷ before) cs here.1)
+
+-- the objects of each node are held where those of all are
+all_below : (held : Held) (cs : Children) → first_refused [] (names cs) ≡ None → Holds held (joined (in_key_order (keyed cs))) → EachHolds held (keyed cs)
+all_below held cs h holds = each_holds held (keyed cs) [] (keys_distinct [] cs h) holds
+
+-- ---- the id of a tree
+
+goes : {A B : Type 0} (r : Result A TreeFault) (f : A → Result B TreeFault) (b : B) → (r >>= f) ≡ Ok b → (a : A) × ((r ≡ Ok a) × (f a ≡ Ok b))
+goes (Ok a) f b h = (a, (refl, h))
+goes (Err e) f b h = cc
+
+none_refused : (o : Option (List ℕ)) (u : Unit {0}) → unrefused_or o ≡ Ok u → o ≡ None
+none_refused None u h = refl
+none_refused (Some name) u h = cc
+
+-- what a tree's id tells of its nodes
+tree_within : (n : ℕ) (cs : Children) (i : List ℕ) → id_within (suc n) (tree cs) ≡ Ok i
+    → (first_refused [] (names cs) ≡ None) × ((es : List ObjectEntry) × ((entries_within n cs ≡ Ok es) × (sha1 (tree_bytes es) ≡ i)))
+unfolding id_within
+tree_within n cs i h =
+    let a = goes (unrefused_or (first_refused [] (names cs))) _ i h in
+    let b = goes (entries_within n cs) _ i a.1.1 in
+    (none_refused (first_refused [] (names cs)) a.0 a.1.0, (b.0, (b.1.0, let e : sha1 (tree_bytes b.0) ≡ i = cc in e)))
+
+no_tree : (cs : Children) (i : List ℕ) → id_within zero (tree cs) ≡ Ok i → ⊥
+unfolding id_within
+no_tree cs i h = cc
+
+no_handle : (n : ℕ) (path : List (List ℕ)) (i : List ℕ) → id_within n (handle path) ≡ Ok i → ⊥
+unfolding id_within
+no_handle zero path i h = cc
+no_handle (suc n) path i h = cc
+
+blob_within : (n : ℕ) (content i : List ℕ) → id_within n (blob content) ≡ Ok i → i ≡ sha1 (own_bytes (blob content))
+unfolding id_within own_bytes
+blob_within zero content i h = let e : sha1 (object_bytes (Blob content)) ≡ i = cc in sym e
+blob_within (suc n) content i h = let e : sha1 (object_bytes (Blob content)) ≡ i = cc in sym e
+
+entry_within : (n : ℕ) (m : List ℕ) (s : Summary) (cs : Children) (es : List ObjectEntry) → entries_within n (child m s cs) ≡ Ok es
+    → (i : List ℕ) × ((id_within n s ≡ Ok i) × ((more : List ObjectEntry) × ((entries_within n cs ≡ Ok more) × (es ≡ record { name = m; tree = is_tree s; id = i } ∷ more))))
+unfolding entries_within
+entry_within n m s cs es h =
+    let a = goes (id_within n s) _ es h in
+    let b = goes (entries_within n cs) _ es a.1.1 in
+    (a.0, (a.1.0, (b.0, (b.1.0, let e : record { name = m; tree = is_tree s; id = a.0 } ∷ b.0 ≡ es = cc in sym e))))
+
+no_entries_within : (n : ℕ) (es : List ObjectEntry) → entries_within n no_children ≡ Ok es → es ≡ own_entries no_children
+unfolding entries_within own_entries
+no_entries_within n es h = cc
+
+own_of_tree : (cs : Children) → own_bytes (tree cs) ≡ tree_bytes (own_entries cs)
+unfolding own_bytes
+own_of_tree cs = refl
+
+own_of_child : (m : List ℕ) (s : Summary) (cs : Children) → own_entries (child m s cs) ≡ record { name = m; tree = is_tree s; id = sha1 (own_bytes s) } ∷ own_entries cs
+unfolding own_entries
+own_of_child m s cs = refl
+
+-- the id of a tree is that of its own bytes
+mutual
+  pub id_is : (n : ℕ) (s : Summary) (i : List ℕ) → id_within n s ≡ Ok i → i ≡ sha1 (own_bytes s)
+  id_is n (blob content) i h = blob_within n content i h
+  id_is n (handle path) i h = absurd (no_handle n path i h)
+  id_is zero (tree cs) i h = absurd (no_tree cs i h)
+  id_is (suc n) (tree cs) i h =
+      let w = tree_within n cs i h in
+      sym w.1.1.1 ∙ ap (λ es. sha1 (tree_bytes es)) (entries_are n cs w.1.0 w.1.1.0) ∙ ap sha1 (sym (own_of_tree cs))
+
+  entries_are : (n : ℕ) (cs : Children) (es : List ObjectEntry) → entries_within n cs ≡ Ok es → es ≡ own_entries cs
+  entries_are n no_children es h = no_entries_within n es h
+  entries_are n (child m s cs) es h =
+      let w = entry_within n m s cs es h in
+      let id = id_is n s w.0 w.1.0 in
+      let more = entries_are n cs w.1.1.0 w.1.1.1.0 in
+      w.1.1.1.1 ∙ (λ k. record { name = m; tree = is_tree s; id = id k } ∷ more k) ∙ sym (own_of_child m s cs)
+
+objects_of_blob : (content : List ℕ) → objects (blob content) ≡ object_of (object_bytes (Blob content)) ∷ []
+unfolding objects own_bytes
+objects_of_blob content = refl
+
+own_of_blob : (content : List ℕ) → own_bytes (blob content) ≡ object_bytes (Blob content)
+unfolding own_bytes
+own_of_blob content = refl
+
+objects_of_tree : (cs : Children) → objects (tree cs) ≡ joined (in_key_order (keyed cs)) ++ object_of (own_bytes (tree cs)) ∷ []
+unfolding objects
+objects_of_tree cs = refl
+
+keyed_child : (m : List ℕ) (s : Summary) (cs : Children) → keyed (child m s cs) ≡ (sort_key (is_tree s) m, objects s) ∷ keyed cs
+unfolding keyed
+keyed_child m s cs = refl
+
+none_own : own_entries no_children ≡ []
+unfolding own_entries
+none_own = refl
+
+mutual
+  pub stands : (held : Held) (n : ℕ) (s : Summary) (i : List ℕ) → id_within n s ≡ Ok i → Holds held (objects s) → Stands held (sha1 (own_bytes s)) s
+  stands held n (blob content) i h holds =
+      let own = subst (Holds held) (objects_of_blob content) holds in
+      subst (λ b. get held (sha1 b) ≡ Some (object_bytes (Blob content))) (sym (own_of_blob content)) own.0
+  stands held n (handle path) i h holds = absurd (no_handle n path i h)
+  stands held zero (tree cs) i h holds = absurd (no_tree cs i h)
+  stands held (suc n) (tree cs) i h holds =
+      let w = tree_within n cs i h in
+      let parts = both_hold held (joined (in_key_order (keyed cs))) _ (subst (Holds held) (objects_of_tree cs) holds) in
+      (w.0, (own_entries cs, (parts.1.0 ∙ ap Some (own_of_tree cs), all_stand held n cs w.1.0 w.1.1.0 (all_below held cs w.0 parts.0))))
+
+  all_stand : (held : Held) (n : ℕ) (cs : Children) (es : List ObjectEntry) → entries_within n cs ≡ Ok es → EachHolds held (keyed cs) → AllStand held (own_entries cs) cs
+  all_stand held n no_children es h each = subst (λ l. AllStand held l no_children) (sym none_own) tt
+  all_stand held n (child m s cs) es h each =
+      let w = entry_within n m s cs es h in
+      let parts = subst (EachHolds held) (keyed_child m s cs) each in
+      subst (λ l. AllStand held l (child m s cs)) (sym (own_of_child m s cs)) (refl, (refl, (id_size (own_bytes s), (stands held n s w.0 w.1.0 parts.0, all_stand held n cs w.1.1.0 w.1.1.1.0 parts.1))))

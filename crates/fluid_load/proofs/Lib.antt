@@ -1,0 +1,15 @@
+pub mod Parts
+mod Owned
+mod Passed
+mod Worked
+mod Attached
+mod Moved
+mod Submitted
+mod Submitting
+mod Said
+mod Summed
+mod Loaded
+mod Going
+mod Desks
+mod Whole
+mod Alike
