@@ -50,14 +50,12 @@ fn send_all(alloc: Global, outbox: &mut Outbox, line: u64) -> Result<u64, NoMemo
         return Ok(0);
     }
     outbox.joined(id)?;
-    let mut sent = 0;
-    while sent < LARGEST {
+    for sent in 0..LARGEST {
         if !is_one_sent(alloc, outbox)? {
             return Ok(sent);
         }
-        sent += 1;
     }
-    Ok(sent)
+    Ok(LARGEST)
 }
 
 fn is_one_sent(alloc: Global, outbox: &mut Outbox) -> Result<bool, NoMemory> {
