@@ -8,5 +8,3 @@ mod Nothing
 mod Few
 mod Short
 mod Unworn
-mod Worked
-mod Bounded

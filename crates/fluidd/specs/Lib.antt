@@ -5,4 +5,3 @@ pub mod Documents
 pub mod Served
 pub mod Tasks
 pub mod Scripts
-pub mod Workloads
