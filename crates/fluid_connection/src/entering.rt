@@ -3,7 +3,6 @@ ghost use Rattle.std.specs.Prelude.{◌≡◌, ◌≤◌, true, length};
 ghost use Rattle.fluid_document.specs.Entries.{most};
 ghost use Rattle.fluid_types.specs.Fits.{Fits};
 ghost use Rattle.fluid_lane.specs.Standing.{IsLeaveOrSubmission};
-ghost use Rattle.fluid_ends.specs.Faults.{refused_by};
 ghost use Rattle.fluid_connection.specs.Knowing.{knowing};
 ghost use Rattle.fluid_connection.specs.Entering.{DoesAs, IsFullAt, ended};
 ghost use Rattle.fluid_connection.specs.Running.{IsSubmission, AreSubmissions, EntersText, NextDoes, lost};
@@ -11,6 +10,7 @@ ghost use Rattle.fluid_connection.specs.Telling.{HasRoom};
 ghost use Rattle.fluid_voice.specs.declared.actions.Act.TheVariants as AnAct;
 
 use crate::telling::Told;
+use fluid_acts::refused;
 use fluid_doors::{Door, Pass};
 use fluid_ends::TalkFault;
 use fluid_json::NoMemory;
@@ -134,17 +134,5 @@ pub(crate) fn ended(answer: Result<Verdict, LaneFault>) -> Result<ActEnd, TalkFa
     match answer {
         Ok(verdict) => Ok(ActEnd::Entered(verdict)),
         Err(fault) => refused(fault),
-    }
-}
-
-/// An entry that its document refused: the limits of a document are ends, and every other fault is one.
-pub(crate) fn refused(fault: LaneFault) -> Result<ActEnd, TalkFault>
-    ensures { result ≡ refused_by fault }
-{
-    match fault {
-        LaneFault::Full(_) => Ok(ActEnd::FullNow),
-        LaneFault::TooManyClients => Ok(ActEnd::TooMany),
-        LaneFault::NoMemory => Err(TalkFault::NoMemory),
-        other => Err(TalkFault::Lane(other)),
     }
 }

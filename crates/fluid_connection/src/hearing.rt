@@ -23,7 +23,7 @@ use fluid_service::{Service, Visit};
 use fluid_store::Objects;
 use fluid_talk::Heard;
 use fluid_voice::laws::{connected_ones_stay, replies_are_no_events};
-use fluid_voice::{Act, ActEnd, Acts, Replies, Voice, VoiceState};
+use fluid_voice::{Act, ActEnd, Acts, Replies, Voice, is_connected};
 use std::alloc::Global;
 use std::sync::Wait;
 
@@ -48,6 +48,7 @@ where
         ensures service { (x : Serving) → belongs self.old x → belongs self.new x }
         ensures does { Hears (talking self.old) (talking self.new) (O.seen objects.old) (O.seen objects.new) text.now moment result }
     {
+        // (a law, and no work: its clause is for the proof)
         connected_ones_ask();
         connected_ones_stay();
         others_ask();
@@ -187,17 +188,6 @@ fn sole(acts: Acts) -> Option<Act>
 {
     let mut acts = acts.into_vec();
     acts.pop()
-}
-
-pub(crate) fn is_connected(state: &VoiceState) -> bool
-    ensures { result ≡ is_connected state.now }
-{
-    match state {
-        VoiceState::Fresh => false,
-        VoiceState::Reading(_, _) => true,
-        VoiceState::Writing(_, _, _) => true,
-        VoiceState::Used => false,
-    }
 }
 
 fn heard(told: Told, fault: Option<TalkFault>) -> Heard

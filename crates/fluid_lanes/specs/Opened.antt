@@ -36,10 +36,6 @@ opened_code =
     code_by (Shelving × (Values Standing × Limits)) (coded× shelving_code (coded× (values_code Standing lane_code) limits.the_row.coded))
     (λ o. (o.shelving, (o.lanes, o.limits))) (λ p. record { shelving = p.0; lanes = p.1.0; limits = p.1.1 }) (λ _. refl)
 
--- the document is open
-abbrev pub IsOpen : Opened → List ℕ → Type 0
-IsOpen o name = IsSome (get o.lanes name)
-
 -- no document is open
 abbrev pub nothing_open : Shelving → Limits → Opened
 nothing_open shelving limits = record { shelving = shelving; lanes = empty; limits = limits }
