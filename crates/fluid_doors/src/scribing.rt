@@ -8,7 +8,7 @@ ghost use Rattle.fluid_doors.specs.Entering.{Reports};
 ghost use Rattle.fluid_doors.specs.Scribing.{IsJobOf, Scribes};
 ghost use Rattle.fluid_store.specs.Keeping.{Counts};
 
-use crate::closing::{close, close_entered};
+use crate::finishing::{close, close_entered};
 use crate::door::{Door, Pass};
 use crate::ends::{ScribeEnd, ScribeFault, of_lane, of_store};
 use fluid_json::NoMemory;

@@ -1,5 +1,5 @@
 -- The documents that are open, by name, and the shelves from which their keepers are out.
-use Rattle.std.specs.Prelude.{◌≡◌, ℕ, ◌≤◌, Bool, List, Option, is_some, IsSome, refl}
+use Rattle.std.specs.Prelude.{◌≡◌, ℕ, ◌≤◌, Bool, List, Option, is_some, refl}
 use Rattle.std.specs.Coded.{Coded, code_by, coded×, coded_ℕ, coded_bool, coded_option}
 use Rattle.std.specs.FinMap.{empty, get, insert, len}
 use Rattle.fluid_table.specs.Table.{Values, values_code}

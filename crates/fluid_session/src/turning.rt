@@ -1,4 +1,4 @@
-// One turn of a session.
+// One cycle of a session.
 ghost use Rattle.std.specs.Prelude.{◌≡◌, ◌<◌, ◌≤◌, false, length, OnOk, if◌then◌else◌};
 ghost use Rattle.fluid_types.specs.Forms.{largest};
 ghost use Rattle.fluid_readback.specs.Laws.{longest_text};
@@ -27,7 +27,7 @@ use std::alloc::Global;
 use std::sync::Wait;
 
 /// Collects and sends what wasn't delivered, receives a text, hears it and sends the replies.
-pub(crate) fn turn<R: Wait, T: Conversation, O: Objects, W: Wire, C: Clock>(
+pub(crate) fn cycle<R: Wait, T: Conversation, O: Objects, W: Wire, C: Clock>(
     rt: &R,
     alloc: Global,
     service: &T::Service,
