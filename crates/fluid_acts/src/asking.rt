@@ -24,6 +24,7 @@ pub(crate) fn messages_asked<K: Keeper>(
 ) -> Result<ActEnd, TalkFault>
     ensures { DoesOnLane (act.Deltas from to) lane.old lane.new result }
 {
+    // (a law, and no work: its clause is for the proof)
     lanes_say_their_ledgers();
     match range_asked(lane.seq(), from, to) {
         Ok((first, end)) => messages(alloc, lane, first, end),

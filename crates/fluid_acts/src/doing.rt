@@ -70,6 +70,7 @@ fn connect<K: Keeper>(
     ensures { (name : List ℕ) → DoesOnLane (act.Connect name write scopes detail.now moment) lane.old lane.new result }
 {
     if !write {
+        // (a law, and no work: its clause is for the proof)
         lanes_say_their_ledgers();
         return Ok(ActEnd::Told(lane.seq()));
     }
@@ -88,6 +89,7 @@ fn join<K: Keeper>(
     ensures { (name : List ℕ) → DoesOnLane (act.Connect name true scopes detail moment) lane.old lane.new result }
 {
     lanes_say_their_ledgers();
+    // (read for its clause alone)
     let _entered = lane.entered();
     match lane.join(alloc, scopes, detail, moment) {
         Ok((raw, message)) => Ok(joined(raw, &message)),
@@ -119,8 +121,8 @@ fn joined(raw: Raw, message: &Message) -> ActEnd
     }
 }
 
-// An entry that the lane refused.
-fn refused(fault: LaneFault) -> Result<ActEnd, TalkFault>
+/// An entry that a lane refused: the limits of a document are ends of an act, and every other fault is one.
+pub fn refused(fault: LaneFault) -> Result<ActEnd, TalkFault>
     ensures { result ≡ refused_by fault }
 {
     match fault {

@@ -10,5 +10,5 @@ mod doing;
 pub mod laws;
 
 pub use asking::{get_object, put_object};
-pub use doing::do_act;
+pub use doing::{do_act, refused};
 pub use fluid_ends::TalkFault;

@@ -104,7 +104,9 @@ fn leave_lane<K: Keeper>(
     ensures does { (limits : ALimits) (d : Document) → IsLaneOf limits lane.old d → EntersLane limits d (Raw.Leave id.now moment) lane.new result }
     ensures runs { LaneRuns lane.old lane.new result }
 {
+    // (a law, and no work: its clause is for the proof)
     leaves_and_reports_fit();
+    // (read for its clause alone)
     let _name = id.as_str();
     match id.copy(alloc) {
         Ok(id) => enter(alloc, lane, &Raw::Leave { id, moment }),

@@ -124,7 +124,7 @@ fn unstored(
 }
 
 /// A fault of the messages that were asked for.
-pub(crate) fn delta_stop(fault: DeltaFault) -> Stop
+pub fn delta_stop(fault: DeltaFault) -> Stop
     ensures { result ≡ delta_stop fault }
 {
     match fault {

@@ -14,5 +14,6 @@ mod written;
 
 pub use closing::close;
 pub use collecting::collect;
+pub use hearing::delta_stop;
 pub use sending::send;
 pub use written::Written;

@@ -1,12 +1,11 @@
 // The text of a checkpoint.
-ghost use Rattle.std.specs.Prelude.{◌≡◌, ◌++◌, IfOk, OnOk, option_map, string_bytes};
+ghost use Rattle.std.specs.Prelude.{◌≡◌, ◌++◌, IfOk, OnOk, string_bytes};
 ghost use Rattle.std.specs.FinMap.{entries};
 ghost use Rattle.fluid_json.specs.Printed.{printed};
 ghost use Rattle.fluid_types.specs.Blobs.{list_tree};
 ghost use Rattle.fluid_types.specs.Printed.{count_tree};
-ghost use Rattle.fluid_tree.specs.Summary.{children};
 ghost use Rattle.fluid_quorum.specs.Node.{AreTexts};
-ghost use Rattle.fluid_quorum.specs.Reading.{text_in, as_utf8, find_child};
+ghost use Rattle.fluid_quorum.specs.Reading.{text_in};
 ghost use Rattle.fluid_checkpoint.specs.Text.{base_tree, client_tree, state_printed};
 ghost use Rattle.fluid_checkpoint.specs.Laws.{IsWritten};
 ghost use Rattle.fluid_checkpoint.specs.Written.{content, first_part, middle_part, last_part};
@@ -18,11 +17,10 @@ use crate::texts::{Kept, list_text};
 use crate::version::Version;
 use fluid_clients::Clients;
 use fluid_json::{Bytes, NoMemory, Printer, Text};
-use fluid_quorum::Quorum;
+use fluid_quorum::{Quorum, text_in};
 use fluid_tree::Node;
-use fluid_types::{QuorumBlob, Word};
+use fluid_types::QuorumBlob;
 use std::alloc::Global;
-use std::str;
 
 /// The text of a state, in version 2.
 pub fn print(alloc: Global, state: &State) -> Result<Bytes, NoMemory>
@@ -139,34 +137,4 @@ fn content(blobs: &Node, blob: QuorumBlob) -> &str
     ensures { result.now ≡ content blobs.now blob }
 {
     text_in(blobs, blob).unwrap_or("")
-}
-
-#[tactic(auto, unfolding(fluid_quorum::specs::Reading::text_in))]
-fn text_in(blobs: &Node, blob: QuorumBlob) -> Option<&str>
-    ensures { option_map (λ s. s.now) result ≡ text_in blobs.now blob }
-{
-    let entries = blobs.as_tree()?;
-    let node = find_child(entries, blob.word())?;
-    let content = node.as_blob()?;
-    as_utf8(content)
-}
-
-fn as_utf8(content: &[u8]) -> Option<&str>
-    ensures { option_map (λ s. s.now) result ≡ as_utf8 content.now }
-{
-    match str::from_utf8(content) {
-        Ok(text) => Some(text),
-        Err(_) => None,
-    }
-}
-
-fn find_child<'a>(entries: &'a [(Text, Node)], name: &str) -> Option<&'a Node>
-    ensures { option_map (λ node. node.now) result ≡ find_child name.now (children entries.now) }
-{
-    for (own, node) in entries {
-        if own.as_str() == name {
-            return Some(node);
-        }
-    }
-    None
 }

@@ -36,7 +36,7 @@ use Rattle.fluid_talk.specs.Talking.{Knowing, Talking, Goes, order_of, number_be
 use Rattle.fluid_talk.specs.Doing.{Did, acts_in, ended, held_after, AreDone}
 use Rattle.fluid_talk.specs.Hearing.{KeyBehind, HearsApart, HoldsWith, HoldsBehind, LeavesStore, Does, AreReplies, Hears}
 use Rattle.fluid_talk.specs.Shelves.{KeepsKey}
-use Rattle.fluid_connection.specs.declared.telling.Told.{Told as ATold}
+use Rattle.fluid_connection.specs.declared.telling.Answered.{Answered as ATold}
 use Rattle.fluid_connection.specs.Knowing.{knowing}
 use Rattle.fluid_connection.specs.Talked.{Talked, IsTalk, pass_of}
 use Rattle.fluid_connection.specs.Telling.{no_counts, with_ends}

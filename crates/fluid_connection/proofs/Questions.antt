@@ -32,7 +32,7 @@ use Rattle.fluid_talk.specs.Talking.{Knowing, Goes, ledger_of}
 use Rattle.fluid_talk.specs.Doing.{IsAnswered}
 use Rattle.fluid_talk.specs.Hearing.{HoldsWith, HoldsBehind, LeavesStore}
 use Rattle.fluid_talk.specs.Causes.{IsCauseOf}
-use Rattle.fluid_connection.specs.declared.telling.Told.{Told as ATold}
+use Rattle.fluid_connection.specs.declared.telling.Answered.{Answered as ATold}
 use Rattle.fluid_connection.specs.Entering.{did_of, DoesAs}
 use Rattle.fluid_connection.specs.Telling.{no_counts, with_ends, SaysOne}
 use Rattle.fluid_connection.specs.Hearing.{IsQuestion, AsksOne, AsksFail, AsksAs, DoesActs, HearsActs}

@@ -31,7 +31,7 @@ use Rattle.fluid_talk.specs.Causes.{IsDoorFault, IsNoMemory, IsCauseOf, IsCauseA
 use Rattle.fluid_talk.specs.Shelves.{KeepsKey, IsRefusedDoor, IsReachedBy}
 use Rattle.fluid_talk.specs.Hearing.{AreReplies, KeyBehind, IsConnectEnd, IsFaultOf, Reaches}
 use Rattle.fluid_connection.specs.declared.connecting.Connect.{Connect}
-use Rattle.fluid_connection.specs.declared.telling.Told.{Told as ATold}
+use Rattle.fluid_connection.specs.declared.telling.Answered.{Answered as ATold}
 use Rattle.fluid_connection.specs.Knowing.{knowing, keyed}
 use Rattle.fluid_connection.specs.Talked.{Talked, pass_of, talking}
 use Rattle.fluid_connection.specs.Telling.{no_counts, SaysOne}

@@ -19,7 +19,7 @@ use Rattle.fluid_ends.specs.declared.fault.TalkFault.{TalkFault}
 use Rattle.fluid_talk.specs.Talking.{Knowing, ledger_of}
 use Rattle.fluid_talk.specs.Doing.{Did, ended}
 use Rattle.fluid_connection.specs.declared.telling.Counts.{Counts}
-use Rattle.fluid_connection.specs.declared.telling.Told.{Told as ATold}
+use Rattle.fluid_connection.specs.declared.telling.Answered.{Answered as ATold}
 use Rattle.fluid_connection.specs.Entering.{IsFullAt, LimitBy, did_of, DoesOne, FailsOne}
 use Rattle.fluid_connection.specs.Telling.{HasRoom, no_counts, with_end, with_ends, full_behind, TellsFront}
 use Rattle.fluid_connection.specs.Running.{EntersAll, EntersText, IsSubmit, AreSubmissions, NextEntered, NextStops, NextDoes, lost}

@@ -26,7 +26,7 @@ use Rattle.fluid_talk.specs.Talking.{Knowing, number_behind_last}
 use Rattle.fluid_talk.specs.Hearing.{IsConnectEnd, IsFaultOf}
 use Rattle.fluid_talk.specs.Shelves.{KeepsKey, IsRefusedDoor, IsReachedBy}
 use Rattle.fluid_connection.specs.declared.connecting.Connect.{Connect}
-use Rattle.fluid_connection.specs.declared.telling.Told.{Told}
+use Rattle.fluid_connection.specs.declared.telling.Answered.{Answered}
 use Rattle.fluid_connection.specs.Knowing.{knowing, keyed}
 use Rattle.fluid_connection.specs.Talked.{Talked, pass_of, visited}
 use Rattle.fluid_connection.specs.Entering.{DoesAs}
@@ -92,20 +92,20 @@ pub record MaySettle (name : List ℕ) (write : Bool) (visit : Visiting) (answer
 -- ---- what is said to it
 
 -- nothing of it is counted; all of this was said, or nothing for want of memory
-pub record IsSaid (all : List Reply) (told : Told) (fault : Option TalkFault) : Type 0 where
+pub record IsSaid (all : List Reply) (told : Answered) (fault : Option TalkFault) : Type 0 where
   pub counts : told.counts ≡ no_counts
   pub said : ((fault ≡ None) × (told.replies.items ≡ all)) ⊎ ((fault ≡ Some talk.NoMemory) × (told.replies.items ≡ []))
 
-abbrev pub IsRefused : Told → Option TalkFault → Type 0
+abbrev pub IsRefused : Answered → Option TalkFault → Type 0
 IsRefused told fault = IsSaid (refused TooManyDocuments ∷ []) told fault
 
 -- an answer was said, and it stands as that says; a fault leaves it unconnected
-abbrev pub SettlesBy : Talked → List ℕ → Bool → Result ActEnd TalkFault → Told → Option TalkFault → Type 0
+abbrev pub SettlesBy : Talked → List ℕ → Bool → Result ActEnd TalkFault → Answered → Option TalkFault → Type 0
 SettlesBy new name write (Ok end) told fault = (new.voice ≡ connect_state name write Fresh end) × IsSaid (connect_replies Fresh write end) told fault
 SettlesBy new name write (Err cause) told fault = (new.voice ≡ Fresh) × ((told.counts ≡ no_counts) × ((told.replies.items ≡ []) × (fault ≡ Some cause)))
 
 -- the visit is kept, and what was handed in as long as it isn't connected
-pub record Settles (old new : Talked) (name : List ℕ) (write : Bool) (visit : Visiting) (answer : Result ActEnd TalkFault) (told : Told) (fault : Option TalkFault) : Type 0 where
+pub record Settles (old new : Talked) (name : List ℕ) (write : Bool) (visit : Visiting) (answer : Result ActEnd TalkFault) (told : Answered) (fault : Option TalkFault) : Type 0 where
   pub visit_is : new.visit ≡ Some visit
   pub handed : new.handed ≡ (if is_connected new.voice then None else old.handed)
   pub by : SettlesBy new name write answer told fault

@@ -22,7 +22,7 @@ use Rattle.fluid_voice.specs.Laws.{FullBehind}
 use Rattle.fluid_talk.specs.Doing.{Did, acts_in, ends_in, ended, steps_in, may_steps, IsDone, AreDone, AreFound, IsAnswered, AreAnswered}
 use Rattle.fluid_talk.specs.Causes.{IsCauseOf, IsCauseAt}
 use Rattle.fluid_talk.specs.Hearing.{AreReplies, LeavesStore, HearsApart}
-use Rattle.fluid_connection.specs.declared.telling.Told.{Told}
+use Rattle.fluid_connection.specs.declared.telling.Answered.{Answered}
 use Rattle.fluid_connection.specs.Entering.{did_of}
 use Rattle.fluid_connection.specs.Telling.{no_counts, with_ends}
 
@@ -118,7 +118,7 @@ pub record DoesActs (s : VoiceState) (p q : Knowing) (before now : Storing) (act
   pub store : LeavesStore before now acts (acts_in done) rest fault
 
 -- and how often each verdict was given
-pub record HearsActs (s : VoiceState) (p q : Knowing) (before now : Storing) (acts : List Act) (told : Told) (fault : Option TalkFault) : Type 0 where
+pub record HearsActs (s : VoiceState) (p q : Knowing) (before now : Storing) (acts : List Act) (told : Answered) (fault : Option TalkFault) : Type 0 where
   pub done : List Did
   pub does : DoesActs s p q before now acts done told.replies.items fault
   pub counts : told.counts ≡ with_ends no_counts (ended done)
@@ -126,7 +126,7 @@ pub record HearsActs (s : VoiceState) (p q : Knowing) (before now : Storing) (ac
 -- ---- for one that isn't
 
 -- nothing of it is asked of a store
-pub record HearsOther (s t : Talking) (acts : List Act) (told : Told) (fault : Option TalkFault) : Type 0 where
+pub record HearsOther (s t : Talking) (acts : List Act) (told : Answered) (fault : Option TalkFault) : Type 0 where
   pub done : List Did
   pub rest : List Act
   pub asked : acts ≡ acts_in done ++ rest
@@ -142,7 +142,7 @@ pub record HearsOther (s t : Talking) (acts : List Act) (told : Told) (fault : O
 
 -- ---- what is told of it
 
-pub record IsHeardOf (told : Told) (fault : Option TalkFault) (heard : Heard) : Type 0 where
+pub record IsHeardOf (told : Answered) (fault : Option TalkFault) (heard : Heard) : Type 0 where
   pub replies : heard.replies ≡ told.replies.items
   pub sequenced : heard.sequenced ≡ told.counts.sequenced
   pub dropped : heard.dropped ≡ told.counts.dropped

@@ -19,7 +19,7 @@ use Rattle.fluid_voice.specs.Laws.{FullBehind}
 use Rattle.fluid_talk.specs.Doing.{Did, acts_in, ends_in, ended, steps_in, may_steps, AreDone, AreFound, AreAnswered}
 use Rattle.fluid_talk.specs.Causes.{IsCauseAt}
 use Rattle.fluid_talk.specs.Hearing.{AreReplies}
-use Rattle.fluid_connection.specs.declared.telling.Told.{Told}
+use Rattle.fluid_connection.specs.declared.telling.Answered.{Answered}
 use Rattle.fluid_connection.specs.Entering.{IsFullAt}
 use Rattle.fluid_connection.specs.Telling.{no_counts, with_end, with_ends}
 
@@ -57,7 +57,7 @@ AreSubmissions [] = ⊤
 AreSubmissions (a ∷ acts) = IsSubmission a × AreSubmissions acts
 
 -- all of them, and what came of it
-pub record EntersText (s : VoiceState) (p q : Knowing) (acts : List Act) (told : Told) (fault : Option TalkFault) : Type 0 where
+pub record EntersText (s : VoiceState) (p q : Knowing) (acts : List Act) (told : Answered) (fault : Option TalkFault) : Type 0 where
   pub done : List Did
   pub does : EntersAll s false p q acts done told.replies.items fault
   pub counts : told.counts ≡ with_ends no_counts (ended done)
@@ -65,7 +65,7 @@ pub record EntersText (s : VoiceState) (p q : Knowing) (acts : List Act) (told :
 -- ---- one of them, for private clauses
 
 -- whatever comes behind it
-pub record NextEntered (s : VoiceState) (old new : Told) (p m : Knowing) (a : Act) : Type 0 where
+pub record NextEntered (s : VoiceState) (old new : Answered) (p m : Knowing) (a : Act) : Type 0 where
   pub did : Did
   pub more : List Reply
   pub leads : (q : Knowing) (acts : List Act) (done : List Did) (replies : List Reply) (fault : Option TalkFault) → EntersAll s new.full m q acts done replies fault
@@ -75,14 +75,14 @@ pub record NextEntered (s : VoiceState) (old new : Told) (p m : Knowing) (a : Ac
   pub full : new.full ≡ true → IsFullAt m
 
 -- it failed, or what is said to it found no memory
-pub record NextStops (s : VoiceState) (old new : Told) (p m : Knowing) (a : Act) (fault : TalkFault) : Type 0 where
+pub record NextStops (s : VoiceState) (old new : Answered) (p m : Knowing) (a : Act) (fault : TalkFault) : Type 0 where
   pub done : List Did
   pub more : List Reply
   pub stops : (acts : List Act) → EntersAll s old.full p m (a ∷ acts) done more (Some fault)
   pub said : new.replies.items ≡ old.replies.items ++ more
   pub counts : new.counts ≡ with_ends old.counts (ended done)
 
-abbrev pub NextDoes : VoiceState → (old new : Told) → (p m : Knowing) → Act → Result (Unit {0}) TalkFault → Type 0
+abbrev pub NextDoes : VoiceState → (old new : Answered) → (p m : Knowing) → Act → Result (Unit {0}) TalkFault → Type 0
 NextDoes s old new p m a (Ok done) = NextEntered s old new p m a
 NextDoes s old new p m a (Err fault) = NextStops s old new p m a fault
 

@@ -11,7 +11,7 @@ use Rattle.fluid_json.specs.declared.memory.NoMemory.{NoMemory}
 use Rattle.fluid_ends.specs.declared.fault.TalkFault.{TalkFault}
 use Rattle.fluid_ends.specs.declared.fault.TalkFault.TheVariants as talk
 use Rattle.fluid_connection.specs.declared.telling.Counts.{Counts}
-use Rattle.fluid_connection.specs.declared.telling.Told.{Told}
+use Rattle.fluid_connection.specs.declared.telling.Answered.{Answered}
 
 -- ---- counts
 
@@ -62,6 +62,6 @@ pub record TellsFront (all old new : List Reply) : Type 0 where
   pub said : new ≡ old ++ front
 
 -- what was said to one act alone, of which nothing is counted: all of it, or nothing for want of memory
-abbrev pub SaysOne : Result (List Reply) NoMemory → Told → Option TalkFault → Type 0
+abbrev pub SaysOne : Result (List Reply) NoMemory → Answered → Option TalkFault → Type 0
 SaysOne (Ok replies) told fault = (told.replies.items ≡ replies) × ((told.counts ≡ no_counts) × (fault ≡ None))
 SaysOne (Err refused) told fault = (told.replies.items ≡ []) × ((told.counts ≡ no_counts) × (fault ≡ Some talk.NoMemory))

@@ -8,7 +8,7 @@ ghost use Rattle.fluid_connection.specs.Knowing.{knowing};
 ghost use Rattle.fluid_connection.specs.Entering.{DoesAs, looked};
 ghost use Rattle.fluid_connection.specs.Hearing.{IsQuestion, AsksAs, HearsActs};
 
-use crate::telling::{Told, say_one};
+use crate::telling::{Answered, say_one};
 use fluid_acts::{get_object, put_object};
 use fluid_deltas::DeltaFault;
 use fluid_doors::{Door, Pass};
@@ -28,7 +28,7 @@ pub(crate) fn do_one<R: Wait, K: Keeper, O: Objects>(
     pass: Pass<K>,
     objects: &mut O,
     act: Act,
-) -> (Pass<K>, Told, Option<TalkFault>)
+) -> (Pass<K>, Answered, Option<TalkFault>)
     requires pass { pass.turn ≡ door.now.turn }
     requires act { IsQuestion act }
     ensures turn { result.0.turn ≡ door.now.turn }
@@ -42,7 +42,7 @@ pub(crate) fn do_one<R: Wait, K: Keeper, O: Objects>(
             let (told, fault) = say_one(alloc, voice.take(alloc, act, end));
             (pass, told, fault)
         }
-        Err(fault) => (pass, Told::new(alloc), Some(fault)),
+        Err(fault) => (pass, Answered::new(alloc), Some(fault)),
     }
 }
 

@@ -11,17 +11,16 @@ ghost use Rattle.fluid_connection.specs.Hearing.{HearsOther};
 ghost use Rattle.fluid_connection.specs.Connecting.{act_of, name_of, FitsJoin, Splits, ReachesBy, Greets, MaySettle, Settles, IsRefused};
 
 use crate::asking::look;
-use crate::entering::refused;
-use crate::hearing::is_connected;
 use crate::talk::Talk;
-use crate::telling::{Told, say_one};
+use crate::telling::{Answered, say_one};
+use fluid_acts::refused;
 use fluid_ends::TalkFault;
 use fluid_json::{Json, NoMemory};
 use fluid_lane::LaneFault;
 use fluid_log::{Keeper, Shelves};
 use fluid_service::{DoorFault, Service, Visit};
 use fluid_types::{ClientId, DocName, Message, Scopes};
-use fluid_voice::{Act, ActEnd, ConnectRefusal, VoiceState};
+use fluid_voice::{Act, ActEnd, ConnectRefusal, VoiceState, is_connected};
 use std::alloc::Global;
 use std::mem;
 use std::sync::Wait;
@@ -47,7 +46,7 @@ where
         alloc: Global,
         service: &Service<B>,
         connect: Connect,
-    ) -> (Told, Option<TalkFault>)
+    ) -> (Answered, Option<TalkFault>)
         requires service { belongs self.old service.now }
         requires fresh { self.old.voice ≡ Fresh }
         requires fits { FitsJoin connect }
@@ -64,13 +63,13 @@ where
             Err(DoorFault::TooManyDocuments(_)) => self.refuse(alloc, connect),
             Err(DoorFault::ShelfFailed(note)) => {
                 let fault = TalkFault::Door(DoorFault::ShelfFailed(note));
-                (Told::new(alloc), Some(fault))
+                (Answered::new(alloc), Some(fault))
             }
             Err(DoorFault::Lane(fault)) => {
                 let fault = TalkFault::Door(DoorFault::Lane(fault));
-                (Told::new(alloc), Some(fault))
+                (Answered::new(alloc), Some(fault))
             }
-            Err(DoorFault::NoMemory) => (Told::new(alloc), Some(TalkFault::NoMemory)),
+            Err(DoorFault::NoMemory) => (Answered::new(alloc), Some(TalkFault::NoMemory)),
         }
     }
 
@@ -109,7 +108,7 @@ where
         name: DocName,
         write: bool,
         answer: Result<ActEnd, TalkFault>,
-    ) -> (Told, Option<TalkFault>)
+    ) -> (Answered, Option<TalkFault>)
         requires fresh { self.old.voice ≡ Fresh }
         requires settled { MaySettle name write visit answer }
         ensures key { self.new.key ≡ self.old.key }
@@ -123,12 +122,12 @@ where
                 let_go(&mut self.handed, self.voice.state());
                 say_one(alloc, replies)
             }
-            Err(fault) => (Told::new(alloc), Some(fault)),
+            Err(fault) => (Answered::new(alloc), Some(fault)),
         }
     }
 
     // As many documents are open as may be, and this isn't one.
-    fn refuse(&mut self, alloc: Global, connect: Connect) -> (Told, Option<TalkFault>)
+    fn refuse(&mut self, alloc: Global, connect: Connect) -> (Answered, Option<TalkFault>)
         requires fresh { self.old.voice ≡ Fresh }
         ensures same { self.new ≡ self.old }
         ensures said { IsRefused result.0 result.1 }
@@ -140,7 +139,7 @@ where
                 let replies = self.voice.take_connect(alloc, name, write, end);
                 say_one(alloc, replies)
             }
-            Err(_) => (Told::new(alloc), Some(TalkFault::NoMemory)),
+            Err(_) => (Answered::new(alloc), Some(TalkFault::NoMemory)),
         }
     }
 }

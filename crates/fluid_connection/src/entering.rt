@@ -3,14 +3,14 @@ ghost use Rattle.std.specs.Prelude.{◌≡◌, ◌≤◌, true, length};
 ghost use Rattle.fluid_document.specs.Entries.{most};
 ghost use Rattle.fluid_types.specs.Fits.{Fits};
 ghost use Rattle.fluid_lane.specs.Standing.{IsLeaveOrSubmission};
-ghost use Rattle.fluid_ends.specs.Faults.{refused_by};
 ghost use Rattle.fluid_connection.specs.Knowing.{knowing};
 ghost use Rattle.fluid_connection.specs.Entering.{DoesAs, IsFullAt, ended};
 ghost use Rattle.fluid_connection.specs.Running.{IsSubmission, AreSubmissions, EntersText, NextDoes, lost};
 ghost use Rattle.fluid_connection.specs.Telling.{HasRoom};
 ghost use Rattle.fluid_voice.specs.declared.actions.Act.TheVariants as AnAct;
 
-use crate::telling::Told;
+use crate::telling::Answered;
+use fluid_acts::refused;
 use fluid_doors::{Door, Pass};
 use fluid_ends::TalkFault;
 use fluid_json::NoMemory;
@@ -49,7 +49,7 @@ pub(crate) fn enter_all<R: Wait, K: Keeper>(
     voice: &Voice,
     pass: Pass<K>,
     acts: Vec<Act>,
-) -> (Pass<K>, Told, Option<TalkFault>)
+) -> (Pass<K>, Answered, Option<TalkFault>)
     requires pass { pass.turn ≡ door.now.turn }
     requires acts { AreSubmissions acts.items }
     ensures turn { result.0.turn ≡ door.now.turn }
@@ -57,7 +57,7 @@ pub(crate) fn enter_all<R: Wait, K: Keeper>(
     ensures does { EntersText voice.now (knowing door.now.name pass) (knowing door.now.name result.0) acts.items result.1 result.2 }
 {
     let mut pass = pass;
-    let mut told = Told::new(alloc);
+    let mut told = Answered::new(alloc);
     for act in acts {
         let (back, entered) = enter_next(rt, alloc, door, voice, pass, act, &mut told);
         pass = back;
@@ -76,7 +76,7 @@ fn enter_next<R: Wait, K: Keeper>(
     voice: &Voice,
     pass: Pass<K>,
     act: Act,
-    told: &mut Told,
+    told: &mut Answered,
 ) -> (Pass<K>, Result<(), TalkFault>)
     requires pass { pass.turn ≡ door.now.turn }
     requires act { IsSubmission act }
@@ -134,17 +134,5 @@ pub(crate) fn ended(answer: Result<Verdict, LaneFault>) -> Result<ActEnd, TalkFa
     match answer {
         Ok(verdict) => Ok(ActEnd::Entered(verdict)),
         Err(fault) => refused(fault),
-    }
-}
-
-/// An entry that its document refused: the limits of a document are ends, and every other fault is one.
-pub(crate) fn refused(fault: LaneFault) -> Result<ActEnd, TalkFault>
-    ensures { result ≡ refused_by fault }
-{
-    match fault {
-        LaneFault::Full(_) => Ok(ActEnd::FullNow),
-        LaneFault::TooManyClients => Ok(ActEnd::TooMany),
-        LaneFault::NoMemory => Err(TalkFault::NoMemory),
-        other => Err(TalkFault::Lane(other)),
     }
 }

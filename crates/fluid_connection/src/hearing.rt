@@ -16,14 +16,14 @@ use crate::connecting::Connect;
 use crate::entering::enter_all;
 use crate::laws::{connected_ones_ask, others_ask};
 use crate::talk::Talk;
-use crate::telling::{Told, say_one};
+use crate::telling::{Answered, say_one};
 use fluid_ends::TalkFault;
 use fluid_log::{Keeper, Shelves};
 use fluid_service::{Service, Visit};
 use fluid_store::Objects;
 use fluid_talk::Heard;
 use fluid_voice::laws::{connected_ones_stay, replies_are_no_events};
-use fluid_voice::{Act, ActEnd, Acts, Replies, Voice, VoiceState};
+use fluid_voice::{Act, ActEnd, Acts, Replies, Voice, is_connected};
 use std::alloc::Global;
 use std::sync::Wait;
 
@@ -48,13 +48,14 @@ where
         ensures service { (x : Serving) → belongs self.old x → belongs self.new x }
         ensures does { Hears (talking self.old) (talking self.new) (O.seen objects.old) (O.seen objects.new) text.now moment result }
     {
+        // (a law, and no work: its clause is for the proof)
         connected_ones_ask();
         connected_ones_stay();
         others_ask();
         replies_are_no_events();
         let acts = match self.voice.acts(alloc, text, moment) {
             Ok(acts) => acts,
-            Err(_) => return heard(Told::new(alloc), Some(TalkFault::NoMemory)),
+            Err(_) => return heard(Answered::new(alloc), Some(TalkFault::NoMemory)),
         };
         if is_connected(self.voice.state()) {
             let (told, fault) = self.hear_connected(rt, alloc, objects, acts);
@@ -71,7 +72,7 @@ where
         alloc: Global,
         objects: &mut O,
         acts: Acts,
-    ) -> (Told, Option<TalkFault>)
+    ) -> (Answered, Option<TalkFault>)
         requires connected { is_connected self.old.voice ≡ true }
         requires asked { AreAskedAtOnce acts }
         requires fit { All IsFitting acts }
@@ -94,7 +95,7 @@ where
         alloc: Global,
         service: &Service<B>,
         acts: Acts,
-    ) -> (Told, Option<TalkFault>)
+    ) -> (Answered, Option<TalkFault>)
         requires service { belongs self.old service.now }
         requires unused { is_used self.old.voice ≡ false }
         requires apart { is_connected self.old.voice ≡ false }
@@ -104,7 +105,7 @@ where
         ensures does { HearsOther (talking self.old) (talking self.new) acts result.0 result.1 }
     {
         match sole(acts) {
-            None => (Told::new(alloc), None),
+            None => (Answered::new(alloc), None),
             Some(Act::Say(reply)) => {
                 let replies = self.voice.take(alloc, Act::Say(reply), ActEnd::Said);
                 say_one(alloc, replies)
@@ -144,7 +145,7 @@ fn do_acts<R: Wait, K: Keeper, O: Objects>(
     visit: Visit<K>,
     objects: &mut O,
     acts: Acts,
-) -> (Visit<K>, Told, Option<TalkFault>)
+) -> (Visit<K>, Answered, Option<TalkFault>)
     requires asked { AreAskedAtOnce acts }
     requires fit { All IsFitting acts }
     ensures same { voice.new ≡ voice.old }
@@ -189,21 +190,10 @@ fn sole(acts: Acts) -> Option<Act>
     acts.pop()
 }
 
-pub(crate) fn is_connected(state: &VoiceState) -> bool
-    ensures { result ≡ is_connected state.now }
-{
-    match state {
-        VoiceState::Fresh => false,
-        VoiceState::Reading(_, _) => true,
-        VoiceState::Writing(_, _, _) => true,
-        VoiceState::Used => false,
-    }
-}
-
-fn heard(told: Told, fault: Option<TalkFault>) -> Heard
+fn heard(told: Answered, fault: Option<TalkFault>) -> Heard
     ensures { IsHeardOf told fault result }
 {
-    let Told {
+    let Answered {
         replies,
         counts,
         ..

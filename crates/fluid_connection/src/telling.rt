@@ -21,20 +21,20 @@ pub(crate) struct Counts {
 
 /// What came of some entries: the replies, the counts of their verdicts, and whether the document was found full.
 #[derive(Drop)]
-pub(crate) struct Told {
+pub(crate) struct Answered {
     pub(crate) replies: Vec<Reply>,
     pub(crate) counts: Counts,
     pub(crate) full: bool,
 }
 
-impl Told {
+impl Answered {
     /// Nothing yet. Takes no memory.
-    pub(crate) fn new(alloc: Global) -> Told
+    pub(crate) fn new(alloc: Global) -> Answered
         ensures replies { result.replies.items ≡ [] }
         ensures counts { result.counts ≡ no_counts }
         ensures full { result.full ≡ false }
     {
-        Told {
+        Answered {
             replies: Vec::new(alloc),
             counts: Counts {
                 sequenced: 0,
@@ -47,11 +47,11 @@ impl Told {
     }
 
     /// These replies, with nothing entered. Takes no memory.
-    pub(crate) fn of(replies: Replies) -> Told
+    pub(crate) fn of(replies: Replies) -> Answered
         ensures replies { result.replies.items ≡ replies }
         ensures counts { result.counts ≡ no_counts }
     {
-        Told {
+        Answered {
             replies: replies.into_vec(),
             counts: Counts {
                 sequenced: 0,
@@ -79,12 +79,12 @@ impl Told {
 }
 
 /// What was said to one act alone, which enters no submission. For want of memory nothing is.
-pub(crate) fn say_one(alloc: Global, said: Result<Replies, NoMemory>) -> (Told, Option<TalkFault>)
+pub(crate) fn say_one(alloc: Global, said: Result<Replies, NoMemory>) -> (Answered, Option<TalkFault>)
     ensures { SaysOne said result.0 result.1 }
 {
     match said {
-        Ok(replies) => (Told::of(replies), None),
-        Err(_) => (Told::new(alloc), Some(TalkFault::NoMemory)),
+        Ok(replies) => (Answered::of(replies), None),
+        Err(_) => (Answered::new(alloc), Some(TalkFault::NoMemory)),
     }
 }
 

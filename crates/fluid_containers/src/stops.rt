@@ -1,12 +1,10 @@
 //! What ended a call on a lane and a store that were lent, as the end of a script.
 ghost use Rattle.std.specs.Prelude.{◌≡◌};
 ghost use Rattle.fluid_containers.specs.Ending.{stop_for, store_stop};
-ghost use Rattle.fluid_callers.specs.Ending.{delta_stop};
 
-use fluid_deltas::DeltaFault;
+use fluid_callers::delta_stop;
 use fluid_desk::{Stop, StoredFault, stop_of};
 use fluid_door_link::LentFault;
-use fluid_lane::LaneFault;
 use fluid_store::StoreFault;
 
 /// What ended a call, as the end of a script.
@@ -17,17 +15,6 @@ pub(crate) fn stop_for(fault: LentFault) -> Stop
         LentFault::Lane(fault) => stop_of(fault),
         LentFault::Deltas(fault) => delta_stop(fault),
         LentFault::Store(fault) => store_stop(fault),
-    }
-}
-
-fn delta_stop(fault: DeltaFault) -> Stop
-    ensures { result ≡ delta_stop fault }
-{
-    match fault {
-        DeltaFault::DeltaFailed(note) => Stop::KeeperFault(note),
-        DeltaFault::BadDelta(number) => Stop::BadStored(StoredFault::Delta(number)),
-        DeltaFault::Worn => Stop::BadStored(StoredFault::Lane(LaneFault::Worn)),
-        DeltaFault::NoMemory => Stop::NoMemory,
     }
 }
 

@@ -64,6 +64,7 @@ fn conclude<K: Keeper>(
         Concludes limits d name.now summary found moment lane.new result }
     ensures runs { LaneRuns lane.old lane.new result }
 {
+    // (a law, and no work: its clause is for the proof)
     leaves_and_reports_fit();
     match lane.conclude(alloc, summary, found, moment) {
         Ok(verdict) => told(answer_line(alloc, name, summary, &verdict)),

@@ -153,6 +153,7 @@ impl Document {
         ensures number { IfOk result (λ given. IfSome given (λ job. IsUpTo most job.summary)) }
         ensures reference { IfOk result (λ given. IfSome given (λ job. job.reference ≤ job.summary)) }
     {
+        // (read for its clause alone)
         let _last = self.core.seq();
         self.core.job(alloc)
     }

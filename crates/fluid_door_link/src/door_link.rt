@@ -11,13 +11,13 @@ ghost use Rattle.fluid_door_link.specs.Failing.{IsTreeCounted};
 use crate::answers::{answered, counted, few, note, picked};
 use crate::calling::{enter, get, put, read};
 use crate::course::{Begun, Course};
-use crate::handles::{handles_in, keep};
+use crate::handles::keep;
 use crate::notes::Notes;
 use crate::told_objects::ToldObjects;
 use fluid_json::{Bytes, NoMemory};
 use fluid_lane::Lane;
 use fluid_loader::laws::picked_numbers_are_within;
-use fluid_loader::{Given, Link, LinkFault, Pick};
+use fluid_loader::{Given, Link, LinkFault, Pick, handles_in};
 use fluid_log::Keeper;
 use fluid_orders::orders_are_told;
 use fluid_store::Objects;
@@ -115,6 +115,7 @@ impl<'a, K: Keeper, O: Objects, W: Begun> Link for DoorLink<'a, K, O, W> {
         if self.course.is_stopped() {
             return Err(LinkFault::NoMemory);
         }
+        // (a law, and no work: its clause is for the proof)
         picked_numbers_are_within();
         orders_are_told();
         self.course.know();

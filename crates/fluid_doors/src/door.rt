@@ -19,7 +19,7 @@ ghost use Rattle.fluid_doors.specs.Collecting.{Collects, IsEventUnder, gathered}
 ghost use Rattle.fluid_doors.specs.Looking.{IsLook, Looks};
 
 use crate::bench::Bench;
-use crate::closing::{
+use crate::finishing::{
     close_entered, close_joined, close_read, close_restarted, close_stored, close_swept,
 };
 use fluid_cast::Cursor;

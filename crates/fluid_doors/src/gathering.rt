@@ -36,7 +36,9 @@ pub(crate) fn gather<K: Keeper>(
     ensures says { (l : List AStep) → LaneStands lane.old l → IsTailOf (terms_of lane.old).told tail.old l →
         (atmost : ℕ) → to ≡ from + min atmost (lane.old.entries.state.sequencer.sequence + 1 - from) → Collects gathered (terms_of lane.old) from atmost result l }
 {
+    // (a law, and no work: its clause is for the proof)
     lanes_say_their_ledgers();
+    // (read for its clause alone)
     let _last = lane.seq();
     read_up_to(alloc, lane, tail, from, to)?;
     let event = EventText::of(alloc, name, tail, from, to);
@@ -64,6 +66,7 @@ fn read_up_to<K: Keeper>(
     ensures reads { (l : List AStep) → LaneStands lane.old l → IsTailOf (terms_of lane.old).told tail.old l → ReadsUpTo (terms_of lane.old) from to tail.new result l }
 {
     lanes_say_their_ledgers();
+    // (read for its clause alone)
     let _last = lane.seq();
     begin(alloc, tail, from);
     let end = tail.end();
@@ -85,6 +88,7 @@ fn begin(alloc: Global, tail: &mut Tail, from: u64)
     requires { tail.old.from ≤ from }
     ensures { Begins tail.old tail.new from }
 {
+    // (read for its clause alone)
     let _first = tail.from();
     if from <= tail.end() {
         return;

@@ -46,6 +46,7 @@ impl<K: Keeper> Bench<K> {
         ensures gate { IsGated self.old.lane self.new.lane (is_full_for self.old.lane raw.now ∷ []) IsOutside result }
         ensures says { (l : List AStep) → LaneStands self.old.lane l → Submits (terms_of self.old.lane) raw.now result l }
     {
+        // (a law, and no work: its clause is for the proof)
         lanes_say_their_ledgers();
         self.lane.submit(alloc, raw)
     }
@@ -67,6 +68,7 @@ impl<K: Keeper> Bench<K> {
         ensures says { (l : List AStep) → LaneStands self.old.lane l → Joins (terms_of self.old.lane) scopes detail moment (with_id result) l }
     {
         lanes_say_their_ledgers();
+        // (read for its clause alone)
         let _number = self.lane.entered();
         let _last = self.lane.seq();
         self.lane.join(alloc, scopes, detail, moment)

@@ -7,11 +7,11 @@
 //! - `looking`: what a lane answers to an act that enters nothing.
 //! - `scribing`: what a door does about a summary that is pending; `ends`: how that ends.
 //! - `laws`: what holds of passes and of new keepers.
-//! - `closing`: how a door's call enters its step and gives the turn back.
+//! - `finishing`: how a door's call enters its step and gives the turn back.
 #![tactic(auto)]
 
 mod bench;
-mod closing;
+mod finishing;
 mod door;
 mod ends;
 mod gathering;

@@ -29,6 +29,7 @@ pub(crate) fn messages_asked<K: Keeper>(
     ensures goes { Continues lane.old lane.new (range_steps result) }
     ensures says { (l : List AStep) → LaneStands lane.old l → Looks (terms_of lane.old) (act.Deltas from to) result l }
 {
+    // (a law, and no work: its clause is for the proof)
     lanes_say_their_ledgers();
     match range_asked(lane.seq(), from, to) {
         Ok((first, end)) => messages(alloc, lane, first, end),

@@ -8,7 +8,7 @@ ghost use Rattle.fluid_doors.specs.Entering.{Reports};
 ghost use Rattle.fluid_doors.specs.Scribing.{IsJobOf, Scribes};
 ghost use Rattle.fluid_store.specs.Keeping.{Counts};
 
-use crate::closing::{close, close_entered};
+use crate::finishing::{close, close_entered};
 use crate::door::{Door, Pass};
 use crate::ends::{ScribeEnd, ScribeFault, of_lane, of_store};
 use fluid_json::NoMemory;
@@ -87,6 +87,7 @@ impl<K: Keeper> Door<K> {
         requires moment { moment ≤ most }
         ensures { Grows pass result.0 (steps_of (entered_by (Raw.Report summary found moment)) result.1) (Reports self.now.turn.fixed (Raw.Report summary found moment) result.1) }
     {
+        // (a law, and no work: its clause is for the proof)
         leaves_and_reports_fit();
         let mut held = self.turn().take_noted(rt, pass);
         let answer = held.value.conclude(alloc, summary, found, moment);

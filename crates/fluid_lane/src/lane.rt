@@ -98,6 +98,7 @@ impl<K: Keeper> Lane<K> {
         ensures few { result ≤ self.now.entries.entered }
         ensures bound { result ≤ most }
     {
+        // (read for its clause alone)
         let _entered = self.document.entered();
         self.document.seq()
     }

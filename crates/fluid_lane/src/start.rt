@@ -122,6 +122,7 @@ pub(crate) fn joined_id(
 {
     match document.clients().id_at(place) {
         Some(id) => {
+            // (read for its clause alone)
             let _name = id.as_str();
             id.copy(alloc)
         }

@@ -1,5 +1,5 @@
 -- The documents that are open, by name, and the shelves from which their keepers are out.
-use Rattle.std.specs.Prelude.{◌≡◌, ℕ, ◌≤◌, Bool, List, Option, is_some, IsSome, refl}
+use Rattle.std.specs.Prelude.{◌≡◌, ℕ, ◌≤◌, Bool, List, Option, is_some, refl}
 use Rattle.std.specs.Coded.{Coded, code_by, coded×, coded_ℕ, coded_bool, coded_option}
 use Rattle.std.specs.FinMap.{empty, get, insert, len}
 use Rattle.fluid_table.specs.Table.{Values, values_code}
@@ -35,10 +35,6 @@ abbrev pub opened_code : Coded Opened
 opened_code =
     code_by (Shelving × (Values Standing × Limits)) (coded× shelving_code (coded× (values_code Standing lane_code) limits.the_row.coded))
     (λ o. (o.shelving, (o.lanes, o.limits))) (λ p. record { shelving = p.0; lanes = p.1.0; limits = p.1.1 }) (λ _. refl)
-
--- the document is open
-abbrev pub IsOpen : Opened → List ℕ → Type 0
-IsOpen o name = IsSome (get o.lanes name)
 
 -- no document is open
 abbrev pub nothing_open : Shelving → Limits → Opened

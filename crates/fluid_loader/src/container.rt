@@ -78,6 +78,7 @@ impl Container {
         containers_stay_based();
         honest_summaries_are_read();
         honest_summaries_are_replayed();
+        // (a law, and no work: its clause is for the proof)
         picked_numbers_are_within();
         link.id();
         let mut container = begin(alloc, link, pick)?;

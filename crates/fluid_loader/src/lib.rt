@@ -25,5 +25,5 @@ mod version;
 pub use container::Container;
 pub use fault::LoadFault;
 pub use link::{Given, Link, LinkFault, Pick};
-pub use list_link::ListLink;
+pub use list_link::{ListLink, handles_in};
 pub use order::Order;

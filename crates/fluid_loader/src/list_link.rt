@@ -63,6 +63,7 @@ impl Link for ListLink {
     }
 
     fn summary(&mut self, _alloc: Global, pick: &Pick) -> Result<Option<SummaryRef>, LinkFault> {
+        // (a law, and no work: its clause is for the proof)
         picked_numbers_are_within();
         if self.plan.fails() {
             return Err(LinkFault::Failed);
@@ -254,8 +255,8 @@ fn keep(counts: &mut Vec<u64>, count: u64) -> bool
     counts.push(count).is_ok()
 }
 
-// How many of the nodes of a tree are handles.
-fn handles_in(tree: &Node) -> u64
+/// How many of the nodes of a tree are handles. Takes no memory.
+pub fn handles_in(tree: &Node) -> u64
     ensures { result ≡ count_handles tree.now }
 {
     match tree.as_tree() {

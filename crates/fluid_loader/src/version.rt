@@ -249,6 +249,7 @@ fn quorum_in(alloc: Global, node: &Node, number: u64) -> Result<Quorum, LoadFaul
     ensures fresh { IfOk result (λ q. q.number ≡ number) }
     ensures answer { IsAnswer result (quorum_answer number node.now) }
 {
+    // (a law, and no work: its clause is for the proof)
     attributes_are_read();
     if !node.is_tree() {
         return Err(bad(alloc, PROTOCOL));

@@ -20,6 +20,7 @@ pub(crate) fn print(alloc: Global, entries: &SortedMap<Text, Json>) -> Result<By
     ensures reads_back { IfOk result (λ blob. All (λ value. depth value ≤ 99) (values entries.now.values) →
         answer blob ≡ Ok (record { acknowledged = entries.now.values; pending = [] })) }
 {
+    // (a law, and no work: its clause is for the proof)
     printed_is_read_back();
     let text = print_pairs(alloc, entries.as_slice())?;
     Ok(Bytes::new(text.into_string().into_bytes()))

@@ -140,7 +140,7 @@ said_by form tree_of s = do
   a ← form t
   if bytes_eq (printed (tree_of a)) s then Some a else None
 
--- a blob, or the fault that names it
+-- what the blob of this name says, where it is in its form
 abbrev pub blob_in : {A : Type 0} → Summary → QuorumBlob → (Tree → Option A) → (A → Tree) → Option A
 blob_in t b form tree_of = do
   s ← text_in t b

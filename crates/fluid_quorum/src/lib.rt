@@ -23,5 +23,5 @@ mod writing;
 pub use accepting::KeyValue;
 pub use fluid_types::{Accepted, BlobFault, Member, Proposal, QuorumBlob};
 pub use quorum::Quorum;
-pub use reading::number_in;
+pub use reading::{number_in, text_in};
 pub use state::{Acks, Minima, ScribeState};

@@ -75,8 +75,9 @@ fn bad_blob(alloc: Global, blob: QuorumBlob) -> BlobFault
 
 // ---- the text of a blob
 
+/// The text of one of the four blobs of a tree, where the tree has it and it is UTF-8. Takes no memory.
 #[tactic(auto, unfolding(crate::specs::Reading::text_in))]
-fn text_in(tree: &Node, blob: QuorumBlob) -> Option<&str>
+pub fn text_in(tree: &Node, blob: QuorumBlob) -> Option<&str>
     ensures { option_map (λ s. s.now) result ≡ text_in tree.now blob }
 {
     let entries = tree.as_tree()?;

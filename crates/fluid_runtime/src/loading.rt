@@ -184,6 +184,7 @@ fn counter_in(alloc: Global, content: &[u8]) -> Result<Option<Object>, NoMemory>
     ensures object { IfOk result (λ object. option_map channel_of_object object ≡ channel_in ChannelKind.Counter content.now) }
     ensures quiet { IfOk result (λ object. IfSome object (IsQuiet 0)) }
 {
+    // (a law, and no work: its clause is for the proof)
     only_content_is_read();
     match SharedCounter::from_blob(alloc, content) {
         Ok(counter) => Ok(Some(Object::Counter(counter))),

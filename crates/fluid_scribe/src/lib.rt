@@ -31,3 +31,4 @@ pub use fluid_tree::SummaryRef;
 pub use job::Job;
 pub use ready::ScribeReady;
 pub use scribe::Scribe;
+pub use version::version_entries;

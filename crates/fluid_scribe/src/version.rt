@@ -26,7 +26,7 @@ pub(crate) fn version(alloc: Global, app: Id, state: &Node) -> Result<Id, NoMemo
     ensures { (q : AQuorum) → state.now ≡ protocol (blobs_of q) → IfOk result (λ id. id ≡ version app (blobs_of q)) }
 {
     let state = id_of_tree(alloc, state)?;
-    let entries = two_entries(alloc, app, state)?;
+    let entries = version_entries(alloc, app, state)?;
     let bytes = bytes_of(alloc, &Object::Tree(entries))?;
     Ok(Id::of(bytes.as_slice()))
 }
@@ -55,8 +55,8 @@ fn bytes_of(alloc: Global, object: &Object) -> Result<Bytes, NoMemory>
     }
 }
 
-// The entries of a version.
-fn two_entries(alloc: Global, app: Id, state: Id) -> Result<ObjectEntries, NoMemory>
+/// The entries of the tree of a version: the tree of the app and that of the quorum, by their ids.
+pub fn version_entries(alloc: Global, app: Id, state: Id) -> Result<ObjectEntries, NoMemory>
     ensures { IfOk result (λ entries. entries ≡ tree_entry (codes ".app") app ∷ tree_entry (codes ".protocol") state ∷ []) }
 {
     let mut entries = ObjectEntries::new(alloc);

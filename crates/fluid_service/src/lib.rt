@@ -4,14 +4,14 @@
 //! What the documents share is a shelf: the shelves of their keepers, and the visits of the open documents. It stands in a turn of
 //! its own, which is taken for a look-up and an opening alone; whatever is done to a document is done under its own door.
 //!
-//! - `service`: the service, and the keys of it. `closing`: how a call enters its step and gives the shelf back. `ending`: how all
+//! - `service`: the service, and the keys of it. `finishing`: how a call enters its step and gives the shelf back. `ending`: how all
 //!   documents are closed.
 //! - `shelf`: what is done by whoever has the shelf in hand, by the list of steps for which it stands. `terms`: what never changes of a service.
 //! - `visit`: a door with a pass of it. `roll`: the visits by name. `opening`: how a door is made. `laws`: with
 //!   which shelves a service may begin, and what holds of every key.
 #![tactic(auto)]
 
-mod closing;
+mod finishing;
 mod ending;
 mod laws;
 mod opening;

@@ -8,7 +8,7 @@ ghost use Rattle.fluid_service.specs.Shelved.{AreKept, GiveKept, shelf_terms};
 ghost use Rattle.fluid_service.specs.Keys.{Passes, Reaches};
 ghost use Rattle.fluid_service.specs.Closing.{Closes};
 
-use crate::closing::{close, open_new};
+use crate::finishing::{close, open_new};
 use crate::shelf::Shelf;
 use crate::visit::Visit;
 use fluid_json::NoMemory;

@@ -181,12 +181,14 @@ where
         ensures starts { StartsVisit name.now moment self.old self.new result }
     {
         kept_is_loaded();
+        // (a law, and no work: its clause is for the proof)
         new_keepers_are_kept();
         self.visits.reserve()?;
         let key = text_of(alloc, name)?;
         let own = name.copy(alloc)?;
         let named = name.copy(alloc)?;
         let lane = start_lane(alloc, &mut self.shelves, name, self.limits, moment)?;
+        // (read for its clause alone)
         let _number = lane.number();
         match open_door(rt, alloc, named, lane) {
             Ok((first, second)) => {

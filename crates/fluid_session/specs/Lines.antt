@@ -293,7 +293,7 @@ pub record NacksInOrder (events : List Event) : Type 0 where
   pub front : IsPrefix (nacks_in (answered_in events)) (nacks_of (steps_of events))
   pub all : AreWhole events → nacks_in (answered_in events) ≡ nacks_of (steps_of events)
 
--- no fault ended it, and memory wasn't wanting
+-- the texts ended, one was too long, or too many were unread
 abbrev pub IsQuietEnd : SessionEnd → Type 0
 IsQuietEnd Closed = ⊤
 IsQuietEnd (TooLong size) = ⊤

@@ -9,7 +9,7 @@ ghost use Rattle.fluid_session.specs.Whole.{Serves, Ends};
 
 use crate::report::{Report, SessionEnd};
 use crate::tally::Tally;
-use crate::turning::{end_of, turn};
+use crate::turning::{cycle, end_of};
 use fluid_ends::TalkFault;
 use fluid_io::Clock;
 use fluid_lines::Wire;
@@ -71,8 +71,8 @@ fn run<R: Wait, T: Conversation, O: Objects, W: Wire, C: Clock>(
     ensures service { T.belongs talk.new service.now }
     ensures does { Runs (record { talk = T.seen talk.old; store = O.seen objects.old }) (record { talk = T.seen talk.new; store = O.seen objects.new }) (W.seen wire.old) (W.seen wire.new) tally.old tally.new (Err result) }
 {
-    'turns: for _ in rt.forever() {
-        match turn(rt, alloc, service, objects, wire, clock, talk, tally) {
+    'cycles: for _ in rt.forever() {
+        match cycle(rt, alloc, service, objects, wire, clock, talk, tally) {
             Ok(()) => {}
             Err(end) => return end,
         }

@@ -1,10 +1,10 @@
-// One turn of a session.
+// One cycle of a session.
 ghost use Rattle.std.specs.Prelude.{◌≡◌, ◌<◌, ◌≤◌, false, length, OnOk, if◌then◌else◌};
 ghost use Rattle.fluid_types.specs.Forms.{largest};
 ghost use Rattle.fluid_readback.specs.Laws.{longest_text};
 ghost use Rattle.fluid_store.specs.Storing.{Storing};
 ghost use Rattle.fluid_lines.specs.Wires.{Wiring, ReceivesText};
-ghost use Rattle.fluid_voice.specs.States.{is_connected, is_used};
+ghost use Rattle.fluid_voice.specs.States.{is_used};
 ghost use Rattle.fluid_voice.specs.Replies.{has_front_nack};
 ghost use Rattle.fluid_session.specs.declared.tally.Tally.{Tally as Counts};
 ghost use Rattle.fluid_session.specs.Ends.{end_of, wire_end, behind_text, most_unread};
@@ -22,12 +22,12 @@ use fluid_lane::LaneFault;
 use fluid_lines::{Recv, Wire, WireFault};
 use fluid_store::{Objects, StoreFault};
 use fluid_talk::{Conversation, Heard};
-use fluid_voice::{VoiceState, has_front_nack};
+use fluid_voice::{VoiceState, has_front_nack, is_connected};
 use std::alloc::Global;
 use std::sync::Wait;
 
 /// Collects and sends what wasn't delivered, receives a text, hears it and sends the replies.
-pub(crate) fn turn<R: Wait, T: Conversation, O: Objects, W: Wire, C: Clock>(
+pub(crate) fn cycle<R: Wait, T: Conversation, O: Objects, W: Wire, C: Clock>(
     rt: &R,
     alloc: Global,
     service: &T::Service,
@@ -159,17 +159,6 @@ fn follow<R: Wait, W: Wire>(rt: &R, wire: &mut W, apart: bool, state: &VoiceStat
         VoiceState::Reading(name, _) => wire.follow(rt, name.as_str()),
         VoiceState::Writing(name, _, _) => wire.follow(rt, name.as_str()),
         VoiceState::Used => {}
-    }
-}
-
-fn is_connected(state: &VoiceState) -> bool
-    ensures { result ≡ is_connected state.now }
-{
-    match state {
-        VoiceState::Fresh => false,
-        VoiceState::Reading(_, _) => true,
-        VoiceState::Writing(_, _, _) => true,
-        VoiceState::Used => false,
     }
 }
 

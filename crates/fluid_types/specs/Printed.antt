@@ -142,9 +142,6 @@ nack_rows n =
 abbrev pub nack_tree : Nack → Tree
 nack_tree n = object (members (nack_rows n))
 
-abbrev pub nack_printed : Nack → List ℕ
-nack_printed n = json.printed (nack_tree n)
-
 -- ---- verdict lines
 
 -- the client of a raw entry; a report has none

@@ -1,13 +1,14 @@
 // The objects of a version.
-ghost use Rattle.std.specs.Prelude.{◌≡◌, [], ◌∷◌, IfOk, map, codes};
+ghost use Rattle.std.specs.Prelude.{◌≡◌, IfOk, map};
 ghost use Rattle.fluid_tree.specs.Summary.{children};
 ghost use Rattle.fluid_tree.specs.Object.{object_bytes};
 ghost use Rattle.fluid_tree.specs.declared.object.Object.{Object as AnObject};
-ghost use Rattle.fluid_rules.specs.Scribe.{blob_entry, tree_entry};
+ghost use Rattle.fluid_rules.specs.Scribe.{blob_entry};
 ghost use Rattle.fluid_store.specs.Listed.{object_of};
 ghost use Rattle.fluid_versions.specs.Versions.{blobs_in, content_of, contents, version_objects};
 
 use fluid_json::{NoMemory, Text};
+use fluid_scribe::version_entries;
 use fluid_store::StoredObject;
 use fluid_tree::{Id, Node, ObjectEntries, ObjectEntry, blob_bytes, tree_bytes};
 use std::alloc::Global;
@@ -91,26 +92,6 @@ fn entry_of(alloc: Global, name: &Text, node: &Node) -> Result<ObjectEntry, NoMe
         tree: false,
         id,
     })
-}
-
-// The entries of a version's tree.
-fn version_entries(alloc: Global, app: Id, state: Id) -> Result<ObjectEntries, NoMemory>
-    ensures { IfOk result (λ entries. entries ≡ tree_entry (codes ".app") app ∷ tree_entry (codes ".protocol") state ∷ []) }
-{
-    let mut entries = ObjectEntries::new(alloc);
-    let name = Text::copied(alloc, ".app")?;
-    entries.push(ObjectEntry {
-        name,
-        tree: true,
-        id: app,
-    })?;
-    let name = Text::copied(alloc, ".protocol")?;
-    entries.push(ObjectEntry {
-        name,
-        tree: true,
-        id: state,
-    })?;
-    Ok(entries)
 }
 
 // The object of a tree with these entries.

@@ -49,7 +49,8 @@ fn is_used(state: &VoiceState) -> bool
     }
 }
 
-fn is_connected(state: &VoiceState) -> bool
+/// Whether a connection in this state is connected to a document. Takes no memory.
+pub fn is_connected(state: &VoiceState) -> bool
     ensures { result ≡ is_connected state.now }
 {
     match state {

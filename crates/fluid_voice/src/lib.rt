@@ -25,6 +25,7 @@ pub use actions::{Act, Acts};
 pub use answering::{MOST_IN_EVENT, Replies, front_nack, has_front_nack, is_front_nack};
 pub use ends::ActEnd;
 pub use fluid_codec::{Asked, Reply};
+pub use hearing::is_connected;
 pub use orders::{out_of_range, range_asked, summary_asked};
 pub use refusals::ConnectRefusal;
 pub use states::VoiceState;

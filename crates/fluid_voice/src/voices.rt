@@ -314,6 +314,7 @@ fn leave(alloc: Global, id: &ClientId, moment: u64) -> Result<Option<Act>, NoMem
     ensures fit { moment ≤ largest → IfOk result (λ entry. IfSome entry IsFitting) }
 {
     let id = id.copy(alloc)?;
+    // (read for its clause alone)
     let _name = id.as_str();
     Ok(Some(Act::Enter(Raw::Leave { id, moment })))
 }

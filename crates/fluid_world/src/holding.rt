@@ -54,6 +54,7 @@ where
     ensures counts { objects.old.faults ≤ objects.new.faults }
     ensures numbers { OnOk result ((n : ℕ) → AreCounted n names.old.table.values → AreCounted (n + 1) names.new.table.values) }
 {
+    // (a law, and no work: its clause is for the proof)
     steps_leave_others();
     others_leave_containers();
     containers_stay_based();

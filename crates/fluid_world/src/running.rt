@@ -130,6 +130,7 @@ where
         (record { source = S.seen input.old; sink = K.seen output.old; shelves = B.seen shelves; store = O.seen objects })
         (record { source = S.seen input.new; sink = K.seen output.new; shelves = B.seen result.1; store = O.seen result.2 }) result.0) }
 {
+    // (a law, and no work: its clause is for the proof)
     desks_come_back();
     faults_are_counted();
     one_line_more();

@@ -104,6 +104,7 @@ where
         ensures takes { (w : World) → ScriptStands self.old w →
             TakesBy (text_refusal w text.now) w (taken self.old.lanes.limits w text.now) self.old.speaks self.new waiting.old.items waiting.new.items result }
     {
+        // (a law, and no work: its clause is for the proof)
         ops_are_short();
         owned_stays_owned();
         if text.is_empty() {

@@ -1,5 +1,5 @@
 use Rattle.fluid_session.proofs.Onward.{runs_then, received_text, received_quiet, received_end, received_long, received_failed, received_refused}
-use Rattle.fluid_session.proofs.turning.turn.Goals as goal
+use Rattle.fluid_session.proofs.turning.cycle.Goals as goal
 
 pub returns-in-Ok-Text-clause-does : goal.returns-in-Ok-Text-clause-does
 returns-in-Ok-Text-clause-does g c =

@@ -1,7 +1,7 @@
 use Rattle.std.proofs.Common.{ap, ◌∙◌, ◌++◌, ◌∷◌, []}
 use Rattle.fluid_turn.specs.Entries.{by_seat}
 use Rattle.fluid_service.proofs.Passages.{few_seen_more}
-use Rattle.fluid_service.proofs.closing.close_with.Goals as goal
+use Rattle.fluid_service.proofs.finishing.close_with.Goals as goal
 
 pub returns-clause-few : goal.returns-clause-few
 returns-clause-few g c =

@@ -4,7 +4,7 @@ use Rattle.fluid_opening.specs.Steps.{refusal}
 use Rattle.fluid_service.specs.Shelved.{terms_of}
 use Rattle.fluid_service.proofs.Standings.{has_room}
 use Rattle.fluid_service.proofs.Passages.{refused_steps, refused_new, no_memory_steps}
-use Rattle.fluid_service.proofs.closing.open_new.Goals as goal
+use Rattle.fluid_service.proofs.finishing.open_new.Goals as goal
 
 pub returns-in-Some-clause-key : goal.returns-in-Some-clause-key
 returns-in-Some-clause-key g c =

@@ -1,6 +1,6 @@
 use Rattle.std.proofs.Common.{ap, ◌∙◌}
 use Rattle.fluid_service.proofs.Passages.{few_seen}
-use Rattle.fluid_service.proofs.closing.close.Goals as goal
+use Rattle.fluid_service.proofs.finishing.close.Goals as goal
 
 pub returns-clause-few : goal.returns-clause-few
 returns-clause-few g c =

@@ -28,6 +28,7 @@ fn close_with<B: Shelves>(held: Held<'_, Shelf<B>>, step: &ShelfStep) -> Key<B>
     ensures few { length result.seen ≤ most }
 {
     let mut held = held;
+    // (read for its clause alone)
     let _number = held.value.number();
     held.enter(step);
     held.give()
@@ -41,6 +42,7 @@ pub(crate) fn close<B: Shelves>(held: Held<'_, Shelf<B>>) -> Key<B>
     ensures key { result ≡ held.entry.place.seat }
     ensures few { length result.seen ≤ most }
 {
+    // (read for its clause alone)
     let _number = held.value.number();
     held.give()
 }

@@ -33,6 +33,7 @@ pub(crate) fn close_with<K: Keeper>(held: Held<'_, Bench<K>>, step: &Step) -> Pa
     ensures few { length result.seen ≤ most }
 {
     let mut held = held;
+    // (read for its clause alone)
     let _number = held.value.lane.number();
     held.enter(step);
     held.give()
@@ -46,6 +47,7 @@ pub(crate) fn close<K: Keeper>(held: Held<'_, Bench<K>>) -> Pass<K>
     ensures pass { result ≡ held.entry.place.seat }
     ensures few { length result.seen ≤ most }
 {
+    // (read for its clause alone)
     let _number = held.value.lane.number();
     held.give()
 }
