@@ -21,6 +21,7 @@ commands:
   sequence    order the raw records of one document
   script      do the steps of a script, and write what each says
   load        do the steps of a script, and show a document then
+  workload    do the edits of a stated generator, and write a summary
 
 help:
   fluidd --help            this page
@@ -39,6 +40,7 @@ examples:
   $ fluidd serve 7070
   $ fluidd sequence < records.jsonl > verdicts.jsonl
   $ fluidd script < steps.txt
+  $ fluidd workload 7
 ";
 
 const SEQUENCE: &str = "\
@@ -112,6 +114,34 @@ example:
   d at 10: {\"m\":{\"kind\":\"map\",\"value\":{}}}
 ";
 
+const WORKLOAD: &str = "\
+fluidd workload does the edits of a stated generator on one document, with
+summaries, checkpoints and restarts among them, and writes a summary: how many
+messages there are, how many submissions were dropped, absorbed and nacked, how
+many summaries were acknowledged, the id of what the first container shows, and
+whether a container that is loaded then has the same.
+
+usage: fluidd workload N [--clients C] [--ops K]
+
+  N                  the number from which all is drawn, up to
+                     18,446,744,073,709,551,615
+  --clients C        1 to 1,000 clients; 8 without
+  --ops K            1 to 100,000 ops; 20,000 without
+
+The same words give the same lines. It reads nothing, writes nothing before its
+summary, and keeps all in memory.
+
+example:
+  $ fluidd workload 7
+  messages 17852
+  dropped 2000
+  absorbed 8
+  nacked 200
+  summaries 20
+  state eccde2227a774c0bd650cece3b559e5fec52c2b3
+  loaded same
+";
+
 const SERVE: &str = "\
 fluidd serve takes clients at a port of this machine's own address, 127.0.0.1,
 and puts what they submit to each document into one order, which it sends to all
@@ -151,7 +181,7 @@ fn page_on(name: CommandName) -> Option<&'static str>
         CommandName::Sequence => Some(SEQUENCE),
         CommandName::Script => Some(SCRIPT),
         CommandName::Load => Some(LOAD),
+        CommandName::Workload => Some(WORKLOAD),
         CommandName::Serve => Some(SERVE),
-        _ => None,
     }
 }

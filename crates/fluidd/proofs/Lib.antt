@@ -8,3 +8,5 @@ mod Nothing
 mod Few
 mod Short
 mod Unworn
+mod Worked
+mod Bounded

@@ -46,3 +46,7 @@ none_short id bytes is = absurd (no_object id bytes is)
 
 pub none_own : HoldsOwn empty
 none_own id bytes is = absurd (no_object id bytes is)
+
+-- none of its documents has an entry
+pub no_entry : (name : List ℕ) → (document (first_world empty empty) name).raws ≡ []
+no_entry name = ap (λ o. (unwrap_or o new_document).raws) (get-empty byte_order name)

@@ -10,7 +10,7 @@ use Rattle.fluidd.specs.declared.task.Task.{Task as Taken}
 use Rattle.fluidd.specs.declared.task.Task.TheVariants as taken
 use Rattle.fluidd.specs.Output.{code_of}
 use Rattle.fluidd.specs.Served.{ServesConnections, served_status}
-use Rattle.fluidd.specs.Tasks.{Task, Doing, Showing, Usage, IsTask, IsServing, scripting, IsScripting, IsReading, UsesDesk}
+use Rattle.fluidd.specs.Tasks.{Task, Doing, Showing, Usage, IsTask, IsServing, scripting, IsScripting, IsReading, IsWorking, UsesDesk}
 
 -- ---- statuses
 
@@ -72,6 +72,7 @@ abbrev asked : Taken → Task
 asked taken.Sequence = Doing Sequence
 asked taken.Script = Doing Script
 asked (taken.Load document) = Doing (Load document)
+asked (taken.Workload number clients ops) = Doing (Workload number clients ops)
 asked (taken.Serve port connections lines) = Doing (Serve port connections lines)
 asked (taken.Show status text) = Usage
 
@@ -80,7 +81,7 @@ pub serving : (t : Task) (port connections : ℕ) (lines : Bool) → IsTask t (t
 serving (Doing Sequence) port connections lines h = sym (ap asked h)
 serving (Doing Script) port connections lines h = sym (ap asked h)
 serving (Doing (Load document)) port connections lines h = sym (ap asked h)
-serving (Doing (Workload number clients ops)) port connections lines h = absurd h
+serving (Doing (Workload number clients ops)) port connections lines h = sym (ap asked h)
 serving (Doing (Serve p c l)) port connections lines h = sym (ap asked h)
 serving (Doing (Help topic)) port connections lines h = absurd h
 serving (Doing Version) port connections lines h = absurd h
@@ -104,7 +105,8 @@ scripted (Doing Script) None h = refl
 scripted (Doing Script) (Some document) h = sym (ap asked h)
 scripted (Doing (Load other)) None h = sym (ap asked h)
 scripted (Doing (Load other)) (Some document) h = sym (ap asked h)
-scripted (Doing (Workload number clients ops)) load h = absurd h
+scripted (Doing (Workload number clients ops)) None h = sym (ap asked h)
+scripted (Doing (Workload number clients ops)) (Some document) h = sym (ap asked h)
 scripted (Doing (Serve p c l)) None h = sym (ap asked h)
 scripted (Doing (Serve p c l)) (Some document) h = sym (ap asked h)
 scripted (Doing (Help topic)) load h = absurd h
@@ -153,9 +155,49 @@ abbrev is_scripted : Taken → Bool
 is_scripted taken.Sequence = false
 is_scripted taken.Script = true
 is_scripted (taken.Load document) = true
+is_scripted (taken.Workload number clients ops) = false
 is_scripted (taken.Serve port connections lines) = false
 is_scripted (taken.Show status text) = false
 
 pub scripted_then : (t : Task) (load : Option (List ℕ)) (done : Taken) → IsTask t done → t ≡ Doing (scripting load) → is_scripted done ≡ true
 scripted_then t None done h is = ap is_scripted (subst (λ t. IsTask t done) is h)
 scripted_then t (Some document) done h is = ap is_scripted (subst (λ t. IsTask t done) is h)
+
+-- where a workload is done it was asked for
+pub working : (t : Task) (number clients ops : ℕ) → IsTask t (taken.Workload number clients ops) → t ≡ Doing (Workload number clients ops)
+working (Doing Sequence) number clients ops h = sym (ap asked h)
+working (Doing Script) number clients ops h = sym (ap asked h)
+working (Doing (Load document)) number clients ops h = sym (ap asked h)
+working (Doing (Workload n c k)) number clients ops h = sym (ap asked h)
+working (Doing (Serve p c l)) number clients ops h = sym (ap asked h)
+working (Doing (Help topic)) number clients ops h = absurd h
+working (Doing Version) number clients ops h = absurd h
+working (Showing text) number clients ops h = absurd h
+working Usage number clients ops h = absurd h
+
+pub is_working : (t : Task) (number clients ops : ℕ) → t ≡ Doing (Workload number clients ops) → IsWorking t
+is_working t number clients ops is = subst IsWorking (sym is) tt
+
+-- it uses the desk
+pub works_on_desk : (t : Task) (number clients ops : ℕ) → t ≡ Doing (Workload number clients ops) → UsesDesk t
+works_on_desk t number clients ops is = subst UsesDesk (sym is) tt
+
+-- one of two workloads is asked for, and it is this one
+abbrev work_in : Task → ℕ × (ℕ × ℕ)
+work_in (Doing (Workload number clients ops)) = (number, (clients, ops))
+work_in other = (0, (0, 0))
+
+pub as_worked : (t : Task) (number clients ops n c k : ℕ) → IsTask t (taken.Workload number clients ops) → t ≡ Doing (Workload n c k) → ◌≡◌ {A = ℕ × (ℕ × ℕ)} (number, (clients, ops)) (n, (c, k))
+as_worked t number clients ops n c k h is = ap work_in (sym (working t number clients ops h) ∙ is)
+
+-- where a workload is asked for it is done
+abbrev is_worked : Taken → Bool
+is_worked taken.Sequence = false
+is_worked taken.Script = false
+is_worked (taken.Load document) = false
+is_worked (taken.Workload number clients ops) = true
+is_worked (taken.Serve port connections lines) = false
+is_worked (taken.Show status text) = false
+
+pub worked_then : (t : Task) (number clients ops : ℕ) (done : Taken) → IsTask t done → t ≡ Doing (Workload number clients ops) → is_worked done ≡ true
+worked_then t number clients ops done h is = ap is_worked (subst (λ t. IsTask t done) is h)

@@ -5,3 +5,4 @@ pub mod Documents
 pub mod Served
 pub mod Tasks
 pub mod Scripts
+pub mod Workloads

@@ -53,14 +53,16 @@ abbrev pub IsShown : Status → List ℕ → Taken → Type 0
 IsShown status text taken.Sequence = ⊥
 IsShown status text taken.Script = ⊥
 IsShown status text (taken.Load document) = ⊥
+IsShown status text (taken.Workload number clients ops) = ⊥
 IsShown status text (taken.Serve port connections lines) = ⊥
 IsShown status text (taken.Show its_status its_text) = (its_status ≡ status) × (its_text.now ≡ text)
 
--- what is done is what is asked for; of the commands all but `workload` are done, so that one may not be built
+-- what is done is what is asked for
 abbrev pub IsTask : Task → Taken → Type 0
 IsTask (Doing Sequence) done = done ≡ taken.Sequence
 IsTask (Doing Script) done = done ≡ taken.Script
 IsTask (Doing (Load document)) done = done ≡ taken.Load document
+IsTask (Doing (Workload number clients ops)) done = done ≡ taken.Workload number clients ops
 IsTask (Doing (Serve port connections lines)) done = done ≡ taken.Serve port connections lines
 IsTask (Doing command) done = ⊥
 IsTask (Showing text) done = IsShown status.Done text done
@@ -81,6 +83,11 @@ IsScripting (Doing Script) = ⊤
 IsScripting (Doing (Load document)) = ⊤
 IsScripting other = ⊥
 
+-- the words ask for `workload`
+abbrev pub IsWorking : Task → Type 0
+IsWorking (Doing (Workload number clients ops)) = ⊤
+IsWorking other = ⊥
+
 -- they ask for a command that reads the input, and for one that uses the desk
 abbrev pub IsReading : Task → Type 0
 IsReading (Doing Sequence) = ⊤
@@ -91,6 +98,7 @@ IsReading other = ⊥
 abbrev pub UsesDesk : Task → Type 0
 UsesDesk (Doing Script) = ⊤
 UsesDesk (Doing (Load document)) = ⊤
+UsesDesk (Doing (Workload number clients ops)) = ⊤
 UsesDesk (Doing (Serve port connections lines)) = ⊤
 UsesDesk other = ⊥
 

@@ -8,9 +8,11 @@ ghost use Rattle.fluid_serve.specs.Desks.{AreReady, ShelvesComeBack};
 ghost use Rattle.fluidd.specs.Input.{full};
 ghost use Rattle.fluidd.specs.Output.{Sequences, Shows, code_of};
 ghost use Rattle.fluidd.specs.Served.{ServesConnections, served_status};
-ghost use Rattle.fluid_words.specs.declared.command.Command.TheVariants.{Sequence, Serve};
+ghost use Rattle.fluid_words.specs.declared.command.Command.TheVariants.{Sequence, Serve, Workload};
 ghost use Rattle.fluidd.specs.Scripts.{Scripts, script_status};
-ghost use Rattle.fluidd.specs.Tasks.{Doing, IsPage, IsReading, IsScripting, IsServing, Showing, Usage, UsesDesk, scripting, task_of, usage_line};
+ghost use Rattle.fluidd.specs.Workloads.{Summarizes, IsBetween};
+ghost use Rattle.fluid_load.specs.Ending.{IsNewDeskOf, outside};
+ghost use Rattle.fluidd.specs.Tasks.{Doing, IsPage, IsReading, IsScripting, IsServing, IsWorking, Showing, Usage, UsesDesk, scripting, task_of, usage_line};
 
 use crate::sequence::sequence_within;
 use crate::status::Status;
@@ -18,6 +20,7 @@ use crate::task::{Task, read_task};
 use fluid_front::{Front, FrontEnd, Spawner};
 use fluid_io::{Clock, Failed, Sink, Source};
 use fluid_json::{NoMemory, Text};
+use fluid_load::workload;
 use fluid_log::Shelves;
 use fluid_pipe::write_out;
 use fluid_rules::Limits;
@@ -32,8 +35,8 @@ use std::thread::Threads;
 
 /// Runs the command that the words ask for, which are those behind the program's name, and gives the exit status. Words
 /// that ask for a page get it, and words that ask for nothing the usage line; the input isn't touched then. The desk, the front
-/// and the spawner come back: `serve` uses all of them, `script` and `load` the desk. What these write is said of a world that the
-/// desk tells.
+/// and the spawner come back: `serve` uses all of them, `script`, `load` and `workload` the desk. What these write is said of a world
+/// that the desk tells.
 pub fn run<R, S, K, B, O, C, F, P>(
     rt: &R,
     alloc: Global,
@@ -59,11 +62,15 @@ where
     requires whole { IsScripting (task_of words.now) → AreWhole (B.seen desk.shelves) }
     requires told { IsScripting (task_of words.now) → IfSome told (IsDeskOf (B.seen desk.shelves) (O.seen desk.objects)) }
     requires ready { IsServing (task_of words.now) → AreReady B.K.seen (B.seen desk.shelves) }
+    requires new { IsWorking (task_of words.now) → AreWhole (B.seen desk.shelves) × IfSome told (IsNewDeskOf (B.seen desk.shelves) (O.seen desk.objects)) }
     ensures sequence { task_of words.now ≡ Doing Sequence →
         Sequences full (S.seen input.old) (K.seen output.old) (S.seen input.new) (K.seen output.new) result.0 }
     ensures script { (load : Option (List ℕ)) → task_of words.now ≡ Doing (scripting load) →
         Scripts told load (record { source = S.seen input.old; sink = K.seen output.old; shelves = B.seen desk.shelves; store = O.seen desk.objects })
         (record { source = S.seen input.new; sink = K.seen output.new; shelves = B.seen result.1.shelves; store = O.seen result.1.objects }) result.0 }
+    ensures workload { (number clients ops : ℕ) → task_of words.now ≡ Doing (Workload number clients ops) →
+        Summarizes told number clients ops (outside (K.seen output.old) (B.seen desk.shelves) (O.seen desk.objects))
+        (outside (K.seen output.new) (B.seen result.1.shelves) (O.seen result.1.objects)) result.0 }
     ensures serve { (port connections : ℕ) (lines : Bool) → task_of words.now ≡ Doing (Serve port connections lines) →
         ServesConnections connections (F.seen front) (P.refusals spawner) (F.seen result.2) (P.refusals result.3) result.0 ×
         (ShelvesComeBack (B.seen desk.shelves) (B.seen result.1.shelves) × (K.seen output.new ≡ K.seen output.old)) }
@@ -90,6 +97,16 @@ where
         }
         Ok(Task::Load(document)) => {
             let (status, desk) = run_script(rt, alloc, input, output, desk, Some(&document));
+            (status, desk, front, spawner)
+        }
+        Ok(
+            Task::Workload {
+                number,
+                clients,
+                ops,
+            },
+        ) => {
+            let (status, desk) = run_workload(rt, alloc, output, desk, number, clients, ops);
             (status, desk, front, spawner)
         }
         Ok(
@@ -147,6 +164,9 @@ where
         Scripts (Some (first_world empty empty)) load (record { source = S.seen input.old; sink = K.seen output.old; shelves = B.seen desk.shelves; store = O.seen desk.objects })
         (record { source = S.seen input.new; sink = K.seen output.new; shelves = B.seen result.1.shelves; store = O.seen result.1.objects }) result.0 }
     ensures stored { IsScripting (task_of words.now) → result.0 ≡ 11 → ⊥ }
+    ensures workload { (number clients ops : ℕ) → task_of words.now ≡ Doing (Workload number clients ops) →
+        Summarizes (Some (first_world empty empty)) number clients ops (outside (K.seen output.old) (B.seen desk.shelves) (O.seen desk.objects))
+        (outside (K.seen output.new) (B.seen result.1.shelves) (O.seen result.1.objects)) result.0 }
     ensures serve { (port connections : ℕ) (lines : Bool) → task_of words.now ≡ Doing (Serve port connections lines) →
         ServesConnections connections (F.seen front) (P.refusals spawner) (F.seen result.2) (P.refusals result.3) result.0 ×
         (ShelvesComeBack (B.seen desk.shelves) (B.seen result.1.shelves) × (K.seen output.new ≡ K.seen output.old)) }
@@ -183,6 +203,42 @@ where
         clock,
     } = desk;
     let (end, shelves, objects) = script(rt, alloc, input, output, shelves, objects, load);
+    let desk = Desk {
+        shelves,
+        objects,
+        clock,
+    };
+    (script_status(&end).code(), desk)
+}
+
+// Does the acts of a workload over a desk, and writes its summary.
+fn run_workload<R, K: Sink, B: Shelves, O: Objects, C>(
+    rt: &R,
+    alloc: Global,
+    output: &mut K,
+    desk: Desk<B, O, C>,
+    number: u64,
+    clients: u32,
+    ops: u32,
+) -> (u8, Desk<B, O, C>)
+where
+    B::K: Drop,
+    ghost told: { Option World }
+    requires clients { IsBetween 1 1_000 clients }
+    requires ops { IsBetween 1 100_000 ops }
+    requires whole { AreWhole (B.seen desk.shelves) }
+    requires told { IfSome told (IsNewDeskOf (B.seen desk.shelves) (O.seen desk.objects)) }
+    ensures { Summarizes told number clients ops (outside (K.seen output.old) (B.seen desk.shelves) (O.seen desk.objects))
+        (outside (K.seen output.new) (B.seen result.1.shelves) (O.seen result.1.objects)) result.0 }
+{
+    let Desk {
+        shelves,
+        objects,
+        clock,
+    } = desk;
+    let (end, shelves, objects) = workload(
+        rt, alloc, output, shelves, objects, number, clients, ops,
+    );
     let desk = Desk {
         shelves,
         objects,

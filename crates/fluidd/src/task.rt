@@ -17,6 +17,12 @@ pub(crate) enum Task {
     Script,
     /// Does them without their lines, and shows a container of this document.
     Load(DocName),
+    /// Does the acts of the workload of this number, with so many clients and ops.
+    Workload {
+        number: u64,
+        clients: u32,
+        ops: u32,
+    },
     /// Serves so many connections at this port, over WebSockets or over lines.
     Serve {
         port: u16,
@@ -45,6 +51,15 @@ fn task_by(command: Command) -> Task
         Command::Sequence => Task::Sequence,
         Command::Script => Task::Script,
         Command::Load(document) => Task::Load(document),
+        Command::Workload {
+            number,
+            clients,
+            ops,
+        } => Task::Workload {
+            number,
+            clients,
+            ops,
+        },
         Command::Serve {
             port,
             connections,
@@ -59,6 +74,5 @@ fn task_by(command: Command) -> Task
             None => Task::Show(Status::Usage, USAGE),
         },
         Command::Version => Task::Show(Status::Done, VERSION),
-        Command::Workload { .. } => Task::Show(Status::Usage, USAGE),
     }
 }

@@ -1,4 +1,10 @@
-use Rattle.std.proofs.Common.{◌≡◌, refl, subst, List, ℕ, Option, Some, None}
+use Rattle.std.proofs.Common.{rules, ◌≡◌, refl, subst, List, ℕ, Option, Some, None}
+use Rattle.std.specs.Prelude.{IfSome}
+use Rattle.fluid_log.specs.Shelving.{AreWhole}
+use Rattle.fluid_load.specs.Ending.{IsNewDeskOf, outside}
+use Rattle.fluidd.specs.Workloads.{IsBetween, Summarizes}
+use Rattle.fluidd.proofs.Worked.{unworked}
+use Rattle.fluidd.proofs.Bounded.{work_bounds}
 use Rattle.std.proofs.lemmas.Bool.{false≢true}
 use Rattle.fluid_world.specs.Ending.{Outside}
 use Rattle.fluidd.specs.Input.{full}
@@ -7,7 +13,7 @@ use Rattle.fluidd.specs.Tasks.{task_of}
 use Rattle.fluidd.specs.declared.task.Task.TheVariants as taken
 use Rattle.fluidd.proofs.Statuses.{wanting}
 use Rattle.fluidd.proofs.Scripted.{wanting as unscripted}
-use Rattle.fluidd.proofs.Served.{served, as_many, scripted, scripted_then, as_loaded, is_scripting, is_reading, uses_desk}
+use Rattle.fluidd.proofs.Served.{served, as_many, scripted, scripted_then, as_loaded, is_scripting, is_reading, uses_desk, working, is_working, works_on_desk, as_worked}
 use Rattle.fluidd.proofs.run.run.Goals as goal
 
 pub returns-in-Err-clause-sequence : goal.returns-in-Err-clause-sequence
@@ -81,3 +87,41 @@ pub returns-in-Ok-Load-clause-desk : goal.returns-in-Ok-Load-clause-desk
 returns-in-Ok-Load-clause-desk g c = λ none.
     let asked = rw c.in-Ok-Load.field-0-is at c.in-Ok-Load.ensures in
     absurd (none (uses_desk (task_of c.args.words.now) (Some c.in-Ok-Load.document) (scripted (task_of c.args.words.now) (Some c.in-Ok-Load.document) asked)))
+
+-- workloads
+
+pub returns-in-Ok-Workload-clause-workload : goal.returns-in-Ok-Workload-clause-workload
+returns-in-Ok-Workload-clause-workload g c = λ number clients ops is.
+    let asked = rw c.in-Ok-Workload.field-0-is at c.in-Ok-Workload.ensures in
+    let before : Outside = outside (g.K.Sink.seen c.args.output.now) (g.B.Shelves.seen c.args.desk.shelves) (g.O.Objects.seen c.args.desk.objects) in
+    let now : Outside = outside (g.K.Sink.seen c.run_workload-status.new.output) (g.B.Shelves.seen c.run_workload-status.result.1.shelves) (g.O.Objects.seen c.run_workload-status.result.1.objects) in
+    let same = as_worked (task_of c.args.words.now) c.in-Ok-Workload.number c.in-Ok-Workload.clients c.in-Ok-Workload.ops number clients ops asked is in
+    subst (λ (x : ℕ × (ℕ × ℕ)). Summarizes g.told x.0 x.1.0 x.1.1 before now c.run_workload-status.result.0) same c.run_workload-status.ensures
+
+pub returns-in-Ok-Workload-clause-script : goal.returns-in-Ok-Workload-clause-script
+returns-in-Ok-Workload-clause-script g c = λ load is.
+    let asked = rw c.in-Ok-Workload.field-0-is at c.in-Ok-Workload.ensures in
+    absurd (false≢true (scripted_then (task_of c.args.words.now) load (taken.Workload c.in-Ok-Workload.number c.in-Ok-Workload.clients c.in-Ok-Workload.ops) asked is))
+
+pub returns-in-Ok-Workload-clause-desk : goal.returns-in-Ok-Workload-clause-desk
+returns-in-Ok-Workload-clause-desk g c = λ none.
+    let asked = rw c.in-Ok-Workload.field-0-is at c.in-Ok-Workload.ensures in
+    let is = working (task_of c.args.words.now) c.in-Ok-Workload.number c.in-Ok-Workload.clients c.in-Ok-Workload.ops asked in
+    absurd (none (works_on_desk (task_of c.args.words.now) c.in-Ok-Workload.number c.in-Ok-Workload.clients c.in-Ok-Workload.ops is))
+
+pub run_workload-status-requires : goal.run_workload-status-requires
+run_workload-status-requires g c =
+    let asked = rw c.in-Ok-Workload.field-0-is at c.in-Ok-Workload.ensures in
+    let is = working (task_of c.args.words.now) c.in-Ok-Workload.number c.in-Ok-Workload.clients c.in-Ok-Workload.ops asked in
+    let bounds = work_bounds c.args.words.now c.in-Ok-Workload.number c.in-Ok-Workload.clients c.in-Ok-Workload.ops is in
+    let clients : IsBetween 1 1000 c.in-Ok-Workload.clients = bounds.0 in
+    let ops : IsBetween 1 100000 c.in-Ok-Workload.ops = bounds.1 in
+    let new = c.requires.1.1.1.1.1.1.1.1.1.1.1.1.1.1.1.1.1.1.1.1.1.1.1 (is_working (task_of c.args.words.now) c.in-Ok-Workload.number c.in-Ok-Workload.clients c.in-Ok-Workload.ops is) in
+    let whole : AreWhole (g.B.Shelves.seen c.args.desk.shelves) = new.0 in
+    let told : IfSome g.told (IsNewDeskOf (g.B.Shelves.seen c.args.desk.shelves) (g.O.Objects.seen c.args.desk.objects)) = new.1 in
+    search rules
+
+pub returns-in-Err-clause-workload : goal.returns-in-Err-clause-workload
+returns-in-Err-clause-workload g c = λ number clients ops is.
+    let before : Outside = outside (g.K.Sink.seen c.args.output.now) (g.B.Shelves.seen c.args.desk.shelves) (g.O.Objects.seen c.args.desk.objects) in
+    rw c.code-in-Err.ensures (unworked g.told number clients ops before (c.requires.1.1.1.1.1.1.1.1.1.1.1.1.1.1.1.1.1.1.1.1.1.1.1 (is_working (task_of c.args.words.now) number clients ops is)).0)
