@@ -79,7 +79,10 @@ impl Answered {
 }
 
 /// What was said to one act alone, which enters no submission. For want of memory nothing is.
-pub(crate) fn say_one(alloc: Global, said: Result<Replies, NoMemory>) -> (Answered, Option<TalkFault>)
+pub(crate) fn say_one(
+    alloc: Global,
+    said: Result<Replies, NoMemory>,
+) -> (Answered, Option<TalkFault>)
     ensures { SaysOne said result.0 result.1 }
 {
     match said {

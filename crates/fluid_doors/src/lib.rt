@@ -11,9 +11,9 @@
 #![tactic(auto)]
 
 mod bench;
-mod finishing;
 mod door;
 mod ends;
+mod finishing;
 mod gathering;
 mod laws;
 mod lent;

@@ -8,9 +8,9 @@ ghost use Rattle.fluid_doors.specs.Entering.{Reports};
 ghost use Rattle.fluid_doors.specs.Scribing.{IsJobOf, Scribes};
 ghost use Rattle.fluid_store.specs.Keeping.{Counts};
 
-use crate::finishing::{close, close_entered};
 use crate::door::{Door, Pass};
 use crate::ends::{ScribeEnd, ScribeFault, of_lane, of_store};
+use crate::finishing::{close, close_entered};
 use fluid_json::NoMemory;
 use fluid_lane::LaneFault;
 use fluid_log::Keeper;

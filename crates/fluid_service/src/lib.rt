@@ -11,8 +11,8 @@
 //!   which shelves a service may begin, and what holds of every key.
 #![tactic(auto)]
 
-mod finishing;
 mod ending;
+mod finishing;
 mod laws;
 mod opening;
 mod roll;
