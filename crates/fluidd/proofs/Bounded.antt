@@ -5,7 +5,8 @@ use Rattle.std.specs.Prelude.{IfSome, if◌then◌else◌, option_and_then, opti
 use Rattle.clap.specs.Walk.{Row, Text, first_of}
 use Rattle.fluid_types.specs.Names.{is_name}
 use Rattle.fluid_words.specs.Numbers.{within, number_in}
-use Rattle.fluid_words.specs.Words.{number_of, load_of, load_by, workload_by, serve_by, is_flagged, named, behind, is_word, spelled, or_usage, command_of}
+use Rattle.fluid_words.specs.Found.{found}
+use Rattle.fluid_words.specs.Words.{sequence, script, load, workload, serve, number_of, load_of, load_by, workload_by, serve_by, is_flagged, named, behind, is_word, spelled, or_usage, command_of}
 use Rattle.fluid_words.specs.declared.command.Command.{Command}
 use Rattle.fluid_words.specs.declared.command.Command.TheVariants as a
 use Rattle.fluid_words.specs.declared.command.CommandName.{CommandName}
@@ -72,12 +73,12 @@ serve_bounds rows =
     (number_of (codes "PORT") 0 65535 rows) (anything (number_of (codes "PORT") 0 65535 rows))
 
 behind_bounds : (topic : CommandName) (words : List Text) → IfSome (behind topic words) IsBounded
-behind_bounds name.Sequence words = mapped (λ rows. Unit {0}) IsBounded (λ rows. a.Sequence) (λ rows any. tt) _ (anything _)
-behind_bounds name.Script words = mapped (λ rows. Unit {0}) IsBounded (λ rows. a.Script) (λ rows any. tt) _ (anything _)
+behind_bounds name.Sequence words = mapped (λ rows. Unit {0}) IsBounded (λ rows. a.Sequence) (λ rows any. tt) (found sequence words) (anything (found sequence words))
+behind_bounds name.Script words = mapped (λ rows. Unit {0}) IsBounded (λ rows. a.Script) (λ rows any. tt) (found script words) (anything (found script words))
 behind_bounds name.Load words =
-    through (λ (rows : List Row). Unit {0}) IsBounded load_by (λ rows any. through (λ (word : Text). Unit {0}) IsBounded load_of (λ word any. load_bounds word) (first_of (codes "DOC") rows) (anything (first_of (codes "DOC") rows))) _ (anything _)
-behind_bounds name.Workload words = through (λ (rows : List Row). Unit {0}) IsBounded workload_by (λ rows any. workload_bounds rows) _ (anything _)
-behind_bounds name.Serve words = through (λ (rows : List Row). Unit {0}) IsBounded serve_by (λ rows any. serve_bounds rows) _ (anything _)
+    through (λ (rows : List Row). Unit {0}) IsBounded load_by (λ rows any. through (λ (word : Text). Unit {0}) IsBounded load_of (λ word any. load_bounds word) (first_of (codes "DOC") rows) (anything (first_of (codes "DOC") rows))) (found load words) (anything (found load words))
+behind_bounds name.Workload words = through (λ (rows : List Row). Unit {0}) IsBounded workload_by (λ rows any. workload_bounds rows) (found workload words) (anything (found workload words))
+behind_bounds name.Serve words = through (λ (rows : List Row). Unit {0}) IsBounded serve_by (λ rows any. serve_bounds rows) (found serve words) (anything (found serve words))
 
 spelled_bounds : (words : List Text) → IfSome (spelled words) IsBounded
 spelled_bounds [] = tt
