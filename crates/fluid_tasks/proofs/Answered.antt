@@ -1,7 +1,9 @@
 -- What the calls that ask answer.
-use Rattle.std.proofs.Common.{◌≡◌, ℕ, Bool, true, false, cond, List, [], ◌∷◌, ◌++◌, Option, Some, None, option_map, refl, sym, ◌∙◌, ap, ap₂, subst, nat_cmp, bytes_eq}
+use Rattle.std.proofs.Common.{◌≡◌, ℕ, Bool, true, false, cond, List, [], ◌∷◌, ◌++◌, Option, Some, None, option_map, refl, sym, ◌∙◌, ap, ap₂, subst, nat_cmp, bytes_eq, string_bytes}
 use Rattle.std.specs.Prelude.{is_some}
-use Rattle.std.specs.BTreeMap.{BTreeMap, get}
+use Rattle.std.specs.BTreeMap.{BTreeMap, get, is_at}
+use Rattle.std.specs.Map.{lookup}
+use Rattle.std.specs.Cmp.Lexicographic.{slice_cmp}
 use Rattle.json.specs.Token as token
 use Rattle.json.specs.Token.{Token}
 use Rattle.fluid_json.specs.Tree.{Tree, object, members}
@@ -10,11 +12,22 @@ use Rattle.fluid_json.specs.Tokens.{tokens_of}
 use Rattle.fluid_rules.proofs.Ids.{own_id}
 use Rattle.fluid_tasks.specs.declared.tasks.Item.{Item}
 use Rattle.fluid_tasks.specs.declared.queues.Queue.{Queue}
-use Rattle.fluid_tasks.specs.Past.{Past, is_text, added, is_of, Status, NoItem, Free, Held, Gone, holder_in, is_there, status, free, live, holder_of, value}
-use Rattle.fluid_tasks.specs.Kept.{free_at, held_at, held_by, IsQueue}
+use Rattle.fluid_tasks.specs.Past.{Past, is_text, numbers, items, added, is_of, Status, NoItem, Free, Held, Gone, holder_in, is_there, status, free, live, holder_of, value, volunteerings, standing_since, standing}
+use Rattle.fluid_tasks.specs.Kept.{Named, at, free_at, held_at, held_by, IsQueue, Candidates, entries_at, pairs, Clients, IsKept}
 use Rattle.fluid_tasks.proofs.Applied.{live-is, holder_of-is, held_by-is}
 use Rattle.fluid_tasks.proofs.Facts.{no_status}
 use Rattle.fluid_tasks.proofs.Freed.{held_in}
+
+-- nothing is kept of no messages
+pub nothing_kept : (own : BTreeMap ℕ Item) (queues : Named Queue) (tasks : Named Candidates) (noting : Clients) → own.entries ≡ [] → queues.entries ≡ [] → tasks.entries ≡ [] → IsKept own queues tasks noting []
+unfolding numbers items added status free live holder_of volunteerings standing_since standing
+nothing_kept own queues tasks noting no_items no_queues no_tasks = record {
+  items_are = λ n. ap (lookup (is_at (nat_cmp n))) no_items;
+  queues_are = λ q. subst (IsQueue [] q) (sym (ap (lookup (is_at (λ k. slice_cmp nat_cmp q (string_bytes k)))) no_queues)) (record { free = refl; held = λ n. refl });
+  tasks_are = λ u. ap entries_at (ap (lookup (is_at (λ k. slice_cmp nat_cmp u (string_bytes k)))) no_tasks);
+  holds = λ c n h. absurd (let wrong : false ≡ true = h in cc);
+  stands = λ c u n h. absurd (let wrong : ◌≡◌ {A = Option ℕ} None (Some n) = h in cc);
+}
 
 pub free_answer : (past : Past) (q : List ℕ) (o : Option Queue) → IsQueue past q o → free_at o ≡ free past q
 free_answer past q None is = sym is.free

@@ -2,6 +2,7 @@
 use Rattle.std.proofs.Common.{◌≡◌, ℕ, ◌+◌, ◌≤◌, ◌==◌, Bool, true, false, not, ◌&&◌, cond, List, [], ◌∷◌, ◌++◌, length, reverse, Option, Some, None, option_map, String, Global, refl, sym, ◌∙◌, ap, ap₂, subst, arith, nat_cmp, inl, inr, ◌⊎◌, bytes_eq}
 use Rattle.std.specs.Prelude.{is_some, is_none}
 use Rattle.std.specs.List.Sorted.{IsStrictlySortedBy}
+use Rattle.std.specs.Map.{lookup}
 use Rattle.std.specs.BTreeMap.{BTreeMap, get, get_by_text, is_at, UpdatesBy}
 use Rattle.std.proofs.lemmas.Bool.{cases_Bool, eqb-true, false_from_ne_true}
 use Rattle.std.proofs.lemmas.List.{reverse-append}
@@ -57,6 +58,15 @@ module _ (m : Message) (past : Past) (numbered : IsNumbered (m ∷ past)) where
   made_keeps items queues mid tasks noting made kept = record {
     items_are = kept.items_are;
     queues_are = λ q. made_queue past q (at queues q) (at mid q) (kept.queues_are q) (made q);
+    tasks_are = kept.tasks_are;
+    holds = kept.holds;
+    stands = kept.stands;
+  }
+
+  pub same_items_keep : (items new_items : BTreeMap ℕ Item) (queues : Named Queue) (tasks : Named Candidates) (noting : Clients) → new_items.entries ≡ items.entries → IsKept items queues tasks noting past → IsKept new_items queues tasks noting past
+  same_items_keep items new_items queues tasks noting same kept = record {
+    items_are = λ n. ap (lookup (is_at (nat_cmp n))) same ∙ kept.items_are n;
+    queues_are = kept.queues_are;
     tasks_are = kept.tasks_are;
     holds = kept.holds;
     stands = kept.stands;
@@ -125,7 +135,7 @@ module _ (m : Message) (past : Past) (numbered : IsNumbered (m ∷ past)) where
             free = ap (λ l. l.free) now.line ∙ is.free;
             held = λ n. now.held n ∙ is.held n;
             balanced = let out_is = ap (λ l. l.out) now.line in omega (arith, now.count, out_is, is.balanced);
-            ordered = now.ordered is.ordered;
+            ordered = now.ordered;
           })
 
   -- ---- a release and a complete

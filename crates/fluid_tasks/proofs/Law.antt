@@ -24,6 +24,8 @@ use Rattle.fluid_types.specs.declared.verdicts.Verdict.TheVariants.{Sequenced, N
 use Rattle.fluid_types.specs.Quorum.{left_by, member_of}
 use Rattle.fluid_types.specs.Ledger.{Ledger, messages_of, order, seq}
 use Rattle.fluid_types.proofs.Ledgers.{order-push}
+use Rattle.fluid_rules.specs.Past as entries
+use Rattle.fluid_rules.specs.Rules as rule
 use Rattle.fluid_rules.specs.Past.{Entry, Client, client_behind}
 use Rattle.fluid_rules.specs.Rules.{IsLegal, verdict, message, client, is_joined, minimum}
 use Rattle.fluid_types.specs.Names.{IsName, is_name}
@@ -217,7 +219,7 @@ or_right false b is = is
 
 -- ---- members
 
-named : List ℕ → List (List ℕ × Member) → Bool
+abbrev pub named : List ℕ → List (List ℕ × Member) → Bool
 named c pairs = list_any (λ (e : List ℕ × Member). bytes_eq c e.0) pairs
 
 named-append : (c : List ℕ) (xs ys : List (List ℕ × Member)) → named c (xs ++ ys) ≡ (named c xs || named c ys)
@@ -280,8 +282,8 @@ module _ (m : Message) where
       ∙ ap (λ l. l ++ unless_left [] (member_of m)) (sym (filter-append (λ (x : List ℕ × Member). not (leaves x.0 m)) (unless_left ms (member_of n)) (present ms)))
 
   named_stays : (c : List ℕ) (es : List (List ℕ × Member)) → leaves c m ≡ false → named c es ≡ true → named c (filter (λ (x : List ℕ × Member). not (leaves x.0 m)) es) ≡ true
-  named_stays c [] no is = is
-  named_stays c (e ∷ es) no is = of (bytes_eq c e.0) refl (λ h. named_stays c es no h)
+  named_stays c [] stays is = is
+  named_stays c (e ∷ es) stays is = of (bytes_eq c e.0) refl (λ h. named_stays c es stays h)
     where
       skipped : (b : Bool) → named c (filter (λ (x : List ℕ × Member). not (leaves x.0 m)) es) ≡ true → named c (cond b (e ∷ filter (λ (x : List ℕ × Member). not (leaves x.0 m)) es) (filter (λ (x : List ℕ × Member). not (leaves x.0 m)) es)) ≡ true
       skipped true h = or_right (bytes_eq c e.0) (named c (filter (λ (x : List ℕ × Member). not (leaves x.0 m)) es)) h
@@ -289,16 +291,16 @@ module _ (m : Message) where
 
       of : (b : Bool) → bytes_eq c e.0 ≡ b → (named c es ≡ true → named c (filter (λ (x : List ℕ × Member). not (leaves x.0 m)) es) ≡ true) → named c (filter (λ (x : List ℕ × Member). not (leaves x.0 m)) (e ∷ es)) ≡ true
       of true at again =
-          let here : leaves e.0 m ≡ false = subst (λ w. leaves w m ≡ false) (same_id c e.0 at) no in
+          let here : leaves e.0 m ≡ false = subst (λ w. leaves w m ≡ false) (same_id c e.0 at) stays in
           ap (λ b. named c (cond (not b) (e ∷ filter (λ (x : List ℕ × Member). not (leaves x.0 m)) es) (filter (λ (x : List ℕ × Member). not (leaves x.0 m)) es))) here
           ∙ or_left (bytes_eq c e.0) (named c (filter (λ (x : List ℕ × Member). not (leaves x.0 m)) es)) at
       of false at again = skipped (not (leaves e.0 m)) (again (sym (ap (λ b. b || named c es) at) ∙ is))
 
   -- who is present and doesn't leave is present still
   pub present_still : (ms : List Message) (c : List ℕ) → leaves c m ≡ false → named c (present ms) ≡ true → named c (present (ms ++ m ∷ [])) ≡ true
-  present_still ms c no is =
+  present_still ms c stays is =
       ap (named c) (present-push ms) ∙ named-append c (filter (λ (x : List ℕ × Member). not (leaves x.0 m)) (present ms)) (unless_left [] (member_of m))
-      ∙ or_left (named c (filter (λ (x : List ℕ × Member). not (leaves x.0 m)) (present ms))) (named c (unless_left [] (member_of m))) (named_stays c (present ms) no is)
+      ∙ or_left (named c (filter (λ (x : List ℕ × Member). not (leaves x.0 m)) (present ms))) (named c (unless_left [] (member_of m))) (named_stays c (present ms) stays is)
 
   -- who joins is present
   pub present_now : (ms : List Message) (j : Member) → member_of m ≡ Some j → named j.id (present (ms ++ m ∷ [])) ≡ true
@@ -689,7 +691,7 @@ behind_all l told = record {
 
 -- ---- behind each message
 
-take_none : {X : Type 0} (n : ℕ) → take n ([] {A = X}) ≡ []
+take_none : {X : Type 0} (n : ℕ) → ◌≡◌ {A = List X} (take n []) []
 take_none zero = refl
 take_none (suc n) = refl
 
@@ -725,7 +727,7 @@ pub record Each (l : Ledger) : Type 0 where
   pub each : (n : ℕ) → HoldsBehind (take n (order l))
 
 begun : Told []
-unfolding order numbers items added status standing_since client
+unfolding order numbers items added status standing_since client entries.client entries.membership rule.past_of
 begun = record { numbered = tt; is_present = λ c some. absurd (let wrong : false ≡ true = some in cc); holds = λ c i h. absurd (let wrong : false ≡ true = h in cc); stands = λ u c k h. absurd (let wrong : ◌≡◌ {A = Option ℕ} None (Some k) = h in cc) }
 
 nothing_in_order : order [] ≡ []

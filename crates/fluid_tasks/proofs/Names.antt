@@ -30,6 +30,10 @@ pub on_err : {T E : Type 0} (r : Result T E) {P Q : Type 0} → (P → Q) → On
 on_err (Ok v) step h = tt
 on_err (Err e) step h = step h
 
+pub when_err : {T E : Type 0} (r : Result T E) {P : Type 0} → P → OnErr r P
+when_err (Ok v) h = tt
+when_err (Err e) h = h
+
 -- at most one more
 pub one_more : (b : Bool) (n m : ℕ) → n ≡ m + cond b 0 1 → n ≤ m + 1
 one_more true n m is = omega (arith, is)

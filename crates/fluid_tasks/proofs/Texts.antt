@@ -7,11 +7,13 @@ use Rattle.std.specs.Ordering.{is_eq}
 use Rattle.std.specs.Cmp.Lexicographic.{slice_cmp}
 use Rattle.std.specs.BTreeMap.{BTreeMap, get, get_by_text, is_at, IsOrdered}
 use Rattle.std.proofs.lemmas.Bool.{cases_Bool}
+use Rattle.std.proofs.lemmas.List.Elements.{recursion_from_All}
 use Rattle.std.proofs.lemmas.Slice.Eq.{bytes_eq-Decides}
 use Rattle.std.proofs.lemmas.Map.Text.{is_eq-slice_cmp, text_cmp}
 use Rattle.json.specs.Token as token
 use Rattle.json.specs.Token.{Token}
 use Rattle.fluid_json.specs.Tree.{Tree, object, members, list, trees}
+use Rattle.fluid_json.specs.Printed.{printed}
 use Rattle.fluid_json.specs.Tokens.{tokens_of, members_tokens, trees_tokens}
 use Rattle.fluid_types.specs.declared.messages.Message.{Message}
 use Rattle.fluid_rules.specs.Past.{has_id, AreInOrder, put_id}
@@ -21,8 +23,8 @@ use Rattle.fluid_tasks.specs.declared.tasks.Item.{Item}
 use Rattle.fluid_tasks.specs.declared.queues.Queue.{Queue}
 use Rattle.fluid_tasks.specs.Acts.{Said, Does, Leaves, Nothing, said}
 use Rattle.fluid_tasks.specs.Past.{Past, first, is_text, is_number, adds, number_if, items, added, is_of, free, holder_of, volunteering, Volunteering, numbered, volunteerings, standing, clients, candidates}
-use Rattle.fluid_tasks.specs.Printed.{queue_in, task_in, with_name, queues, tasks, shown_queue, shown_task, is_any, shown, held_in, held, tree_of, all_of}
-use Rattle.fluid_tasks.specs.Shown.{queue_shown, task_shown, shown_in, tokens_under}
+use Rattle.fluid_tasks.specs.Printed.{queue_in, task_in, with_name, queues, tasks, shown_queue, shown_task, is_any, shown, held_in, held, tree_of, all_of, print}
+use Rattle.fluid_tasks.specs.Shown.{queue_shown, task_shown, shown_in, tokens_under, IsFoundEach}
 use Rattle.fluid_tasks.specs.Kept.{Named, at, Candidates, entries_at, pairs, held_by, IsNumbered, IsQueueOf, IsNoQueue, IsQueue, Clients, IsKept}
 use Rattle.fluid_tasks.proofs.Lists.{no_test, or_left, mem}
 use Rattle.fluid_tasks.proofs.Facts.{items_rise, of_mem, added-step, first_free_is, number_is}
@@ -249,10 +251,10 @@ kept_queue past q None is i own shown_so =
 some_value : {X : Type 0} (o : Option X) (x : X) → o ≡ Some x → is_some o ≡ true
 some_value o x is = ap is_some is
 
-pub queues_text : (past : Past) → IsNumbered past → (kept : Named Queue) → IsOrdered string_cmp kept → AllByRecursion (λ (e : String Global × Queue). at kept (string_bytes e.0) ≡ Some e.1) kept.entries
+pub queues_text : (past : Past) → IsNumbered past → (kept : Named Queue) → IsOrdered string_cmp kept → IsFoundEach kept
     → ((q : List ℕ) → IsQueue past q (at kept q)) → shown_in queue_shown kept.entries ≡ shown (λ q. shown_queue (free past q) (held past q)) (queues past)
 queues_text past numbered kept order found are =
-    shown_names queue_shown (λ q. shown_queue (free past q) (held past q)) kept.entries (each kept.entries found)
+    shown_names queue_shown (λ q. shown_queue (free past q) (held past q)) kept.entries (each kept.entries (recursion_from_All (λ (e : String Global × Queue). at kept (string_bytes e.0) ≡ Some e.1) kept.entries found))
     ∙ same_shown (λ q. shown_queue (free past q) (held past q)) (names_of kept.entries) (queues past) (names_in_order kept.entries order) (queues_in_order past)
       (λ q some. let item = shown_item past q some in at_named kept q (kept_queue past q (at kept q) (are q) item.0 item.1 some))
       (λ q some. let item = shown_item past q some in named_queue past q item.0 item.1)
@@ -293,10 +295,10 @@ kept_task (Some w) vs is some = refl
 kept_task None [] is some = absurd (let wrong : false ≡ true = some in cc)
 kept_task None (v ∷ vs) is some = absurd (cc)
 
-pub tasks_text : (past : Past) → (kept : Named Candidates) → IsOrdered string_cmp kept → AllByRecursion (λ (e : String Global × Candidates). at kept (string_bytes e.0) ≡ Some e.1) kept.entries
+pub tasks_text : (past : Past) → (kept : Named Candidates) → IsOrdered string_cmp kept → IsFoundEach kept
     → ((u : List ℕ) → entries_at (at kept u) ≡ pairs (standing past u)) → shown_in task_shown kept.entries ≡ shown (λ u. shown_task (candidates past u)) (tasks past)
 tasks_text past kept order found are =
-    shown_names task_shown (λ u. shown_task (candidates past u)) kept.entries (each kept.entries found)
+    shown_names task_shown (λ u. shown_task (candidates past u)) kept.entries (each kept.entries (recursion_from_All (λ (e : String Global × Candidates). at kept (string_bytes e.0) ≡ Some e.1) kept.entries found))
     ∙ same_shown (λ u. shown_task (candidates past u)) (names_of kept.entries) (tasks past) (names_in_order kept.entries order) (tasks_in_order past)
       (λ u some. at_named kept u (kept_task (at kept u) (standing past u) (are u) (shown_stands past u some)))
       (λ u some. named_task past u (filter_any (stands past u) (volunteerings past u) (ap (λ l. is_any l) (sym (standing-filter past u)) ∙ shown_stands past u some)))
@@ -308,3 +310,10 @@ tasks_text past kept order found are =
       ap (λ l. shown_task l) (ap (map (λ x. x.1)) (ap entries_at (sym all.0) ∙ are (string_bytes e.0)) ∙ clients-pairs (standing past (string_bytes e.0)) ∙ sym (candidates-is past (string_bytes e.0))),
       each es all.1,
     )
+
+-- ---- all of it
+
+pub whole_text : (past : Past) (own others : List (List ℕ × Tree)) → own ≡ shown (λ q. shown_queue (free past q) (held past q)) (queues past) → others ≡ shown (λ u. shown_task (candidates past u)) (tasks past)
+    → printed (all_of own others) ≡ print past
+unfolding print
+whole_text past own others one two = ap₂ (λ a b. printed (all_of a b)) one two

@@ -116,9 +116,14 @@ abbrev pub three_items : Past
 three_items = past_of
     (op a 1 (add q null) ∷ op a 2 (add q null) ∷ op a 3 (add q null) ∷ op b 4 (acquire q) ∷ op b 5 (acquire q) ∷ op b 6 (release q 1) ∷ [])
 
+-- the second item is acquired before the first one is again
+abbrev pub both_held : Past
+both_held = past_of
+    (op a 1 (add q null) ∷ op a 2 (add q null) ∷ op b 3 (acquire q) ∷ op b 4 (release q 1) ∷ op b 5 (acquire q) ∷ op b 6 (acquire q) ∷ [])
+
 pub record InTurn : Type 0 where
   pub behind_the_older : free three_items q ≡ 3 ∷ 1 ∷ []
-  pub left_in_order : free (leave b 9 ∷ op b 8 (acquire q) ∷ op b 7 (acquire q) ∷ three_items) q ≡ 1 ∷ 2 ∷ 3 ∷ []
+  pub left_in_order : free (leave b 7 ∷ both_held) q ≡ 1 ∷ 2 ∷ []
 
 -- what isn't the holder's, names another queue than the item's, names no item, or has another form, counts for nothing
 pub record CountForNothing : Type 0 where

@@ -71,6 +71,7 @@ pub record IsSameQueue (old new : Queue) : Type 0 where
   pub line : new.line ≡ old.line
   pub held : (n : ℕ) → get nat_cmp new.held n ≡ get nat_cmp old.held n
   pub count : btree_map_len new.held ≡ btree_map_len old.held
+  pub ordered : IsOrdered nat_cmp new.held
 
 pub record IsAdded (item : ℕ) (old new : Queue) : Type 0 where
   pub line : new.line ≡ with_free old.line item

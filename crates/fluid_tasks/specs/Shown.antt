@@ -1,6 +1,6 @@
 -- The text of what is kept.
-use Rattle.std.specs.Prelude.{ℕ, List, [], ◌∷◌, ◌++◌, map, Option, Some, None, option_map, String, string_bytes}
-use Rattle.std.specs.List.{filter_map}
+use Rattle.std.specs.Prelude.{◌≡◌, ℕ, List, [], ◌∷◌, ◌++◌, map, Option, Some, None, option_map, String, string_bytes}
+use Rattle.std.specs.List.{All, filter_map}
 use Rattle.std.specs.declared.alloc.Global.{Global}
 use Rattle.json.specs.Token as token
 use Rattle.json.specs.Token.{Token}
@@ -8,7 +8,7 @@ use Rattle.fluid_json.specs.Tree.{Tree}
 use Rattle.fluid_json.specs.Tokens.{tokens_of}
 use Rattle.fluid_tasks.specs.declared.queues.Queue.{Queue}
 use Rattle.fluid_tasks.specs.Printed.{shown_queue, shown_task}
-use Rattle.fluid_tasks.specs.Kept.{Candidates}
+use Rattle.fluid_tasks.specs.Kept.{Named, at, Candidates}
 
 -- a queue, where it has an item
 abbrev pub queue_shown : Queue → Option Tree
@@ -21,6 +21,10 @@ task_shown candidates = shown_task (map (λ e. e.1) candidates.entries)
 -- those that are shown, under their names
 abbrev pub shown_in : {V : Type 0} → (V → Option Tree) → List (String Global × V) → List (List ℕ × Tree)
 shown_in value es = filter_map (λ e. option_map (λ tree. (string_bytes e.0, tree)) (value e.1)) es
+
+-- each value is found under its name
+abbrev pub IsFoundEach : {V : Type 0} → Named V → Type 0
+IsFoundEach m = All (λ e. at m (string_bytes e.0) ≡ Some e.1) m.entries
 
 -- the tokens of a member that is shown
 abbrev pub tokens_under : List ℕ → Option Tree → List Token

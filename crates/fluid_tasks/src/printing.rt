@@ -1,9 +1,10 @@
 // The text of queues and tasks.
-ghost use Rattle.std.specs.Prelude.{◌≡◌, ◌++◌, OnOk, not, map, pos};
+ghost use Rattle.std.specs.Prelude.{◌≡◌, ◌++◌, OnOk, map, pos, string_cmp};
+ghost use Rattle.std.specs.BTreeMap.{IsOrdered};
 ghost use Rattle.fluid_json.specs.Tree.{object, members, text, whole};
 ghost use Rattle.fluid_json.specs.Tokens.{tokens_of};
 ghost use Rattle.fluid_tasks.specs.Printed.{list_of, held_item, queue_value, is_any};
-ghost use Rattle.fluid_tasks.specs.Shown.{queue_shown, task_shown, shown_in, tokens_under};
+ghost use Rattle.fluid_tasks.specs.Shown.{queue_shown, task_shown, shown_in, tokens_under, IsFoundEach};
 
 use crate::queues::Queue;
 use crate::standing::Candidates;
@@ -15,6 +16,8 @@ use std::collections::BTreeMap;
 pub(crate) fn put_queues(out: &mut Printer, queues: &BTreeMap<String, Queue>) -> Result<(), NoMemory>
     ensures before { out.new.before ≡ out.old.before }
     ensures tokens { OnOk result (out.new.tokens ≡ out.old.tokens ++ tokens_of (object (members (shown_in queue_shown queues.now.entries)))) }
+    ensures ordered { OnOk result (IsOrdered string_cmp queues.now) }
+    ensures found { OnOk result (IsFoundEach queues.now) }
 {
     out.begin_object()?;
     for (name, queue) in queues {
@@ -92,6 +95,8 @@ pub(crate) fn put_tasks(
 ) -> Result<(), NoMemory>
     ensures before { out.new.before ≡ out.old.before }
     ensures tokens { OnOk result (out.new.tokens ≡ out.old.tokens ++ tokens_of (object (members (shown_in task_shown tasks.now.entries)))) }
+    ensures ordered { OnOk result (IsOrdered string_cmp tasks.now) }
+    ensures found { OnOk result (IsFoundEach tasks.now) }
 {
     out.begin_object()?;
     for (name, candidates) in tasks {

@@ -12,6 +12,8 @@ loop-name-preserved c =
     record {
       can_next = tt;
       is_finite = tt;
+      ordered = c.loop-name.invariant.ordered;
+      found = c.loop-name.invariant.found;
       before = c.put_task.ensures.before ∙ c.loop-name.invariant.before;
       tokens =
           member_on task_shown (c.in-Some.name.now, c.in-Some.candidates.now) c.loop-name.name-iterator c.next.new.self c.as_str.result.now c.loop-name.out.tokens c.put_task.new.out.tokens _ left
