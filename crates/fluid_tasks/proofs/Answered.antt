@@ -1,19 +1,13 @@
 -- What the calls that ask answer.
-use Rattle.std.proofs.Common.{◌≡◌, ℕ, Bool, true, false, cond, List, [], ◌∷◌, ◌++◌, Option, Some, None, option_map, refl, sym, ◌∙◌, ap, ap₂, subst, nat_cmp, bytes_eq, string_bytes}
-use Rattle.std.specs.Prelude.{is_some}
-use Rattle.std.specs.BTreeMap.{BTreeMap, get, is_at}
+use Rattle.std.proofs.Common.{◌≡◌, ℕ, Bool, true, false, cond, List, [], Option, Some, None, option_map, refl, sym, ◌∙◌, ap, subst, nat_cmp, string_bytes}
+use Rattle.std.specs.BTreeMap.{BTreeMap, is_at}
 use Rattle.std.specs.Map.{lookup}
 use Rattle.std.specs.Cmp.Lexicographic.{slice_cmp}
-use Rattle.json.specs.Token as token
-use Rattle.json.specs.Token.{Token}
-use Rattle.fluid_json.specs.Tree.{Tree, object, members}
-use Rattle.fluid_json.specs.Printed.{printed}
-use Rattle.fluid_json.specs.Tokens.{tokens_of}
 use Rattle.fluid_rules.proofs.Ids.{own_id}
 use Rattle.fluid_tasks.specs.declared.tasks.Item.{Item}
 use Rattle.fluid_tasks.specs.declared.queues.Queue.{Queue}
 use Rattle.fluid_tasks.specs.Past.{Past, is_text, numbers, items, added, is_of, Status, NoItem, Free, Held, Gone, holder_in, is_there, status, free, live, holder_of, value, volunteerings, standing_since, standing}
-use Rattle.fluid_tasks.specs.Kept.{Named, at, free_at, held_at, held_by, IsQueue, Candidates, entries_at, pairs, Clients, IsKept}
+use Rattle.fluid_tasks.specs.Kept.{Named, at, free_at, held_at, IsQueue, Candidates, entries_at, Clients, IsKept}
 use Rattle.fluid_tasks.proofs.Applied.{live-is, holder_of-is, held_by-is}
 use Rattle.fluid_tasks.proofs.Facts.{no_status}
 use Rattle.fluid_tasks.proofs.Freed.{held_in}

@@ -1,24 +1,20 @@
 -- What is kept behind each message.
-use Rattle.std.proofs.Common.{◌≡◌, ℕ, ◌+◌, ◌-◌, ◌<◌, ◌≤◌, ◌==◌, nat_lt, Bool, true, false, not, ◌&&◌, ◌||◌, cond, List, [], ◌∷◌, ◌++◌, length, map, Option, Some, None, option_map, refl, sym, ◌∙◌, ap, ap₂, subst, arith, append-nil, nat_cmp, inl, inr, ◌⊎◌, bytes_eq}
-use Rattle.std.specs.Prelude.{filter, is_none, is_some}
-use Rattle.std.specs.List.{AllByRecursion, list_any}
-use Rattle.std.specs.Ordering.{is_eq}
-use Rattle.std.specs.BTreeMap.{BTreeMap, get, is_at, IsOrdered, UpdatesBy, btree_map_len}
-use Rattle.std.proofs.lemmas.Bool.{eqb-true, eq-eqb, and_parts, and_from, false_from_ne_true, cases_Bool, lt-ltb}
+use Rattle.std.proofs.Common.{◌≡◌, ℕ, ◌+◌, ◌≤◌, ◌==◌, Bool, true, false, ◌&&◌, cond, List, [], ◌∷◌, ◌++◌, Option, Some, None, option_map, refl, sym, ◌∙◌, ap, ap₂, subst, arith, append-nil, nat_cmp, inl, inr, ◌⊎◌, bytes_eq}
+use Rattle.std.specs.Prelude.{is_some}
+use Rattle.std.specs.BTreeMap.{BTreeMap, get, IsOrdered, UpdatesBy, btree_map_len}
+use Rattle.std.proofs.lemmas.Bool.{eqb-true, cases_Bool}
 use Rattle.std.proofs.lemmas.Slice.Eq.{bytes_eq-Decides}
 use Rattle.fluid_types.specs.declared.messages.Message.{Message}
-use Rattle.fluid_rules.proofs.Ids.{own_id}
-use Rattle.fluid_tasks.specs.declared.acts.Act.TheVariants.{Add, Acquire, Complete, Release, Volunteer, Abandon, Finish}
+use Rattle.fluid_tasks.specs.declared.acts.Act.TheVariants.{Add, Acquire}
 use Rattle.fluid_tasks.specs.declared.tasks.Item.{Item}
 use Rattle.fluid_tasks.specs.declared.queues.Queue.{Queue}
-use Rattle.fluid_tasks.specs.Acts.{Said, Does, Leaves, Nothing, said}
-use Rattle.fluid_tasks.specs.Line.{no_line, with_free, given, given_of, given_back, without}
-use Rattle.fluid_tasks.specs.Past.{Past, first, is_text, is_number, adds, items, added, is_of, Status, NoItem, Free, Held, Gone, is_free_since, holder_in, is_held_by, is_there, status, free, live, holder_of, volunteering, Volunteering, standing_since, standing, holder}
-use Rattle.fluid_tasks.specs.Kept.{Named, at, MadeAt, Makes, ChangedAt, Changes, free_at, held_at, IsEmptyQueue, IsBalanced, IsSameQueue, IsAdded, IsGiven, IsUnheld, IsTakenBack, IsFinished, Candidates, entries_at, Clients, has_item, task_at, KeepsItems, NotesTask, SameClients, IsNumbered, held_by, pairs, IsNoQueue, IsQueueOf, IsQueue, IsKept}
-use Rattle.fluid_tasks.proofs.Lists.{no_test, all-any, filter-same, filter-none, filter-one, self, mem, Ascends}
-use Rattle.fluid_tasks.proofs.Facts.{status-step, items_rise, of_mem, none_added, first_free_is, number_is, IsFreeIn, free_is}
+use Rattle.fluid_tasks.specs.Acts.{Said, Does, said}
+use Rattle.fluid_tasks.specs.Line.{given_of}
+use Rattle.fluid_tasks.specs.Past.{Past, first, is_text, is_number, adds, items, added, is_of, Free, Held, is_free_since, holder_in, is_held_by, is_there, status, free, live, holder_of, standing_since, standing}
+use Rattle.fluid_tasks.specs.Kept.{Named, at, MadeAt, Makes, ChangedAt, Changes, IsEmptyQueue, IsAdded, IsGiven, Candidates, Clients, has_item, SameClients, IsNumbered, held_by, pairs, IsQueue, IsKept}
+use Rattle.fluid_tasks.proofs.Facts.{status-step, none_added, first_free_is, IsFreeIn, free_is}
 use Rattle.fluid_tasks.proofs.Candidates.{eq-cmp}
-use Rattle.fluid_tasks.proofs.Freeing.{added-kept, is_of-kept, free-kept, free-freed, free-nothing, free-given, added-new, status-new, free-added, of_one}
+use Rattle.fluid_tasks.proofs.Freeing.{added-kept, is_of-kept, free-kept, free-given, added-new, status-new, free-added, of_one}
 
 -- ---- views
 
@@ -116,8 +112,8 @@ module _ (m : Message) (past : Past) (c : List ℕ) (it : Item) (is : said m ≡
     | inr other ↦
         held_by-is (m ∷ past) q n
         ∙ ap₂ (λ (o : Option Item) st. cond (is_text (option_map (λ (x : Item). x.queue) o) q) (holder_in st) None)
-          (added-new m past c it is numbered n ∙ ap (λ b. cond b (Some it) (added past n)) other)
-          (status-new m past c it is numbered n ∙ ap (λ b. cond b (Free m.number) (status past n)) other)
+        (added-new m past c it is numbered n ∙ ap (λ b. cond b (Some it) (added past n)) other)
+        (status-new m past c it is numbered n ∙ ap (λ b. cond b (Free m.number) (status past n)) other)
         ∙ sym (held_by-is past q n)
   ]
 

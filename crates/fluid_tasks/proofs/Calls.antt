@@ -1,29 +1,26 @@
 -- What each call leaves, by the act of its message.
-use Rattle.std.proofs.Common.{◌≡◌, ℕ, ◌+◌, ◌≤◌, ◌==◌, Bool, true, false, not, ◌&&◌, cond, List, [], ◌∷◌, ◌++◌, length, reverse, Option, Some, None, option_map, String, Global, refl, sym, ◌∙◌, ap, ap₂, subst, arith, nat_cmp, inl, inr, ◌⊎◌, bytes_eq}
-use Rattle.std.specs.Prelude.{is_some, is_none}
-use Rattle.std.specs.List.Sorted.{IsStrictlySortedBy}
+use Rattle.std.proofs.Common.{◌≡◌, ℕ, ◌==◌, Bool, true, false, not, ◌&&◌, cond, List, [], ◌∷◌, ◌++◌, Option, Some, None, option_map, refl, sym, ◌∙◌, ap, ap₂, subst, arith, nat_cmp, bytes_eq}
+use Rattle.std.specs.Prelude.{is_some}
 use Rattle.std.specs.Map.{lookup}
-use Rattle.std.specs.BTreeMap.{BTreeMap, get, get_by_text, is_at, UpdatesBy}
-use Rattle.std.proofs.lemmas.Bool.{cases_Bool, eqb-true, false_from_ne_true}
+use Rattle.std.specs.BTreeMap.{BTreeMap, get, is_at, UpdatesBy}
+use Rattle.std.proofs.lemmas.Bool.{eqb-true, false_from_ne_true}
 use Rattle.std.proofs.lemmas.List.{reverse-append}
 use Rattle.std.proofs.lemmas.Slice.Eq.{bytes_eq-Decides}
 use Rattle.fluid_types.specs.Quorum.{left_by}
 use Rattle.fluid_types.specs.declared.messages.Message.{Message}
-use Rattle.fluid_tasks.specs.declared.acts.Act.{Act}
 use Rattle.fluid_tasks.specs.declared.acts.Act.TheVariants.{Add, Acquire, Complete, Release, Volunteer, Abandon, Finish}
-use Rattle.fluid_tasks.specs.declared.held.Holdings.{Holdings}
 use Rattle.fluid_tasks.specs.declared.tasks.Item.{Item}
 use Rattle.fluid_tasks.specs.declared.queues.Queue.{Queue}
-use Rattle.fluid_tasks.specs.Acts.{Said, Does, Leaves, Nothing, said, done, leaving, act_of}
-use Rattle.fluid_tasks.specs.Past.{Past, past_of, first, is_text, is_number, adds, added, is_of, status, is_held_by, is_there, free, live, volunteering, since_behind, standing_since, standing, holder}
-use Rattle.fluid_tasks.specs.Kept.{Named, at, MadeAt, Makes, ChangedAt, Changes, SameNames, free_at, held_at, IsEmptyQueue, IsSameQueue, IsAdded, IsGiven, IsTakenBack, IsFinished, AreBack, Candidates, entries_at, candidate_at, IsEmptyTask, IsSameTask, WithCandidate, IsWithoutClient, HasNoCandidates, HasSteppedDown, Clients, has_item, task_at, KeepsItems, NotesTask, SameClients, IsNumbered, held_by, pairs, IsQueueOf, IsQueue, IsKept}
+use Rattle.fluid_tasks.specs.Acts.{Said, Does, Leaves, Nothing, said, done, act_of}
+use Rattle.fluid_tasks.specs.Past.{Past, past_of, first, is_text, adds, added, is_of, status, is_held_by, is_there, free, live, volunteering, since_behind, standing_since, standing, holder}
+use Rattle.fluid_tasks.specs.Kept.{Named, at, Makes, ChangedAt, Changes, SameNames, free_at, held_at, IsEmptyQueue, IsSameQueue, IsAdded, IsGiven, IsTakenBack, IsFinished, Candidates, entries_at, candidate_at, IsEmptyTask, IsSameTask, WithCandidate, IsWithoutClient, HasNoCandidates, Clients, has_item, task_at, KeepsItems, NotesTask, SameClients, IsNumbered, pairs, IsQueue, IsKept}
 use Rattle.fluid_tasks.proofs.Lists.{no_test}
 use Rattle.fluid_tasks.proofs.Facts.{status-step, none_added, no_status}
-use Rattle.fluid_tasks.proofs.Candidates.{eq-cmp, since-step, standing-kept, stood_below}
-use Rattle.fluid_tasks.proofs.Applied.{SameItems, SameTasks, same_items, kept_same, made_queue, noted_kept, kept_added, same_given, kept_given, live-is}
+use Rattle.fluid_tasks.proofs.Candidates.{eq-cmp, since-step, standing-kept}
+use Rattle.fluid_tasks.proofs.Applied.{SameItems, SameTasks, same_items, kept_same, made_queue, kept_added, same_given, kept_given, live-is}
 use Rattle.fluid_tasks.proofs.Freed.{held_test, held_in, same_release, kept_released, same_complete, kept_done}
 use Rattle.fluid_tasks.proofs.Stood.{holder-entries, found_under, under_found, same_abandon, kept_abandoned, same_finish, kept_finished, made_task, same_volunteer, kept_volunteered}
-use Rattle.fluid_tasks.proofs.Left.{same_left, kept_left}
+use Rattle.fluid_tasks.proofs.Left.{same_left}
 
 -- ---- what says nothing of tasks, or of items
 
@@ -259,8 +256,8 @@ module _ (m : Message) (past : Past) (numbered : IsNumbered (m ∷ past)) where
       → IsKept items queues tasks noting past → IsKept items queues tasks new_noting (m ∷ past)
   leave_nothing c is items queues tasks noting new_noting none same kept =
       let both = same_left m past c is numbered
-          (λ n. false_from_ne_true (is_held_by c (status past n)) (λ h. let wrong : false ≡ true = ap (λ o. has_item o n) (sym none) ∙ kept.holds c n h in cc))
-          (λ u. of u (standing_since past u c) refl) in
+      (λ n. false_from_ne_true (is_held_by c (status past n)) (λ h. let wrong : false ≡ true = ap (λ o. has_item o n) (sym none) ∙ kept.holds c n h in cc))
+      (λ u. of u (standing_since past u c) refl) in
       kept_same items queues tasks new_noting past (m ∷ past) both.0 both.1 (record {
         items_are = kept.items_are;
         queues_are = kept.queues_are;

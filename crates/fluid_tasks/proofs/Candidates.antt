@@ -1,6 +1,6 @@
 -- What each message makes of the candidates of a task.
-use Rattle.std.proofs.Common.{◌≡◌, ℕ, ◌+◌, ◌<◌, ◌≤◌, ◌==◌, Bool, true, false, not, ◌&&◌, ◌||◌, cond, List, [], ◌∷◌, ◌++◌, length, map, Option, Some, None, option_map, refl, sym, ◌∙◌, ap, ap₂, subst, arith, append-nil, nat_cmp, inl, inr, ◌⊎◌, bytes_eq}
-use Rattle.std.specs.Prelude.{filter, is_none, is_some}
+use Rattle.std.proofs.Common.{◌≡◌, ℕ, ◌+◌, ◌<◌, ◌==◌, Bool, true, false, not, ◌&&◌, cond, List, [], ◌∷◌, ◌++◌, length, Option, Some, None, refl, sym, ◌∙◌, ap, ap₂, subst, arith, append-nil, nat_cmp, inl, inr, ◌⊎◌, bytes_eq}
+use Rattle.std.specs.Prelude.{filter, is_none}
 use Rattle.std.specs.List.{AllByRecursion}
 use Rattle.std.specs.Map.{lookup, remove_entry}
 use Rattle.std.specs.Ordering.{is_eq, match_ordering, MatchOrdering}
@@ -8,14 +8,14 @@ use Rattle.std.specs.declared.cmp.Ordering.{Ordering}
 use Rattle.std.specs.declared.cmp.Ordering.TheVariants.{Less, Equal, Greater}
 use Rattle.std.proofs.lemmas.Cmp.{ranked}
 use Rattle.std.specs.BTreeMap.{is_at, insert_entry}
-use Rattle.std.proofs.lemmas.Bool.{eqb-true, eq-eqb, and_parts, and_from, false_from_ne_true, cases_Bool}
+use Rattle.std.proofs.lemmas.Bool.{eqb-true, eq-eqb, false_from_ne_true, cases_Bool}
 use Rattle.std.proofs.lemmas.List.Elements.{filter-append}
 use Rattle.std.proofs.lemmas.Slice.Eq.{bytes_eq-Decides}
 use Rattle.fluid_types.specs.declared.messages.Message.{Message}
 use Rattle.fluid_rules.proofs.Ids.{own_id}
 use Rattle.fluid_tasks.specs.declared.acts.Act.TheVariants.{Add, Acquire, Complete, Release, Volunteer, Abandon, Finish}
 use Rattle.fluid_tasks.specs.Acts.{Said, Does, Leaves, Nothing, said}
-use Rattle.fluid_tasks.specs.Past.{Past, first, is_text, is_number, volunteering, Volunteering, numbered, volunteerings, candidates_by, clients, since_behind, standing_since, standing, candidates, holder}
+use Rattle.fluid_tasks.specs.Past.{Past, is_text, is_number, volunteering, Volunteering, numbered, volunteerings, since_behind, standing_since, standing, candidates, holder}
 use Rattle.fluid_tasks.specs.Kept.{IsNumbered, pairs}
 use Rattle.fluid_tasks.proofs.Lists.{no_test, all-append, all-weaker, all-any, all-filter, filter-same, filter-none, filter-all, filter-both, self}
 use Rattle.fluid_tasks.proofs.Facts.{number_is}
@@ -267,7 +267,7 @@ module _ (m : Message) (past : Past) (d : Said) (is : said m ≡ d) (u : List �
   standing-kept same =
       quiet m past d is u none
       ∙ filter-same (stands past u) (stands (m ∷ past) u) (volunteerings past u)
-        (all-any (λ (v : Volunteering). stands (m ∷ past) u v ≡ stands past u v) (λ v. ap (λ o. is_number o v.number) (same v.client)) (volunteerings past u))
+      (all-any (λ (v : Volunteering). stands (m ∷ past) u v ≡ stands past u v) (λ v. ap (λ o. is_number o v.number) (same v.client)) (volunteerings past u))
       ∙ sym (standing-filter past u)
 
   -- one client stands no longer
@@ -276,8 +276,8 @@ module _ (m : Message) (past : Past) (d : Said) (is : said m ≡ d) (u : List �
   standing-left c behind =
       quiet m past d is u none
       ∙ filter-same (λ (v : Volunteering). stands past u v && not (bytes_eq c v.client)) (stands (m ∷ past) u) (volunteerings past u)
-        (all-any (λ (v : Volunteering). stands (m ∷ past) u v ≡ (stands past u v && not (bytes_eq c v.client)))
-        (λ v. ap (λ o. is_number o v.number) (behind v.client) ∙ of (bytes_eq c v.client) (standing_since past u v.client) v.number) (volunteerings past u))
+      (all-any (λ (v : Volunteering). stands (m ∷ past) u v ≡ (stands past u v && not (bytes_eq c v.client)))
+      (λ v. ap (λ o. is_number o v.number) (behind v.client) ∙ of (bytes_eq c v.client) (standing_since past u v.client) v.number) (volunteerings past u))
       ∙ filter-both (stands past u) (λ (v : Volunteering). not (bytes_eq c v.client)) (volunteerings past u)
       ∙ ap (filter (λ (v : Volunteering). not (bytes_eq c v.client))) (sym (standing-filter past u))
     where
@@ -297,7 +297,7 @@ module _ (m : Message) (past : Past) (d : Said) (is : said m ≡ d) (u : List �
   standing-done gone =
       quiet m past d is u none
       ∙ filter-none (stands (m ∷ past) u) (volunteerings past u)
-        (all-any (λ (v : Volunteering). stands (m ∷ past) u v ≡ false) (λ v. ap (λ o. is_number o v.number) (gone v.client)) (volunteerings past u))
+      (all-any (λ (v : Volunteering). stands (m ∷ past) u v ≡ false) (λ v. ap (λ o. is_number o v.number) (gone v.client)) (volunteerings past u))
 
 module _ (m : Message) (past : Past) (c own : List ℕ) (is : said m ≡ Does c (Volunteer own)) (numbered_so : IsNumbered (m ∷ past)) where
   -- since when clients stand behind a volunteering for this task
@@ -322,9 +322,9 @@ module _ (m : Message) (past : Past) (c own : List ℕ) (is : said m ≡ Does c 
       standing-step m past _ is u
       ∙ filter-append (stands (m ∷ past) u) (volunteerings past u) (numbered m.number (cond (bytes_eq own u) (Some c) None))
       ∙ ap₂ (λ a b. a ++ b)
-        (filter-same (stands past u) (stands (m ∷ past) u) (volunteerings past u)
-        (all-any (λ (v : Volunteering). stands (m ∷ past) u v ≡ stands past u v) (λ v. ap (λ o. is_number o v.number) (stood_already k stood u v.client)) (volunteerings past u)))
-        (of (bytes_eq own u) refl)
+      (filter-same (stands past u) (stands (m ∷ past) u) (volunteerings past u)
+      (all-any (λ (v : Volunteering). stands (m ∷ past) u v ≡ stands past u v) (λ v. ap (λ o. is_number o v.number) (stood_already k stood u v.client)) (volunteerings past u)))
+      (of (bytes_eq own u) refl)
       ∙ append-nil (filter (stands past u) (volunteerings past u)) ∙ sym (standing-filter past u)
     where
       of : (b : Bool) → bytes_eq own u ≡ b → filter (stands (m ∷ past) u) (numbered m.number (cond b (Some c) None)) ≡ []
@@ -351,11 +351,11 @@ module _ (m : Message) (past : Past) (c own : List ℕ) (is : said m ≡ Does c 
       standing-step m past _ is u
       ∙ filter-append (stands (m ∷ past) u) (volunteerings past u) (numbered m.number (cond (bytes_eq own u) (Some c) None))
       ∙ ap₂ (λ a b. a ++ b)
-        (filter-same (stands past u) (stands (m ∷ past) u) (volunteerings past u)
-        (all-weaker (λ (v : Volunteering). v.number < length past + 1) (λ (v : Volunteering). stands (m ∷ past) u v ≡ stands past u v)
-        (λ v lt. ap (λ o. is_number o v.number) (stood_first not_yet u v.client) ∙ old v.client v.number lt (bytes_eq own u) (bytes_eq c v.client) refl refl)
-        (volunteerings past u) (volunteered_below past numbered_so.1 u)))
-        (of (bytes_eq own u) refl)
+      (filter-same (stands past u) (stands (m ∷ past) u) (volunteerings past u)
+      (all-weaker (λ (v : Volunteering). v.number < length past + 1) (λ (v : Volunteering). stands (m ∷ past) u v ≡ stands past u v)
+      (λ v lt. ap (λ o. is_number o v.number) (stood_first not_yet u v.client) ∙ old v.client v.number lt (bytes_eq own u) (bytes_eq c v.client) refl refl)
+      (volunteerings past u) (volunteered_below past numbered_so.1 u)))
+      (of (bytes_eq own u) refl)
       ∙ ap (λ l. l ++ cond (bytes_eq own u) (record { number = m.number; client = c } ∷ []) []) (sym (standing-filter past u))
     where
       old : (e : List ℕ) (n : ℕ) → n < length past + 1 → (a b : Bool) → bytes_eq own u ≡ a → bytes_eq c e ≡ b → is_number (cond (a && b) (Some m.number) (standing_since past u e)) n ≡ is_number (standing_since past u e) n
@@ -386,14 +386,16 @@ remove-filter c k (v ∷ vs) rise all = of (k == v.number) refl (remove-filter c
             → AllByRecursion (λ (w : Volunteering). not (bytes_eq c w.client) ≡ true) ws
         both [] above its = tt
         both (w ∷ ws) above its = (
-          ap not (its.0 ∙ false_from_ne_true (k == w.number) (λ same. let one = eqb-true k w.number same in omega (arith, one, is, above.0))), both ws above.1 its.1)
+          ap not (its.0 ∙ false_from_ne_true (k == w.number) (λ same. let one = eqb-true k w.number same in omega (arith, one, is, above.0))),
+          both ws above.1 its.1,
+        )
 
     of : (b : Bool) → (k == v.number) ≡ b → remove_entry (is_at (nat_cmp k)) (pairs vs) ≡ pairs (filter (λ (w : Volunteering). not (bytes_eq c w.client)) vs)
         → remove_entry (is_at (nat_cmp k)) ((v.number, v.client) ∷ pairs vs) ≡ pairs (filter (λ (w : Volunteering). not (bytes_eq c w.client)) (v ∷ vs))
     of true at rest =
         ap (λ b. cond b (pairs vs) ((v.number, v.client) ∷ remove_entry (is_at (nat_cmp k)) (pairs vs))) (eq-cmp k v.number ∙ at)
         ∙ sym (ap (λ b. pairs (cond (not b) (v ∷ filter (λ (w : Volunteering). not (bytes_eq c w.client)) vs) (filter (λ (w : Volunteering). not (bytes_eq c w.client)) vs))) (all.0 ∙ at)
-          ∙ ap pairs (filter-all (λ (w : Volunteering). not (bytes_eq c w.client)) vs (others (eqb-true k v.number at))))
+        ∙ ap pairs (filter-all (λ (w : Volunteering). not (bytes_eq c w.client)) vs (others (eqb-true k v.number at))))
     of false at rest =
         ap (λ b. cond b (pairs vs) ((v.number, v.client) ∷ remove_entry (is_at (nat_cmp k)) (pairs vs))) (eq-cmp k v.number ∙ at)
         ∙ ap (λ l. (v.number, v.client) ∷ l) rest

@@ -1,6 +1,6 @@
 -- The worked examples, computed. What a leave says is known by the law that a printed value is read back, and behind it the statuses
 -- go on from those before.
-use Rattle.std.proofs.Common.{◌≡◌, ℕ, ◌==◌, ◌≤◌, Bool, true, false, cond, ◌&&◌, List, [], ◌∷◌, ◌++◌, map, Option, Some, None, option_map, Ok, codes, refl, sym, ap, ap₂, ◌∙◌, arith, rules}
+use Rattle.std.proofs.Common.{◌≡◌, ℕ, ◌==◌, ◌≤◌, Bool, true, false, cond, ◌&&◌, List, [], ◌∷◌, ◌++◌, map, Option, Some, None, option_map, Ok, codes, refl, ap, ap₂, ◌∙◌, arith, rules}
 use Rattle.std.specs.Prelude.{filter, flat_map}
 use Rattle.std.specs.List.{AllByRecursion, filter_map, cons_option}
 use Rattle.std.specs.Fmt.{digits}
@@ -17,7 +17,7 @@ use Rattle.fluid_types.specs.declared.messages.Message.{Message}
 use Rattle.fluid_tasks.specs.declared.acts.Act.TheVariants.{Acquire, Complete}
 use Rattle.fluid_tasks.specs.declared.tasks.Item.{Item}
 use Rattle.fluid_tasks.specs.Acts.{act_in, Said, Does, Leaves, said}
-use Rattle.fluid_tasks.specs.Past.{Past, first, is_number, numbers, items, added, is_of, Status, Free, Held, Gone, is_free_since, is_held_by, holder_in, is_there, status, free, holder_of, live, value, Volunteering, volunteerings, standing_since, candidates_by, clients, standing, candidates, holder}
+use Rattle.fluid_tasks.specs.Past.{Past, first, is_number, numbers, items, added, is_of, Status, Free, Held, Gone, is_free_since, is_held_by, holder_in, is_there, status, free, holder_of, live, value, Volunteering, volunteerings, standing_since, clients, standing, candidates, holder}
 use Rattle.fluid_tasks.specs.Printed.{queue_in, task_in, with_name, shown_queue, shown_task, shown, all_of, queues, tasks, held_in, held, print}
 use Rattle.fluid_tasks.specs.Examples.{TwoItems, InTurn, CountForNothing, TextIsSpelled, TwoVolunteers, Standing, Both, complete, acquire, op, leave, a, b, q, t, two_items, given_back, holder_left, one_is_done, three_items, both_held, done_by_another, add}
 use Rattle.fluid_tasks.proofs.Facts.{status-step, items-step}
@@ -288,9 +288,10 @@ held_are = refl
 left_in_order : free (leave b 7 ∷ both_held) q ≡ 1 ∷ 2 ∷ []
 unfolding numbers
 left_in_order =
-    free_by_statuses (leave b 7 ∷ both_held) q ((1, Free 7) ∷ (2, Free 7) ∷ []) (items-step (leave b 7) both_held (Leaves b) (says_left b 7) ∙ ap (λ l. l ++ []) held_are)
-    ((is_of-kept (leave b 7) both_held (Leaves b) (says_left b 7) refl q 1 ∙ held_of.0, left_status b 7 both_held 1 (Held b) held_statuses.0),
-    ((is_of-kept (leave b 7) both_held (Leaves b) (says_left b 7) refl q 2 ∙ held_of.1, left_status b 7 both_held 2 (Held b) held_statuses.1), tt))
+    free_by_statuses (leave b 7 ∷ both_held) q ((1, Free 7) ∷ (2, Free 7) ∷ []) (items-step (leave b 7) both_held (Leaves b) (says_left b 7) ∙ ap (λ l. l ++ []) held_are) (
+      (is_of-kept (leave b 7) both_held (Leaves b) (says_left b 7) refl q 1 ∙ held_of.0, left_status b 7 both_held 1 (Held b) held_statuses.0),
+      ((is_of-kept (leave b 7) both_held (Leaves b) (says_left b 7) refl q 2 ∙ held_of.1, left_status b 7 both_held 2 (Held b) held_statuses.1), tt),
+    )
 
 pub in_turn : InTurn
 in_turn = record { behind_the_older = three_free; left_in_order = left_in_order }
@@ -336,8 +337,8 @@ next_holds =
     ap (λ vs. first (clients (filter (λ v. is_number (standing_since (leave a 4 ∷ done_by_another) t v.client) v.number) vs)))
     (volunteerings-step (leave a 4) done_by_another (Leaves a) (says_left a 4) t ∙ ap (λ vs. vs ++ []) done_volunteers)
     ∙ ap₂ (λ x y. first (clients (cond (is_number x 1) (one ∷ cond (is_number y 2) (two ∷ []) []) (cond (is_number y 2) (two ∷ []) []))))
-      (since-step (leave a 4) done_by_another (Leaves a) (says_left a 4) t a)
-      (since-step (leave a 4) done_by_another (Leaves a) (says_left a 4) t b ∙ stands_still)
+    (since-step (leave a 4) done_by_another (Leaves a) (says_left a 4) t a)
+    (since-step (leave a 4) done_by_another (Leaves a) (says_left a 4) t b ∙ stands_still)
   where
     one : Volunteering
     one = record { number = 1; client = a }

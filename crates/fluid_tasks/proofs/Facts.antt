@@ -1,16 +1,15 @@
 -- What holds of every past whose messages are numbered 1, 2, 3 and so on.
-use Rattle.std.proofs.Common.{◌≡◌, ℕ, ◌+◌, ◌<◌, ◌≤◌, ◌==◌, Bool, true, false, not, ◌&&◌, ◌||◌, cond, List, [], ◌∷◌, ◌++◌, length, Option, Some, None, option_map, refl, sym, ◌∙◌, ap, ap₂, subst, arith, append-nil, inl, inr, bytes_eq}
-use Rattle.std.specs.Prelude.{filter, is_some, is_none}
-use Rattle.std.specs.List.{list_any, AllByRecursion}
-use Rattle.std.proofs.lemmas.Bool.{eqb-true, eq-eqb, and_parts, and_left, false_from_ne_true, cases_Bool}
+use Rattle.std.proofs.Common.{◌≡◌, ℕ, ◌+◌, ◌<◌, ◌≤◌, ◌==◌, Bool, true, false, ◌&&◌, ◌||◌, cond, List, [], ◌∷◌, ◌++◌, length, Option, Some, None, option_map, refl, sym, ◌∙◌, ap, subst, arith, append-nil, inl, inr}
+use Rattle.std.specs.Prelude.{is_some}
+use Rattle.std.specs.List.{AllByRecursion}
+use Rattle.std.proofs.lemmas.Bool.{eqb-true, and_parts, false_from_ne_true, cases_Bool}
 use Rattle.fluid_types.specs.declared.messages.Message.{Message}
-use Rattle.fluid_tasks.specs.declared.acts.Act.{Act}
 use Rattle.fluid_tasks.specs.declared.acts.Act.TheVariants.{Add, Acquire, Complete, Release, Volunteer, Abandon, Finish}
 use Rattle.fluid_tasks.specs.declared.tasks.Item.{Item}
 use Rattle.fluid_tasks.specs.Acts.{Said, Does, Leaves, Nothing, said}
-use Rattle.fluid_tasks.specs.Past.{Past, first, is_text, is_number, numbers, adds, number_if, items, added, is_of, Status, NoItem, Free, Held, Gone, is_free_since, holder_in, is_held_by, free_by, status_behind, status, free}
+use Rattle.fluid_tasks.specs.Past.{Past, first, is_text, is_number, numbers, adds, number_if, items, added, is_of, Status, NoItem, Free, Held, Gone, is_free_since, is_held_by, status_behind, status, free}
 use Rattle.fluid_tasks.specs.Kept.{IsNumbered}
-use Rattle.fluid_tasks.proofs.Lists.{no_test, all-append, all-weaker, all-any, mem, mem-append, Below, below-more, Ascends, ascends-push, turns, turns-all}
+use Rattle.fluid_tasks.proofs.Lists.{no_test, all-append, all-any, mem, mem-append, Below, below-more, Ascends, ascends-push, turns-all}
 
 -- ---- numbers
 

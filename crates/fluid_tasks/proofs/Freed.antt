@@ -1,19 +1,18 @@
 -- What is kept behind a message that frees items or makes one gone.
-use Rattle.std.proofs.Common.{◌≡◌, ℕ, ◌+◌, ◌-◌, ◌<◌, ◌≤◌, ◌==◌, nat_lt, Bool, true, false, not, ◌&&◌, ◌||◌, cond, List, [], ◌∷◌, ◌++◌, length, map, Option, Some, None, option_map, refl, sym, ◌∙◌, ap, ap₂, subst, arith, append-nil, nat_cmp, inl, inr, ◌⊎◌, bytes_eq}
-use Rattle.std.specs.Prelude.{filter, is_none, is_some, IsSome}
-use Rattle.std.specs.List.{AllByRecursion, list_any}
-use Rattle.std.specs.BTreeMap.{BTreeMap, get, is_at, UpdatesBy, btree_map_len}
-use Rattle.std.proofs.lemmas.Bool.{eqb-true, eq-eqb, and_parts, and_from, false_from_ne_true, cases_Bool, lt-ltb}
+use Rattle.std.proofs.Common.{◌≡◌, ℕ, ◌+◌, ◌-◌, ◌≤◌, ◌==◌, Bool, true, false, not, ◌&&◌, cond, List, [], ◌∷◌, ◌++◌, Option, Some, None, refl, sym, ◌∙◌, ap, ap₂, subst, arith, append-nil, nat_cmp, bytes_eq}
+use Rattle.std.specs.Prelude.{filter}
+use Rattle.std.specs.BTreeMap.{BTreeMap, get, UpdatesBy, btree_map_len}
+use Rattle.std.proofs.lemmas.Bool.{eqb-true, and_parts, lt-ltb}
 use Rattle.std.proofs.lemmas.Slice.Eq.{bytes_eq-Decides}
 use Rattle.fluid_types.specs.declared.messages.Message.{Message}
 use Rattle.fluid_tasks.specs.declared.acts.Act.TheVariants.{Complete, Release}
 use Rattle.fluid_tasks.specs.declared.tasks.Item.{Item}
 use Rattle.fluid_tasks.specs.declared.queues.Queue.{Queue}
-use Rattle.fluid_tasks.specs.Acts.{Said, Does, Leaves, said}
-use Rattle.fluid_tasks.specs.Line.{ALine, given_back, without}
-use Rattle.fluid_tasks.specs.Past.{Past, first, is_text, adds, items, added, is_of, Status, NoItem, Free, Held, Gone, is_free_since, holder_in, is_held_by, is_there, status, free, live}
-use Rattle.fluid_tasks.specs.Kept.{Named, at, ChangedAt, Changes, free_at, held_at, IsBalanced, IsUnheld, IsTakenBack, IsFinished, Candidates, entries_at, Clients, has_item, task_at, KeepsItems, IsNumbered, held_by, pairs, IsQueue, IsKept}
-use Rattle.fluid_tasks.proofs.Lists.{no_test, all-any, filter-same, filter-none, filter-one, self, mem}
+use Rattle.fluid_tasks.specs.Acts.{Said, Does, said}
+use Rattle.fluid_tasks.specs.Line.{ALine, given_back}
+use Rattle.fluid_tasks.specs.Past.{Past, is_text, adds, items, added, is_of, Status, NoItem, Free, Held, Gone, is_free_since, holder_in, is_held_by, is_there, status, free, live}
+use Rattle.fluid_tasks.specs.Kept.{Named, at, ChangedAt, Changes, held_at, IsTakenBack, IsFinished, Candidates, Clients, KeepsItems, IsNumbered, held_by, pairs, IsQueue, IsKept}
+use Rattle.fluid_tasks.proofs.Lists.{no_test, all-any, filter-same, filter-none, filter-one}
 use Rattle.fluid_tasks.proofs.Facts.{status-step, items_rise, of_mem, text_some}
 use Rattle.fluid_tasks.proofs.Candidates.{eq-cmp}
 use Rattle.fluid_tasks.proofs.Freeing.{added-kept, is_of-kept, free-kept, free-freed, of_one, held_not_free}

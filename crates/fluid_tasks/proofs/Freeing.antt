@@ -1,18 +1,17 @@
 -- What each message makes of the free items of a queue.
-use Rattle.std.proofs.Common.{◌≡◌, ℕ, ◌+◌, ◌<◌, ◌≤◌, ◌==◌, Bool, true, false, not, ◌&&◌, ◌||◌, cond, List, [], ◌∷◌, ◌++◌, length, Option, Some, None, option_map, refl, sym, ◌∙◌, ap, ap₂, subst, arith, append-nil, inl, inr, ◌⊎◌, bytes_eq}
+use Rattle.std.proofs.Common.{◌≡◌, ℕ, ◌+◌, ◌<◌, ◌==◌, Bool, true, false, not, ◌&&◌, cond, List, [], ◌∷◌, ◌++◌, length, Option, Some, None, option_map, refl, sym, ◌∙◌, ap, ap₂, subst, arith, append-nil, inl, inr, ◌⊎◌, bytes_eq}
 use Rattle.std.specs.Prelude.{filter}
-use Rattle.std.specs.List.{AllByRecursion}
-use Rattle.std.proofs.lemmas.Bool.{eqb-true, eq-eqb, and_parts, false_from_ne_true, cases_Bool}
+use Rattle.std.proofs.lemmas.Bool.{eqb-true, false_from_ne_true, cases_Bool}
 use Rattle.std.proofs.lemmas.List.Elements.{filter-append}
 use Rattle.std.proofs.lemmas.Slice.Eq.{bytes_eq-Decides}
 use Rattle.fluid_types.specs.declared.messages.Message.{Message}
 use Rattle.fluid_tasks.specs.declared.acts.Act.TheVariants.{Add, Acquire}
 use Rattle.fluid_tasks.specs.declared.tasks.Item.{Item}
 use Rattle.fluid_tasks.specs.Acts.{Said, Does, said}
-use Rattle.fluid_tasks.specs.Past.{Past, first, is_text, is_number, numbers, adds, number_if, items, added, is_of, Status, NoItem, Free, Held, Gone, is_free_since, holder_in, is_held_by, status, free}
+use Rattle.fluid_tasks.specs.Past.{Past, first, is_text, is_number, numbers, adds, number_if, items, added, is_of, Status, NoItem, Free, Held, Gone, is_free_since, is_held_by, status, free}
 use Rattle.fluid_tasks.specs.Kept.{IsNumbered}
-use Rattle.fluid_tasks.proofs.Lists.{no_test, all-weaker, all-any, filter-same, filter-none, mem, Below, turns, turns-push, turns-same, turns-extra, turns-taken, self}
-use Rattle.fluid_tasks.proofs.Facts.{numbers_below, numbers_rise, items_below, items_rise, added-step, items-step, numbers-step, status-step, since_below, single, first_free_is, number_is}
+use Rattle.fluid_tasks.proofs.Lists.{all-weaker, all-any, filter-same, filter-none, Below, turns, turns-push, turns-same, turns-extra, turns-taken, self}
+use Rattle.fluid_tasks.proofs.Facts.{numbers_below, numbers_rise, items_below, items_rise, added-step, items-step, numbers-step, status-step, since_below, single, first_free_is}
 
 -- an item of the queue is free since a number
 abbrev pub test : Past → List ℕ → ℕ → ℕ → Bool
@@ -73,11 +72,11 @@ module _ (m : Message) (past : Past) (d : Said) (is : said m ≡ d) (numbered : 
   free-kept same q =
       quiet-step m past d is none q
       ∙ ap₂ (λ a b. a ++ b)
-        (turns-same (test past q) (test (m ∷ past) q) m.number (numbers past) (items past) (below_numbers past numbered.1 m.number numbered.0) (below_items past numbered.1 m.number numbered.0)
-        (λ s i s_lt i_lt. ap₂ (λ a b. a && b) (is_of-kept m past d is none q i) (same s i)))
-        (filter-none (test (m ∷ past) q m.number) (items past)
-        (all-any (λ i. test (m ∷ past) q m.number i ≡ false)
-        (λ i. ap (λ b. is_of (m ∷ past) q i && b) (same m.number i ∙ not_yet past numbered.1 m.number i numbered.0) ∙ none_and (is_of (m ∷ past) q i)) (items past)))
+      (turns-same (test past q) (test (m ∷ past) q) m.number (numbers past) (items past) (below_numbers past numbered.1 m.number numbered.0) (below_items past numbered.1 m.number numbered.0)
+      (λ s i s_lt i_lt. ap₂ (λ a b. a && b) (is_of-kept m past d is none q i) (same s i)))
+      (filter-none (test (m ∷ past) q m.number) (items past)
+      (all-any (λ i. test (m ∷ past) q m.number i ≡ false)
+      (λ i. ap (λ b. is_of (m ∷ past) q i && b) (same m.number i ∙ not_yet past numbered.1 m.number i numbered.0) ∙ none_and (is_of (m ∷ past) q i)) (items past)))
       ∙ append-nil (turns (test past q) (numbers past) (items past)) ∙ sym (free-turns past q)
 
   -- some that were held are freed
@@ -86,11 +85,11 @@ module _ (m : Message) (past : Past) (d : Said) (is : said m ≡ d) (numbered : 
   free-freed freed c held behind q =
       quiet-step m past d is none q
       ∙ ap₂ (λ a b. a ++ b)
-        (turns-same (test past q) (test (m ∷ past) q) m.number (numbers past) (items past) (below_numbers past numbered.1 m.number numbered.0) (below_items past numbered.1 m.number numbered.0)
-        (λ s i s_lt i_lt. ap₂ (λ a b. a && b) (is_of-kept m past d is none q i) (ap (is_free_since s) (behind i) ∙ earlier s i s_lt (freed i) refl)))
-        (filter-same (λ i. is_of past q i && freed i) (test (m ∷ past) q m.number) (items past)
-        (all-any (λ i. test (m ∷ past) q m.number i ≡ (is_of past q i && freed i))
-        (λ i. ap₂ (λ a b. a && b) (is_of-kept m past d is none q i) (ap (is_free_since m.number) (behind i) ∙ now i (freed i))) (items past)))
+      (turns-same (test past q) (test (m ∷ past) q) m.number (numbers past) (items past) (below_numbers past numbered.1 m.number numbered.0) (below_items past numbered.1 m.number numbered.0)
+      (λ s i s_lt i_lt. ap₂ (λ a b. a && b) (is_of-kept m past d is none q i) (ap (is_free_since s) (behind i) ∙ earlier s i s_lt (freed i) refl)))
+      (filter-same (λ i. is_of past q i && freed i) (test (m ∷ past) q m.number) (items past)
+      (all-any (λ i. test (m ∷ past) q m.number i ≡ (is_of past q i && freed i))
+      (λ i. ap₂ (λ a b. a && b) (is_of-kept m past d is none q i) (ap (is_free_since m.number) (behind i) ∙ now i (freed i))) (items past)))
       ∙ ap (λ l. l ++ filter (λ i. is_of past q i && freed i) (items past)) (sym (free-turns past q))
     where
       earlier : (s i : ℕ) → s < m.number → (b : Bool) → freed i ≡ b → is_free_since s (cond b (Free m.number) (status past i)) ≡ is_free_since s (status past i)
@@ -125,9 +124,9 @@ module _ (m : Message) (past : Past) (c queue : List ℕ) (is : said m ≡ Does 
   free-given g rest given q =
       quiet-step m past _ is refl q
       ∙ ap₂ (λ a b. a ++ b)
-        (turns-same (λ s i. test past q s i && not (g == i)) (test (m ∷ past) q) m.number (numbers past) (items past) (below_numbers past numbered.1 m.number numbered.0)
-        (below_items past numbered.1 m.number numbered.0) (λ s i s_lt i_lt. tested s i))
-        (filter-none (test (m ∷ past) q m.number) (items past) (all-any (λ i. test (m ∷ past) q m.number i ≡ false) (λ i. tested m.number i ∙ later i) (items past)))
+      (turns-same (λ s i. test past q s i && not (g == i)) (test (m ∷ past) q) m.number (numbers past) (items past) (below_numbers past numbered.1 m.number numbered.0)
+      (below_items past numbered.1 m.number numbered.0) (λ s i s_lt i_lt. tested s i))
+      (filter-none (test (m ∷ past) q m.number) (items past) (all-any (λ i. test (m ∷ past) q m.number i ≡ false) (λ i. tested m.number i ∙ later i) (items past)))
       ∙ append-nil (turns (λ s i. test past q s i && not (g == i)) (numbers past) (items past))
       ∙ taken (cases_Bool (bytes_eq queue q))
     where
@@ -180,19 +179,19 @@ module _ (m : Message) (past : Past) (c : List ℕ) (it : Item) (is : said m ≡
   free-added q =
       free-step m past _ is q (items past ++ m.number ∷ []) refl
       ∙ ap₂ (λ a b. a ++ b)
-        (turns-extra (test (m ∷ past) q) (numbers past) (items past) m.number
-        (all-weaker (λ s. s < m.number) (λ s. test (m ∷ past) q s m.number ≡ false) (λ s lt. own s ∙ ap (λ b. bytes_eq it.queue q && b) (other_number m.number s lt) ∙ none_and (bytes_eq it.queue q))
-        (numbers past) (below_numbers past numbered.1 m.number numbered.0))
-        ∙ turns-same (test past q) (test (m ∷ past) q) m.number (numbers past) (items past) (below_numbers past numbered.1 m.number numbered.0) (below_items past numbered.1 m.number numbered.0)
-          (λ s i s_lt i_lt. before s i i_lt)
-        ∙ sym (free-turns past q))
-        (filter-append (test (m ∷ past) q m.number) (items past) (m.number ∷ [])
-        ∙ ap₂ (λ a b. a ++ b)
-          (filter-none (test (m ∷ past) q m.number) (items past)
-          (all-weaker (λ i. i < m.number) (λ i. test (m ∷ past) q m.number i ≡ false)
-          (λ i lt. before m.number i lt ∙ ap (λ b. is_of past q i && b) (not_yet past numbered.1 m.number i numbered.0) ∙ none_and (is_of past q i)) (items past)
-          (below_items past numbered.1 m.number numbered.0)))
-          (ap (λ b. cond b (m.number ∷ []) []) (own m.number ∙ ap (λ b. bytes_eq it.queue q && b) (self m.number) ∙ all_and (bytes_eq it.queue q))))
+      (turns-extra (test (m ∷ past) q) (numbers past) (items past) m.number
+      (all-weaker (λ s. s < m.number) (λ s. test (m ∷ past) q s m.number ≡ false) (λ s lt. own s ∙ ap (λ b. bytes_eq it.queue q && b) (other_number m.number s lt) ∙ none_and (bytes_eq it.queue q))
+      (numbers past) (below_numbers past numbered.1 m.number numbered.0))
+      ∙ turns-same (test past q) (test (m ∷ past) q) m.number (numbers past) (items past) (below_numbers past numbered.1 m.number numbered.0) (below_items past numbered.1 m.number numbered.0)
+      (λ s i s_lt i_lt. before s i i_lt)
+      ∙ sym (free-turns past q))
+      (filter-append (test (m ∷ past) q m.number) (items past) (m.number ∷ [])
+      ∙ ap₂ (λ a b. a ++ b)
+      (filter-none (test (m ∷ past) q m.number) (items past)
+      (all-weaker (λ i. i < m.number) (λ i. test (m ∷ past) q m.number i ≡ false)
+      (λ i lt. before m.number i lt ∙ ap (λ b. is_of past q i && b) (not_yet past numbered.1 m.number i numbered.0) ∙ none_and (is_of past q i)) (items past)
+      (below_items past numbered.1 m.number numbered.0)))
+      (ap (λ b. cond b (m.number ∷ []) []) (own m.number ∙ ap (λ b. bytes_eq it.queue q && b) (self m.number) ∙ all_and (bytes_eq it.queue q))))
     where
       own : (s : ℕ) → test (m ∷ past) q s m.number ≡ (bytes_eq it.queue q && (m.number == s))
       own s =

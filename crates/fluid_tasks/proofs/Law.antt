@@ -1,5 +1,5 @@
 -- In every legal ledger's order each item is free, held by a member, or gone, and the holder of a task is a member.
-use Rattle.std.proofs.Common.{◌≡◌, ℕ, zero, suc, ◌+◌, ◌<◌, ◌≤◌, ◌==◌, Bool, true, false, not, ◌&&◌, ◌||◌, cond, List, [], ◌∷◌, ◌++◌, reverse, length, take, Option, Some, None, option_map, refl, sym, ◌∙◌, ap, ap₂, subst, arith, append_assoc, append-nil, inl, inr, ◌⊎◌, bytes_eq, Ok}
+use Rattle.std.proofs.Common.{◌≡◌, ℕ, zero, suc, ◌+◌, ◌≤◌, ◌==◌, Bool, true, false, not, ◌&&◌, ◌||◌, cond, List, [], ◌∷◌, ◌++◌, reverse, length, take, Option, Some, None, option_map, refl, sym, ◌∙◌, ap, ap₂, subst, arith, append_assoc, append-nil, inl, inr, ◌⊎◌, bytes_eq, Ok}
 use Rattle.std.specs.Prelude.{filter, is_some, option_to_list}
 use Rattle.std.specs.List.{AllByRecursion, list_any}
 use Rattle.std.specs.FinMap.{get}
@@ -18,7 +18,6 @@ use Rattle.fluid_types.specs.declared.entries.Raw.TheVariants.{Join, Leave, Subm
 use Rattle.fluid_types.specs.declared.entries.Scopes.{Scopes}
 use Rattle.fluid_types.specs.declared.entries.Submission.{Submission}
 use Rattle.fluid_types.specs.declared.messages.Message.{Message}
-use Rattle.fluid_types.specs.declared.nacks.Nack.{Nack}
 use Rattle.fluid_types.specs.declared.verdicts.Verdict.{Verdict}
 use Rattle.fluid_types.specs.declared.verdicts.Verdict.TheVariants.{Sequenced, Nacked, Dropped, Absorbed}
 use Rattle.fluid_types.specs.Quorum.{left_by, member_of}
@@ -28,14 +27,11 @@ use Rattle.fluid_rules.specs.Past as entries
 use Rattle.fluid_rules.specs.Rules as rule
 use Rattle.fluid_rules.specs.Past.{Entry, Client, client_behind}
 use Rattle.fluid_rules.specs.Rules.{IsLegal, verdict, message, client, is_joined, minimum}
-use Rattle.fluid_types.specs.Names.{IsName, is_name}
 use Rattle.fluid_types.specs.Texts.{name_of}
-use Rattle.fluid_types.specs.declared.entries.Offered.{Offered}
-use Rattle.fluid_types.specs.declared.entries.Offered.TheVariants as offered
 use Rattle.fluid_types.specs.declared.messages.Kind.{Kind}
 use Rattle.fluid_types.specs.declared.messages.Kind.TheVariants as kind
 use Rattle.fluid_types.specs.declared.quorum.Member.{Member}
-use Rattle.fluid_types.specs.Quorum.{of_leave, of_join, data_of, joining, leaves, unless_left, standing as present, members, latest, quorum_of, quorum}
+use Rattle.fluid_types.specs.Quorum.{of_leave, of_join, leaves, unless_left, standing as present, members, quorum_of}
 use Rattle.fluid_types.proofs.Tables.{get-latest}
 use Rattle.fluid_table.specs.Table.{byte_order}
 use Rattle.fluid_rules.specs.Past.{client_heard, client_submitting, is_sequenced}
@@ -49,8 +45,8 @@ use Rattle.fluid_rules.proofs.Taken.{sequenced-taken}
 use Rattle.fluid_rules.proofs.Legal.{legal-induction}
 use Rattle.fluid_tasks.specs.declared.acts.Act.{Act}
 use Rattle.fluid_tasks.specs.declared.acts.Act.TheVariants.{Add, Acquire, Complete, Release, Volunteer, Abandon, Finish}
-use Rattle.fluid_tasks.specs.Acts.{Said, Does, Leaves, Nothing, said, done, leaving, act_of, act_in, of_op}
-use Rattle.fluid_tasks.specs.Past.{Past, past_of, first, is_text, is_number, numbers, adds, items, added, is_of, Status, NoItem, Free, Held, Gone, is_free_since, holder_in, is_held_by, is_there, status, status_behind, live, value, Volunteering, standing, clients, candidates, standing_since, since_behind, free, holder, holder_of}
+use Rattle.fluid_tasks.specs.Acts.{Said, Does, Leaves, Nothing, said, done, act_of}
+use Rattle.fluid_tasks.specs.Past.{Past, past_of, first, is_text, is_number, numbers, adds, items, added, is_of, Status, NoItem, Free, Held, Gone, is_free_since, holder_in, is_held_by, is_there, status, status_behind, live, value, Volunteering, standing, clients, candidates, standing_since, since_behind, free, holder}
 use Rattle.fluid_tasks.specs.Kept.{IsNumbered}
 use Rattle.fluid_tasks.proofs.Lists.{no_test, or_left, mem, mem-append, turns, self}
 use Rattle.fluid_tasks.proofs.Facts.{status-step, added-step, mem-items, of_mem, IsFreeIn, all_free}
@@ -307,7 +303,7 @@ module _ (m : Message) where
   present_now ms j is =
       ap (named j.id) (present-push ms) ∙ named-append j.id (filter (λ (x : List ℕ × Member). not (leaves x.0 m)) (present ms)) (unless_left [] (member_of m))
       ∙ or_right (named j.id (filter (λ (x : List ℕ × Member). not (leaves x.0 m)) (present ms))) (named j.id (unless_left [] (member_of m)))
-        (ap (λ o. named j.id (unless_left [] o)) is ∙ or_left (bytes_eq j.id j.id) false (own_id j.id))
+      (ap (λ o. named j.id (unless_left [] o)) is ∙ or_left (bytes_eq j.id j.id) false (own_id j.id))
 
 -- a client whose leave it isn't
 not_leaving : (m : Message) (c : List ℕ) → left_by m ≡ None → leaves c m ≡ false
@@ -421,7 +417,7 @@ module _ (l : Ledger) (told : Told l) where
   join_told id scopes detail moment m readable is =
       let says = join_said l id scopes detail moment m is in
       let now : (c : List ℕ) → client (l ++ (Join id scopes detail moment, Sequenced m) ∷ []) c ≡ cond (bytes_eq id c) (Some (record { last = 0; reference = minimum l; nacked = false; scopes = scopes; heard = moment })) (client l c) =
-          λ c. client-push l (Join id scopes detail moment, Sequenced m) c in
+      λ c. client-push l (Join id scopes detail moment, Sequenced m) c in
       spoken_entry l (Join id scopes detail moment, Sequenced m) m Nothing refl (record {
         said_is = none_done m says.0 says.1;
         number_is = message-number l (Join id scopes detail moment) m is;
@@ -465,19 +461,19 @@ module _ (l : Ledger) (told : Told l) where
       let joined_before : is_some (client l id) ≡ true = ap is_some (client-joined l id (sequenced-taken l id submission moment m sequenced).joined) in
       elim (some_done m id says.0.0 says.0.1) [
         | inl nothing ↦ spoken_entry l (Submit id submission moment, Sequenced m) m Nothing refl (record {
-            said_is = nothing;
-            number_is = message-number l (Submit id submission moment) m is;
-            present_too = λ c some. present_still m (order l) c (not_leaving m c says.0.0) (told.is_present c (sym (submit_same id submission moment (Sequenced m) c) ∙ some));
-            stays_joined = λ c some no_leave. submit_same id submission moment (Sequenced m) c ∙ some;
-            joined = λ c no_one. absurd no_one;
-          }) told
+          said_is = nothing;
+          number_is = message-number l (Submit id submission moment) m is;
+          present_too = λ c some. present_still m (order l) c (not_leaving m c says.0.0) (told.is_present c (sym (submit_same id submission moment (Sequenced m) c) ∙ some));
+          stays_joined = λ c some no_leave. submit_same id submission moment (Sequenced m) c ∙ some;
+          joined = λ c no_one. absurd no_one;
+        }) told
         | inr does ↦ spoken_entry l (Submit id submission moment, Sequenced m) m (Does id does.0) refl (record {
-            said_is = does.1;
-            number_is = message-number l (Submit id submission moment) m is;
-            present_too = λ c some. present_still m (order l) c (not_leaving m c says.0.0) (told.is_present c (sym (submit_same id submission moment (Sequenced m) c) ∙ some));
-            stays_joined = λ c some no_leave. submit_same id submission moment (Sequenced m) c ∙ some;
-            joined = λ c own. submit_same id submission moment (Sequenced m) c ∙ subst (λ w. is_some (client l w) ≡ true) own joined_before;
-          }) told
+          said_is = does.1;
+          number_is = message-number l (Submit id submission moment) m is;
+          present_too = λ c some. present_still m (order l) c (not_leaving m c says.0.0) (told.is_present c (sym (submit_same id submission moment (Sequenced m) c) ∙ some));
+          stays_joined = λ c some no_leave. submit_same id submission moment (Sequenced m) c ∙ some;
+          joined = λ c own. submit_same id submission moment (Sequenced m) c ∙ subst (λ w. is_some (client l w) ≡ true) own joined_before;
+        }) told
       ]
 
   report_told : (summary : ℕ) (found : Bool) (moment : ℕ) (m : Message) → message l (Report summary found moment) ≡ Some m → Told (l ++ (Report summary found moment, Sequenced m) ∷ [])

@@ -1,6 +1,6 @@
 -- What is kept behind a leave.
-use Rattle.std.proofs.Common.{◌≡◌, ℕ, ◌+◌, ◌-◌, ◌<◌, ◌≤◌, ◌==◌, Bool, true, false, not, ◌&&◌, ◌||◌, cond, List, [], ◌∷◌, ◌++◌, length, Option, Some, None, option_map, String, Global, string_bytes, string_cmp, refl, sym, ◌∙◌, ap, ap₂, subst, arith, append_assoc, append-nil, nat_cmp, inl, inr, ◌⊎◌, bytes_eq}
-use Rattle.std.specs.Prelude.{filter, is_none, is_some}
+use Rattle.std.proofs.Common.{◌≡◌, ℕ, ◌+◌, ◌-◌, ◌<◌, ◌==◌, Bool, true, false, not, ◌&&◌, ◌||◌, cond, List, [], ◌∷◌, ◌++◌, Option, Some, None, option_map, String, Global, string_bytes, string_cmp, refl, sym, ◌∙◌, ap, ap₂, subst, arith, append_assoc, append-nil, nat_cmp, bytes_eq}
+use Rattle.std.specs.Prelude.{filter}
 use Rattle.std.specs.List.{AllByRecursion, list_any}
 use Rattle.std.specs.List.Sorted.{IsStrictlySortedBy}
 use Rattle.std.specs.Map.{lookup, keys_of}
@@ -8,25 +8,24 @@ use Rattle.std.specs.Ordering.{is_eq, MatchOrdering}
 use Rattle.std.specs.declared.cmp.Ordering.{Ordering}
 use Rattle.std.specs.declared.cmp.Ordering.TheVariants.{Less, Equal, Greater}
 use Rattle.std.specs.Cmp.Lexicographic.{slice_cmp}
-use Rattle.std.specs.BTreeMap.{BTreeMap, get, get_by_text, is_at, UpdatesBy, btree_map_len}
-use Rattle.std.specs.BTreeSet.{BTreeSet, contains}
-use Rattle.std.proofs.lemmas.Bool.{eqb-true, eq-eqb, and_parts, and_from, false_from_ne_true, cases_Bool, lt-ltb}
+use Rattle.std.specs.BTreeMap.{BTreeMap, get, get_by_text, is_at, btree_map_len}
+use Rattle.std.proofs.lemmas.Bool.{eqb-true, eq-eqb, and_parts, false_from_ne_true}
 use Rattle.std.proofs.lemmas.Cmp.{ranked}
 use Rattle.std.proofs.lemmas.Map.Keys.{sorted_head, sorted_tail}
-use Rattle.std.proofs.lemmas.Map.Text.{is_eq-slice_cmp, text_cmp, btree_map_updates_text}
+use Rattle.std.proofs.lemmas.Map.Text.{is_eq-slice_cmp, text_cmp}
 use Rattle.std.proofs.lemmas.Slice.Eq.{bytes_eq-Decides}
 use Rattle.fluid_types.specs.declared.messages.Message.{Message}
 use Rattle.fluid_tasks.specs.declared.held.Holdings.{Holdings}
 use Rattle.fluid_tasks.specs.declared.tasks.Item.{Item}
 use Rattle.fluid_tasks.specs.declared.queues.Queue.{Queue}
-use Rattle.fluid_tasks.specs.Acts.{Said, Leaves, said}
-use Rattle.fluid_tasks.specs.Past.{Past, is_text, items, added, is_of, Status, NoItem, Free, Held, Gone, holder_in, is_held_by, is_there, status, free, live, Volunteering, standing_since, standing}
-use Rattle.fluid_tasks.specs.Kept.{Named, at, ChangedAt, Changes, free_at, held_at, IsBalanced, IsTakenBack, is_returned, IsBack, AreBackIn, AreBack, Candidates, entries_at, IsWithoutClient, SteppedDown, HasSteppedDown, Clients, has_item, task_at, IsNumbered, held_by, pairs, IsQueue, IsKept}
+use Rattle.fluid_tasks.specs.Acts.{Leaves, said}
+use Rattle.fluid_tasks.specs.Past.{Past, is_text, items, added, is_of, Free, holder_in, is_held_by, status, free, live, standing_since}
+use Rattle.fluid_tasks.specs.Kept.{Named, at, ChangedAt, is_returned, IsBack, AreBack, Candidates, IsWithoutClient, HasSteppedDown, Clients, has_item, task_at, IsNumbered, held_by, pairs, IsQueue, IsKept}
 use Rattle.fluid_tasks.proofs.Lists.{no_test, all-any, all-weaker, filter-same, filter-none, mem, Ascends, ascends-filter, same_ascending}
 use Rattle.fluid_tasks.proofs.Facts.{status-step, items_rise, of_mem, text_some}
 use Rattle.fluid_tasks.proofs.Candidates.{eq-cmp, since-step, standing-kept, standing-left}
-use Rattle.fluid_tasks.proofs.Freeing.{is_of-kept, free-freed}
-use Rattle.fluid_tasks.proofs.Applied.{SameItems, SameTasks, same_items, kept_same, live-is, held_by-is}
+use Rattle.fluid_tasks.proofs.Freeing.{free-freed}
+use Rattle.fluid_tasks.proofs.Applied.{SameItems, SameTasks, same_items, live-is, held_by-is}
 use Rattle.fluid_tasks.proofs.Freed.{held_test, held_in, held_freed, live_freed, held_still, back_of, held_there}
 use Rattle.fluid_tasks.proofs.Stood.{stepped}
 
@@ -95,45 +94,55 @@ back_more kept c q item rest above (Some w) next last one more = of (is_returned
     of : (b : Bool) → is_returned kept c q (Some w) item ≡ b → IsBack b item (Some w) next → AreBack kept c q (item ∷ rest) (Some w) last
     of false at to =
         let behind = subst (λ o. AreBack kept c q rest o last) to more in
-        let same : filter (is_returned kept c q (Some w)) (item ∷ rest) ≡ filter (is_returned kept c q (Some w)) rest = ap (λ b. cond b (item ∷ filter (is_returned kept c q (Some w)) rest) (filter (is_returned kept c q (Some w)) rest)) at in
-        (behind.0, (behind.1.0, record {
-          free = λ balanced. behind.1.1.free balanced ∙ ap (λ l. w.line.free ++ l) (sym same);
-          held = λ n. behind.1.1.held n ∙ ap (λ l. cond (mem n l) None (get nat_cmp w.held n)) (sym same);
-          balanced = behind.1.1.balanced;
-          ordered = behind.1.1.ordered;
-        }))
+        let same : filter (is_returned kept c q (Some w)) (item ∷ rest) ≡ filter (is_returned kept c q (Some w)) rest = ap (λ b. cond b (item ∷ filter (is_returned kept c q (Some w)) rest) (filter (is_returned kept c q (Some w)) rest)) at in (
+          behind.0,
+          (
+            behind.1.0,
+            record {
+              free = λ balanced. behind.1.1.free balanced ∙ ap (λ l. w.line.free ++ l) (sym same);
+              held = λ n. behind.1.1.held n ∙ ap (λ l. cond (mem n l) None (get nat_cmp w.held n)) (sym same);
+              balanced = behind.1.1.balanced;
+              ordered = behind.1.1.ordered;
+            },
+          ),
+        )
     of true at to =
         let v = to.0 in
         let change = to.1.1 in
         let behind = subst (λ o. AreBack kept c q rest o last) to.1.0 more in
         let tests : filter (is_returned kept c q (Some v)) rest ≡ filter (is_returned kept c q (Some w)) rest =
-            filter-same (is_returned kept c q (Some w)) (is_returned kept c q (Some v)) rest
-            (all-weaker (λ n. item < n) (λ n. is_returned kept c q (Some v) n ≡ is_returned kept c q (Some w) n)
-            (λ n lt. ap (λ o. is_text (option_map (λ (it : Item). it.queue) (kept n)) q && is_text o c)
-                (change.unheld.held n ∙ ap (λ b. cond b None (get nat_cmp w.held n)) (false_from_ne_true (item == n) (λ same. let is = eqb-true item n same in omega (arith, is, lt)))))
-            rest above) in
+        filter-same (is_returned kept c q (Some w)) (is_returned kept c q (Some v)) rest
+        (all-weaker (λ n. item < n) (λ n. is_returned kept c q (Some v) n ≡ is_returned kept c q (Some w) n)
+        (λ n lt. ap (λ o. is_text (option_map (λ (it : Item). it.queue) (kept n)) q && is_text o c)
+        (change.unheld.held n ∙ ap (λ b. cond b None (get nat_cmp w.held n)) (false_from_ne_true (item == n) (λ same. let is = eqb-true item n same in omega (arith, is, lt)))))
+        rest above) in
         let all : filter (is_returned kept c q (Some w)) (item ∷ rest) ≡ item ∷ filter (is_returned kept c q (Some w)) rest = ap (λ b. cond b (item ∷ filter (is_returned kept c q (Some w)) rest) (filter (is_returned kept c q (Some w)) rest)) at in
         let its = text_some (get nat_cmp w.held item) c (and_parts _ _ at).1 in
-        let counted : btree_map_len v.held + 1 ≡ btree_map_len w.held = subst (λ b. btree_map_len v.held + cond b 1 0 ≡ btree_map_len w.held) its change.unheld.count in
-        (behind.0, (behind.1.0, record {
-          free = λ balanced.
-              let line_is = change.line ∙ back_of w.line item (omega (arith, counted, balanced)) in
-              let out_is : v.line.out ≡ w.line.out - 1 = ap (λ l. l.out) line_is in
-              behind.1.1.free (omega (arith, out_is, counted, balanced))
-              ∙ ap₂ (λ a b. a ++ b) (ap (λ l. l.free) line_is) tests
-              ∙ append_assoc w.line.free (item ∷ []) (filter (is_returned kept c q (Some w)) rest)
-              ∙ ap (λ l. w.line.free ++ l) (sym all);
-          held = λ n.
-              behind.1.1.held n
-              ∙ ap₂ (λ l o. cond (mem n l) None o) tests (change.unheld.held n)
-              ∙ both (item == n) (mem n (filter (is_returned kept c q (Some w)) rest)) (get nat_cmp w.held n)
-              ∙ ap (λ l. cond (mem n l) None (get nat_cmp w.held n)) (sym all);
-          balanced = λ balanced.
-              let line_is = change.line ∙ back_of w.line item (omega (arith, counted, balanced)) in
-              let out_is : v.line.out ≡ w.line.out - 1 = ap (λ l. l.out) line_is in
-              behind.1.1.balanced (omega (arith, out_is, counted, balanced));
-          ordered = λ order. behind.1.1.ordered change.unheld.ordered;
-        }))
+        let counted : btree_map_len v.held + 1 ≡ btree_map_len w.held = subst (λ b. btree_map_len v.held + cond b 1 0 ≡ btree_map_len w.held) its change.unheld.count in (
+          behind.0,
+          (
+            behind.1.0,
+            record {
+              free = λ balanced.
+                  let line_is = change.line ∙ back_of w.line item (omega (arith, counted, balanced)) in
+                  let out_is : v.line.out ≡ w.line.out - 1 = ap (λ l. l.out) line_is in
+                  behind.1.1.free (omega (arith, out_is, counted, balanced))
+                  ∙ ap₂ (λ a b. a ++ b) (ap (λ l. l.free) line_is) tests
+                  ∙ append_assoc w.line.free (item ∷ []) (filter (is_returned kept c q (Some w)) rest)
+                  ∙ ap (λ l. w.line.free ++ l) (sym all);
+              held = λ n.
+                  behind.1.1.held n
+                  ∙ ap₂ (λ l o. cond (mem n l) None o) tests (change.unheld.held n)
+                  ∙ both (item == n) (mem n (filter (is_returned kept c q (Some w)) rest)) (get nat_cmp w.held n)
+                  ∙ ap (λ l. cond (mem n l) None (get nat_cmp w.held n)) (sym all);
+              balanced = λ balanced.
+                  let line_is = change.line ∙ back_of w.line item (omega (arith, counted, balanced)) in
+                  let out_is : v.line.out ≡ w.line.out - 1 = ap (λ l. l.out) line_is in
+                  behind.1.1.balanced (omega (arith, out_is, counted, balanced));
+              ordered = λ order. behind.1.1.ordered change.unheld.ordered;
+            },
+          ),
+        )
       where
         both : (a b : Bool) (o : Option (List ℕ)) → cond b None (cond a None o) ≡ cond (a || b) None o
         both true true o = refl

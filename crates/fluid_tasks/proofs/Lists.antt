@@ -1,11 +1,10 @@
 -- Lists of numbers: those that rise, and what is taken from them in turns.
-use Rattle.std.proofs.Common.{◌≡◌, ℕ, zero, suc, length, drop, ◌+◌, ◌<◌, ◌≤◌, ◌==◌, Bool, true, false, not, ◌&&◌, ◌||◌, cond, List, [], ◌∷◌, ◌++◌, Option, Some, None, refl, sym, ◌∙◌, ap, ap₂, subst, arith, append_assoc, append-nil, inl, inr}
-use Rattle.std.specs.Prelude.{filter, flat_map, is_some}
+use Rattle.std.proofs.Common.{◌≡◌, ℕ, zero, suc, length, drop, ◌+◌, ◌<◌, ◌≤◌, ◌==◌, Bool, true, false, not, ◌&&◌, ◌||◌, cond, List, [], ◌∷◌, ◌++◌, refl, sym, ◌∙◌, ap, ap₂, subst, arith, append-nil, inl, inr}
+use Rattle.std.specs.Prelude.{filter, flat_map}
 use Rattle.std.specs.List.{list_any, AllByRecursion}
 use Rattle.std.proofs.lemmas.Grind.{flat_map-append}
 use Rattle.std.proofs.lemmas.List.Elements.{filter-append}
-use Rattle.std.proofs.lemmas.Bool.{eqb-true, eq-eqb, eqb-false, and_parts, false_from_ne_true, cases_Bool}
-use Rattle.fluid_tasks.specs.Past.{first}
+use Rattle.std.proofs.lemmas.Bool.{eqb-true, eq-eqb, false_from_ne_true, cases_Bool}
 
 pub no_test : (a : Bool) → a ≡ true → a ≡ false → ⊥
 no_test a so not_so = let wrong : true ≡ false = sym so ∙ not_so in cc
@@ -207,9 +206,9 @@ turns-once p single (s ∷ ns) xs rise all x rest is =
     later : p s x ≡ true → AllByRecursion (λ y. (x == y) ≡ false) (turns p ns xs)
     later own = turns-all (λ t. s < t) (λ y. (x == y) ≡ false) p
         (λ t y lt its. false_from_ne_true (x == y) (λ same.
-            let y_is : x ≡ y = eqb-true x y same in
-            let one : s ≡ t = single s t x own (subst (λ z. p t z ≡ true) (sym y_is) its) in
-            omega (arith, one, lt)))
+        let y_is : x ≡ y = eqb-true x y same in
+        let one : s ≡ t = single s t x own (subst (λ z. p t z ≡ true) (sym y_is) its) in
+        omega (arith, one, lt)))
         ns xs rise.0
 
     of : (turns p ns xs ≡ x ∷ rest → AllByRecursion (λ y. (x == y) ≡ false) rest) → (f : List ℕ) → Ascends f → AllByRecursion (λ y. p s y ≡ true) f → f ++ turns p ns xs ≡ x ∷ rest

@@ -1,18 +1,13 @@
 -- Values under names, in a tree that is searched by name: what a change of one of them is.
-use Rattle.std.proofs.Common.{◌≡◌, ℕ, ◌+◌, ◌≤◌, arith, ◌==◌, Bool, true, false, ◌&&◌, cond, List, [], ◌∷◌, Option, Some, None, String, Global, string_bytes, string_cmp, refl, sym, ◌∙◌, ap, ap₂, subst, nat_cmp, inl, inr, ◌⊎◌, bytes_eq}
+use Rattle.std.proofs.Common.{◌≡◌, ℕ, ◌+◌, ◌≤◌, arith, ◌==◌, Bool, true, false, ◌&&◌, cond, List, Option, Some, None, String, Global, string_bytes, string_cmp, refl, sym, ◌∙◌, ap, ap₂, subst, nat_cmp, inl, inr, ◌⊎◌, bytes_eq}
 use Rattle.std.specs.Prelude.{is_some, Result, Ok, Err, OnOk, OnErr}
-use Rattle.std.specs.Ordering.{is_eq}
 use Rattle.std.specs.Cmp.Lexicographic.{slice_cmp}
-use Rattle.std.specs.BTreeMap.{BTreeMap, get_by_text, UpdatesBy, is_at}
-use Rattle.std.specs.BTreeSet as sorted
-use Rattle.std.specs.BTreeSet.{BTreeSet, contains}
+use Rattle.std.specs.BTreeMap.{get_by_text, UpdatesBy}
+use Rattle.std.specs.BTreeSet.{contains}
 use Rattle.std.proofs.lemmas.Map.Text.{btree_map_updates_text}
 use Rattle.std.proofs.lemmas.Slice.Eq.{bytes_eq-Decides}
-use Rattle.std.proofs.lemmas.Bool.{cases_Bool, and_parts, eqb-true}
 use Rattle.fluid_tasks.specs.declared.held.Holdings.{Holdings}
 use Rattle.fluid_tasks.specs.Kept.{Named, at, SameNames, MadeAt, Makes, ChangedAt, Changes, IsEmptyHoldings, Clients, has_item, task_at, KeepsItems, NotesTask, SameClients}
-use Rattle.fluid_tasks.proofs.Lists.{no_test}
-use Rattle.fluid_tasks.proofs.Candidates.{eq-cmp}
 
 none_of : {X : Type 0} (o : Option X) → is_some o ≡ false → o ≡ None
 none_of None is = refl

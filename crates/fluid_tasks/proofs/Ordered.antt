@@ -1,7 +1,7 @@
 -- Lists in order that have the same members are one: names in byte order, and entries under rising numbers.
-use Rattle.std.proofs.Common.{◌≡◌, ℕ, ◌+◌, ◌<◌, ◌==◌, Bool, true, false, not, ◌&&◌, ◌||◌, cond, List, [], ◌∷◌, ◌++◌, map, Option, Some, None, option_map, String, Global, string_bytes, string_cmp, refl, sym, ◌∙◌, ap, ap₂, subst, nat_cmp, inl, inr, bytes_eq}
+use Rattle.std.proofs.Common.{◌≡◌, ℕ, ◌==◌, Bool, true, false, ◌&&◌, ◌||◌, cond, List, [], ◌∷◌, map, Option, Some, None, option_map, String, Global, string_bytes, string_cmp, refl, sym, ◌∙◌, ap, ap₂, subst, nat_cmp, inl, inr, bytes_eq}
 use Rattle.std.specs.Prelude.{filter, is_some}
-use Rattle.std.specs.List.{AllByRecursion, list_any, filter_map, cons_option}
+use Rattle.std.specs.List.{AllByRecursion, filter_map, cons_option}
 use Rattle.std.specs.List.Sorted.{IsStrictlySortedBy}
 use Rattle.std.specs.Map.{lookup, keys_of}
 use Rattle.std.specs.Ordering.{is_eq, ordering_reverse}
@@ -78,8 +78,8 @@ pub same_shown : (value : List ℕ → Option Tree) (names others : List (List �
 same_shown value names others one two in_names in_others =
     shown-filter value names
     ∙ ap (shown value)
-      (same_names_list (filter (λ n. is_some (value n)) names) (filter (λ n. is_some (value n)) others) (filter-in_order (λ n. is_some (value n)) names one) (filter-in_order (λ n. is_some (value n)) others two)
-      (λ e. filter-has (λ n. is_some (value n)) e names ∙ of e (is_some (value e)) refl ∙ sym (filter-has (λ n. is_some (value n)) e others)))
+    (same_names_list (filter (λ n. is_some (value n)) names) (filter (λ n. is_some (value n)) others) (filter-in_order (λ n. is_some (value n)) names one) (filter-in_order (λ n. is_some (value n)) others two)
+    (λ e. filter-has (λ n. is_some (value n)) e names ∙ of e (is_some (value e)) refl ∙ sym (filter-has (λ n. is_some (value n)) e others)))
     ∙ sym (shown-filter value others)
   where
     and_false : (b : Bool) → (b && false) ≡ false
@@ -130,10 +130,10 @@ module _ {X : Type 0} where
   found_each (e ∷ es) all same rise = (
     same e.0 (or_left (e.0 == e.0) (mem e.0 (keys_of es)) (self e.0)) ∙ ap (λ b. cond b (Some e.1) (lookup (is_at (nat_cmp e.0)) es)) (eq-cmp e.0 e.0 ∙ self e.0),
     found_each es all
-    (λ n among.
+        (λ n among.
         same n (or_right (e.0 == n) (mem n (keys_of es)) among)
         ∙ ap (λ b. cond b (Some e.1) (lookup (is_at (nat_cmp n)) es)) (eq-cmp n e.0 ∙ apart n among))
-    rise.1,
+        rise.1,
   )
     where
       or_right : (a b : Bool) → b ≡ true → (a || b) ≡ true
@@ -170,7 +170,7 @@ module _ {X : Type 0} where
       sym (said_entries f m.entries (weaker m.entries all))
       ∙ said-filter f (keys_of m.entries)
       ∙ ap (said_of f) (same_ascending (filter (λ n. is_some (f n)) (keys_of m.entries)) (filter (λ n. is_some (f n)) ns) (ascends-filter (λ n. is_some (f n)) (keys_of m.entries) keys_up) (ascends-filter (λ n. is_some (f n)) ns rise)
-        (λ n. mem-filter (λ n. is_some (f n)) (keys_of m.entries) n ∙ of n (is_some (f n)) refl ∙ sym (mem-filter (λ n. is_some (f n)) ns n)))
+      (λ n. mem-filter (λ n. is_some (f n)) (keys_of m.entries) n ∙ of n (is_some (f n)) refl ∙ sym (mem-filter (λ n. is_some (f n)) ns n)))
       ∙ sym (said-filter f ns)
     where
       weaker : (es : List (ℕ × X)) → AllByRecursion (λ (e : ℕ × X). lookup (is_at (nat_cmp e.0)) m.entries ≡ Some e.1) es → AllByRecursion (λ (e : ℕ × X). f e.0 ≡ Some e.1) es

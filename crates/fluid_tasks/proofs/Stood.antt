@@ -1,20 +1,20 @@
 -- What is kept behind a message that speaks of a task.
-use Rattle.std.proofs.Common.{◌≡◌, ℕ, ◌+◌, ◌<◌, ◌≤◌, ◌==◌, Bool, true, false, not, ◌&&◌, cond, List, [], ◌∷◌, ◌++◌, length, Option, Some, None, option_map, refl, sym, ◌∙◌, ap, ap₂, subst, arith, append-nil, nat_cmp, inl, inr, ◌⊎◌, bytes_eq}
-use Rattle.std.specs.Prelude.{filter, is_none, is_some}
+use Rattle.std.proofs.Common.{◌≡◌, ℕ, ◌<◌, ◌==◌, Bool, true, false, not, ◌&&◌, cond, List, [], ◌∷◌, ◌++◌, Option, Some, None, option_map, refl, sym, ◌∙◌, ap, ap₂, subst, append-nil, nat_cmp, inl, inr, ◌⊎◌, bytes_eq}
+use Rattle.std.specs.Prelude.{filter, is_some}
 use Rattle.std.specs.List.{AllByRecursion}
 use Rattle.std.specs.Map.{lookup, remove_entry}
 use Rattle.std.specs.BTreeMap.{BTreeMap, get, is_at, insert_entry}
-use Rattle.std.proofs.lemmas.Bool.{eqb-true, eq-eqb, false_from_ne_true, cases_Bool}
+use Rattle.std.proofs.lemmas.Bool.{eqb-true, eq-eqb, false_from_ne_true}
 use Rattle.std.proofs.lemmas.Slice.Eq.{bytes_eq-Decides}
 use Rattle.fluid_types.specs.declared.messages.Message.{Message}
 use Rattle.fluid_tasks.specs.declared.acts.Act.TheVariants.{Volunteer, Abandon, Finish}
 use Rattle.fluid_tasks.specs.declared.tasks.Item.{Item}
 use Rattle.fluid_tasks.specs.declared.queues.Queue.{Queue}
-use Rattle.fluid_tasks.specs.Acts.{Said, Does, said}
-use Rattle.fluid_tasks.specs.Past.{Past, first, is_text, clients, Volunteering, volunteering, since_behind, standing_since, standing, candidates, holder}
-use Rattle.fluid_tasks.specs.Kept.{Named, at, MadeAt, Makes, ChangedAt, Changes, Candidates, entries_at, candidate_at, IsEmptyTask, IsSameTask, WithCandidate, IsWithoutClient, HasNoCandidates, SteppedDown, Clients, has_item, task_at, NotesTask, IsNumbered, pairs, IsKept}
-use Rattle.fluid_tasks.proofs.Lists.{no_test, all-any, all-weaker, filter-all}
-use Rattle.fluid_tasks.proofs.Candidates.{since-step, Rise, Among, standing_rise, standing_below, standing_stand, stood_found, found_stands, found_there, stood_below, insert-last, pairs-append, pairs-below, standing-kept, standing-left, standing-done, stood_already, standing-again, stood_first, standing-new, remove-filter, some_is}
+use Rattle.fluid_tasks.specs.Acts.{Does, said}
+use Rattle.fluid_tasks.specs.Past.{Past, first, is_text, clients, Volunteering, standing_since, standing, candidates, holder}
+use Rattle.fluid_tasks.specs.Kept.{Named, at, MadeAt, Makes, ChangedAt, Changes, Candidates, entries_at, candidate_at, IsEmptyTask, WithCandidate, IsWithoutClient, HasNoCandidates, SteppedDown, Clients, task_at, NotesTask, IsNumbered, pairs, IsKept}
+use Rattle.fluid_tasks.proofs.Lists.{no_test, all-weaker, filter-all}
+use Rattle.fluid_tasks.proofs.Candidates.{since-step, Among, standing_rise, standing_below, standing_stand, stood_found, found_stands, found_there, insert-last, pairs-append, pairs-below, standing-kept, standing-left, standing-done, stood_already, standing-again, stood_first, standing-new, remove-filter, some_is}
 use Rattle.fluid_tasks.proofs.Applied.{SameItems, SameTasks, same_queue}
 
 -- ---- entries and candidates
@@ -67,8 +67,8 @@ none_left past u c none =
     filter-all (λ (v : Volunteering). not (bytes_eq c v.client)) (standing past u)
     (all-weaker (λ (v : Volunteering). standing_since past u v.client ≡ Some v.number) (λ (v : Volunteering). not (bytes_eq c v.client) ≡ true)
     (λ v at. ap not (false_from_ne_true (bytes_eq c v.client) (λ same.
-        let wrong : None ≡ Some v.number = sym none ∙ ap (standing_since past u) ((bytes_eq-Decides c v.client).0 same) ∙ at in
-        cc)))
+    let wrong : None ≡ Some v.number = sym none ∙ ap (standing_since past u) ((bytes_eq-Decides c v.client).0 same) ∙ at in
+    cc)))
     (standing past u) (standing_stand past u))
 
 -- the candidates without one, by the number that is noted of it
@@ -96,12 +96,12 @@ stepped past numbered u c noted notes (Some w) new is to = ap entries_at to.1.0 
     its_number k stood = both_all
         (λ (v : Volunteering). standing_since past u v.client ≡ Some v.number) (λ (v : Volunteering). Among v.number v.client (standing past u)) (λ (v : Volunteering). bytes_eq c v.client ≡ (k == v.number))
         (λ v its among. same_test (bytes_eq c v.client) (k == v.number)
-            (λ same. eq-eqb k v.number (some_is k v.number (sym stood ∙ ap (standing_since past u) ((bytes_eq-Decides c v.client).0 same) ∙ its)))
-            (λ same.
-                let number_is : k ≡ v.number = eqb-true k v.number same in
-                let found : lookup (is_at (nat_cmp k)) (pairs (standing past u)) ≡ Some v.client =
-                    subst (λ n. lookup (is_at (nat_cmp n)) (pairs (standing past u)) ≡ Some v.client) (sym number_is) (found_there v.number v.client (standing past u) (standing_rise past numbered u) among) in
-                (bytes_eq-Decides c v.client).1 (some_is c v.client (sym (stood_found past numbered u c k stood) ∙ found))))
+        (λ same. eq-eqb k v.number (some_is k v.number (sym stood ∙ ap (standing_since past u) ((bytes_eq-Decides c v.client).0 same) ∙ its)))
+        (λ same.
+        let number_is : k ≡ v.number = eqb-true k v.number same in
+        let found : lookup (is_at (nat_cmp k)) (pairs (standing past u)) ≡ Some v.client =
+        subst (λ n. lookup (is_at (nat_cmp n)) (pairs (standing past u)) ≡ Some v.client) (sym number_is) (found_there v.number v.client (standing past u) (standing_rise past numbered u) among) in
+        (bytes_eq-Decides c v.client).1 (some_is c v.client (sym (stood_found past numbered u c k stood) ∙ found))))
         (standing past u) (standing_stand past u) (all_among (standing past u))
 
     of : (o : Option ℕ) → standing_since past u c ≡ o → (n : Option ℕ) → noted ≡ n → SteppedDown c n w to.0 → to.0.entries ≡ pairs (filter (λ (v : Volunteering). not (bytes_eq c v.client)) (standing past u))
@@ -168,7 +168,7 @@ module _ (m : Message) (past : Past) (c own : List ℕ) (is : said m ≡ Does c 
       task : (u : List ℕ) (b : Bool) → bytes_eq own u ≡ b → ChangedAt (IsWithoutClient c k) b (at tasks u) (at new_tasks u) → entries_at (at new_tasks u) ≡ pairs (standing (m ∷ past) u)
       task u true here to =
           let noted_here : (j : ℕ) → standing_since past u c ≡ Some j → Some k ≡ Some j =
-              λ j h. sym noted ∙ ap (task_at (at noting c)) ((bytes_eq-Decides own u).0 here) ∙ kept.stands c u j h in
+          λ j h. sym noted ∙ ap (task_at (at noting c)) ((bytes_eq-Decides own u).0 here) ∙ kept.stands c u j h in
           stepped past numbered.1 u c (Some k) noted_here (at tasks u) (at new_tasks u) (kept.tasks_are u) (stepping (at tasks u) to) ∙ sym (ap pairs (abandoned_here u here))
         where
           stepping : (o : Option Candidates) → ChangedAt (IsWithoutClient c k) true o (at new_tasks u) → ChangedAt (SteppedDown c (Some k)) true o (at new_tasks u)

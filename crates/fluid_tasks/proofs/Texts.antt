@@ -1,33 +1,28 @@
 -- The text of what is kept is that of the messages.
-use Rattle.std.proofs.Common.{◌≡◌, ℕ, ◌+◌, ◌==◌, Bool, true, false, not, ◌&&◌, ◌||◌, cond, List, [], ◌∷◌, ◌++◌, map, Option, Some, None, option_map, String, Global, string_bytes, string_cmp, refl, sym, ◌∙◌, ap, ap₂, subst, append_assoc, nat_cmp, inl, inr, ◌⊎◌, bytes_eq}
+use Rattle.std.proofs.Common.{◌≡◌, ℕ, ◌==◌, Bool, true, false, ◌||◌, cond, List, [], ◌∷◌, ◌++◌, map, Option, Some, None, option_map, String, Global, string_bytes, string_cmp, refl, sym, ◌∙◌, ap, ap₂, subst, append_assoc, inl, inr, ◌⊎◌, bytes_eq}
 use Rattle.std.specs.Prelude.{filter, is_some}
-use Rattle.std.specs.List.{AllByRecursion, list_any, filter_map, cons_option}
-use Rattle.std.specs.Map.{lookup, keys_of}
-use Rattle.std.specs.Ordering.{is_eq}
-use Rattle.std.specs.Cmp.Lexicographic.{slice_cmp}
-use Rattle.std.specs.BTreeMap.{BTreeMap, get, get_by_text, is_at, IsOrdered}
-use Rattle.std.proofs.lemmas.Bool.{cases_Bool}
+use Rattle.std.specs.List.{AllByRecursion, filter_map, cons_option}
+use Rattle.std.specs.Map.{lookup}
+use Rattle.std.specs.BTreeMap.{is_at, IsOrdered}
 use Rattle.std.proofs.lemmas.List.Elements.{recursion_from_All}
 use Rattle.std.proofs.lemmas.Slice.Eq.{bytes_eq-Decides}
 use Rattle.std.proofs.lemmas.Map.Text.{is_eq-slice_cmp, text_cmp}
-use Rattle.json.specs.Token as token
 use Rattle.json.specs.Token.{Token}
-use Rattle.fluid_json.specs.Tree.{Tree, object, members, list, trees}
+use Rattle.fluid_json.specs.Tree.{Tree, members, trees}
 use Rattle.fluid_json.specs.Printed.{printed}
 use Rattle.fluid_json.specs.Tokens.{tokens_of, members_tokens, trees_tokens}
-use Rattle.fluid_types.specs.declared.messages.Message.{Message}
-use Rattle.fluid_rules.specs.Past.{has_id, AreInOrder, put_id}
+use Rattle.fluid_rules.specs.Past.{has_id, AreInOrder}
 use Rattle.fluid_rules.proofs.Ids.{own_id, put_id-has, put_id-in_order}
 use Rattle.fluid_tasks.specs.declared.acts.Act.TheVariants.{Add, Acquire, Complete, Release, Volunteer, Abandon, Finish}
 use Rattle.fluid_tasks.specs.declared.tasks.Item.{Item}
 use Rattle.fluid_tasks.specs.declared.queues.Queue.{Queue}
 use Rattle.fluid_tasks.specs.Acts.{Said, Does, Leaves, Nothing, said}
 use Rattle.fluid_tasks.specs.Past.{Past, first, is_text, is_number, adds, number_if, items, added, is_of, free, holder_of, volunteering, Volunteering, numbered, volunteerings, standing, clients, candidates}
-use Rattle.fluid_tasks.specs.Printed.{queue_in, task_in, with_name, queues, tasks, shown_queue, shown_task, is_any, shown, held_in, held, tree_of, all_of, print}
+use Rattle.fluid_tasks.specs.Printed.{queue_in, task_in, with_name, queues, tasks, shown_queue, shown_task, is_any, shown, held_in, held, all_of, print}
 use Rattle.fluid_tasks.specs.Shown.{queue_shown, task_shown, shown_in, tokens_under, IsFoundEach}
-use Rattle.fluid_tasks.specs.Kept.{Named, at, Candidates, entries_at, pairs, held_by, IsNumbered, IsQueueOf, IsNoQueue, IsQueue, Clients, IsKept}
-use Rattle.fluid_tasks.proofs.Lists.{no_test, or_left, mem}
-use Rattle.fluid_tasks.proofs.Facts.{items_rise, of_mem, added-step, first_free_is, number_is}
+use Rattle.fluid_tasks.specs.Kept.{Named, at, Candidates, entries_at, pairs, held_by, IsNumbered, IsQueueOf, IsQueue}
+use Rattle.fluid_tasks.proofs.Lists.{or_left}
+use Rattle.fluid_tasks.proofs.Facts.{items_rise, of_mem, added-step, first_free_is}
 use Rattle.fluid_tasks.proofs.Candidates.{volunteerings-step, stands, standing-filter}
 use Rattle.fluid_tasks.proofs.Ordered.{same_shown, names_of, names_in_order, said_of, entries_are}
 
@@ -256,8 +251,8 @@ pub queues_text : (past : Past) → IsNumbered past → (kept : Named Queue) →
 queues_text past numbered kept order found are =
     shown_names queue_shown (λ q. shown_queue (free past q) (held past q)) kept.entries (each kept.entries (recursion_from_All (λ (e : String Global × Queue). at kept (string_bytes e.0) ≡ Some e.1) kept.entries found))
     ∙ same_shown (λ q. shown_queue (free past q) (held past q)) (names_of kept.entries) (queues past) (names_in_order kept.entries order) (queues_in_order past)
-      (λ q some. let item = shown_item past q some in at_named kept q (kept_queue past q (at kept q) (are q) item.0 item.1 some))
-      (λ q some. let item = shown_item past q some in named_queue past q item.0 item.1)
+    (λ q some. let item = shown_item past q some in at_named kept q (kept_queue past q (at kept q) (are q) item.0 item.1 some))
+    (λ q some. let item = shown_item past q some in named_queue past q item.0 item.1)
   where
     each : (es : List (String Global × Queue)) → AllByRecursion (λ (e : String Global × Queue). at kept (string_bytes e.0) ≡ Some e.1) es
         → AllByRecursion (λ (e : String Global × Queue). queue_shown e.1 ≡ shown_queue (free past (string_bytes e.0)) (held past (string_bytes e.0))) es
@@ -300,8 +295,8 @@ pub tasks_text : (past : Past) → (kept : Named Candidates) → IsOrdered strin
 tasks_text past kept order found are =
     shown_names task_shown (λ u. shown_task (candidates past u)) kept.entries (each kept.entries (recursion_from_All (λ (e : String Global × Candidates). at kept (string_bytes e.0) ≡ Some e.1) kept.entries found))
     ∙ same_shown (λ u. shown_task (candidates past u)) (names_of kept.entries) (tasks past) (names_in_order kept.entries order) (tasks_in_order past)
-      (λ u some. at_named kept u (kept_task (at kept u) (standing past u) (are u) (shown_stands past u some)))
-      (λ u some. named_task past u (filter_any (stands past u) (volunteerings past u) (ap (λ l. is_any l) (sym (standing-filter past u)) ∙ shown_stands past u some)))
+    (λ u some. at_named kept u (kept_task (at kept u) (standing past u) (are u) (shown_stands past u some)))
+    (λ u some. named_task past u (filter_any (stands past u) (volunteerings past u) (ap (λ l. is_any l) (sym (standing-filter past u)) ∙ shown_stands past u some)))
   where
     each : (es : List (String Global × Candidates)) → AllByRecursion (λ (e : String Global × Candidates). at kept (string_bytes e.0) ≡ Some e.1) es
         → AllByRecursion (λ (e : String Global × Candidates). task_shown e.1 ≡ shown_task (candidates past (string_bytes e.0))) es

@@ -1,13 +1,13 @@
 -- Small orders worked out: which items are free, who holds what, and the text of it all.
-use Rattle.std.specs.Prelude.{◌≡◌, ℕ, ℤ, pos, negsuc, List, [], ◌∷◌, ◌++◌, codes, reverse, map, Option, Some, None}
+use Rattle.std.specs.Prelude.{◌≡◌, ℕ, pos, List, [], ◌∷◌, codes, Option, Some, None}
 use Rattle.fluid_json.specs.Tree.{Tree, null, whole, text, object, members}
 use Rattle.fluid_json.specs.Printed.{printed}
 use Rattle.fluid_types.specs.declared.messages.Kind.{Kind}
 use Rattle.fluid_types.specs.declared.messages.Kind.TheVariants.{Op, Noop, Join, Leave}
 use Rattle.fluid_types.specs.declared.messages.Message.{Message}
-use Rattle.fluid_tasks.specs.declared.acts.Act.TheVariants.{Add, Complete, Volunteer}
-use Rattle.fluid_tasks.specs.Acts.{Said, Does, Leaves, Nothing, said}
-use Rattle.fluid_tasks.specs.Past.{Past, past_of, Status, Free, Held, Gone, status, free, holder_of, value, candidates, holder}
+use Rattle.fluid_tasks.specs.declared.acts.Act.TheVariants.{Complete}
+use Rattle.fluid_tasks.specs.Acts.{Does, Nothing, said}
+use Rattle.fluid_tasks.specs.Past.{Past, past_of, Free, Held, Gone, status, free, holder_of, value, candidates, holder}
 use Rattle.fluid_tasks.specs.Printed.{print}
 
 abbrev pub message : Kind → Option (List ℕ) → Option (List ℕ) → ℕ → Tree → Message

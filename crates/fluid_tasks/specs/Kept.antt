@@ -1,21 +1,19 @@
 -- What is kept of queues and tasks, which messages it stands for, and what each step changes of it.
-use Rattle.std.specs.Prelude.{◌≡◌, ℕ, ◌+◌, ◌*◌, ◌-◌, ◌≤◌, ◌⊎◌, nat_lt, ◌==◌, Bool, true, false, ◌&&◌, if◌then◌else◌, List, [], ◌∷◌, ◌++◌, length, map, drop, filter, Option, Some, None, is_some, option_map, bytes_eq, String, Vec, vec_len, vec_capacity, Result, OnOk, refl}
-use Rattle.std.specs.List.{list_any, AllByRecursion}
+use Rattle.std.specs.Prelude.{◌≡◌, ℕ, ◌+◌, ◌≤◌, ◌⊎◌, ◌==◌, Bool, true, false, ◌&&◌, if◌then◌else◌, List, [], ◌∷◌, ◌++◌, length, map, filter, Option, Some, None, is_some, option_map, bytes_eq, String}
+use Rattle.std.specs.List.{list_any}
 use Rattle.std.specs.declared.alloc.Global.{Global}
 use Rattle.std.specs.Ordering.{nat_cmp}
 use Rattle.std.specs.Map.{remove_entry}
-use Rattle.std.specs.BTreeMap as tree
 use Rattle.std.specs.BTreeMap.{BTreeMap, get, get_by_text, btree_map_len, insert_entry, is_at, IsOrdered}
-use Rattle.std.specs.BTreeSet.{BTreeSet, contains}
-use Rattle.fluid_types.specs.Order.{AreFirst}
+use Rattle.std.specs.BTreeSet.{contains}
 use Rattle.fluid_types.specs.declared.messages.Message.{Message}
 use Rattle.fluid_tasks.specs.declared.held.Holdings.{Holdings}
 use Rattle.fluid_tasks.specs.declared.queues.Queue.{Queue}
 use Rattle.fluid_tasks.specs.declared.tasks.Item.{Item}
 use Rattle.fluid_tasks.specs.declared.tasks.Tasks.{Tasks}
 use Rattle.fluid_tasks.specs.Acts.{Said, said}
-use Rattle.fluid_tasks.specs.Line.{ALine, no_line, with_free, given, given_back, without}
-use Rattle.fluid_tasks.specs.Past.{Past, past_of, first, is_text, is_of, Status, Held, is_held_by, holder_in, status, free, live, holder_of, Volunteering, standing_since, standing}
+use Rattle.fluid_tasks.specs.Line.{no_line, with_free, given, given_back, without}
+use Rattle.fluid_tasks.specs.Past.{Past, past_of, is_text, is_of, is_held_by, status, free, live, holder_of, Volunteering, standing_since, standing}
 
 -- ---- values under names
 

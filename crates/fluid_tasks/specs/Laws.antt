@@ -1,5 +1,5 @@
 -- What holds in every legal ledger's order.
-use Rattle.std.specs.Prelude.{◌≡◌, ◌⊎◌, ◌≤◌, ◌==◌, ℕ, true, false, List, [], ◌∷◌, take, Option, Some, None, is_some}
+use Rattle.std.specs.Prelude.{◌≡◌, ◌⊎◌, ◌≤◌, ◌==◌, ℕ, true, false, List, take, Some, None, is_some}
 use Rattle.std.specs.List.{AllByRecursion, list_any}
 use Rattle.std.specs.FinMap.{get}
 use Rattle.fluid_json.specs.Tree.{Tree, IsCanonical, depth}
@@ -11,7 +11,7 @@ use Rattle.fluid_types.specs.Names.{IsName}
 use Rattle.fluid_types.specs.Ledger.{Ledger, order}
 use Rattle.fluid_types.specs.Quorum.{quorum_of}
 use Rattle.fluid_rules.specs.Rules.{IsLegal}
-use Rattle.fluid_tasks.specs.Past.{Past, past_of, items, free, is_of, holder_of, value, holder}
+use Rattle.fluid_tasks.specs.Past.{past_of, items, free, is_of, holder_of, value, holder}
 
 -- a join whose data are read back: its id is a name, and its detail a value in order, at most 99 deep. Each entry that fits a log is so
 pub record IsReadable (id : List ℕ) (detail : Tree) : Type 0 where

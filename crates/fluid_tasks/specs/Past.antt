@@ -1,10 +1,8 @@
 -- What messages make of items and tasks. Each item's status, and since when a client stands for a task, is read out of the list of
 -- messages backwards: a past is a list of messages from the last back to the first.
 use Rattle.std.specs.Prelude.{ℕ, ◌==◌, Bool, true, false, ◌&&◌, if◌then◌else◌, List, [], ◌∷◌, ◌++◌, reverse, filter, flat_map, Option, Some, None, is_none, option_map, bytes_eq}
-use Rattle.std.specs.List.{filter_map}
 use Rattle.fluid_json.specs.Tree.{Tree}
 use Rattle.fluid_types.specs.declared.messages.Message.{Message}
-use Rattle.fluid_tasks.specs.declared.acts.Act.{Act}
 use Rattle.fluid_tasks.specs.declared.acts.Act.TheVariants.{Add, Acquire, Complete, Release, Volunteer, Abandon, Finish}
 use Rattle.fluid_tasks.specs.declared.tasks.Item.{Item}
 use Rattle.fluid_tasks.specs.Acts.{Said, Does, Leaves, Nothing, said}

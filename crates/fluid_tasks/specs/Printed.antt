@@ -1,13 +1,12 @@
 -- The text of all queues and tasks.
-use Rattle.std.specs.Prelude.{ℕ, pos, Bool, true, false, ◌||◌, if◌then◌else◌, List, [], ◌∷◌, ◌++◌, map, filter, Option, Some, None, is_some, option_map, codes}
+use Rattle.std.specs.Prelude.{ℕ, pos, Bool, true, false, ◌||◌, if◌then◌else◌, List, [], ◌∷◌, map, Option, Some, None, option_map, codes}
 use Rattle.std.specs.List.{filter_map}
 use Rattle.fluid_json.specs.Tree.{Tree, whole, text, list, trees, object, members}
 use Rattle.fluid_json.specs.Printed.{printed}
 use Rattle.fluid_rules.specs.Past.{put_id}
-use Rattle.fluid_tasks.specs.declared.acts.Act.{Act}
 use Rattle.fluid_tasks.specs.declared.acts.Act.TheVariants.{Add, Acquire, Complete, Release, Volunteer, Abandon, Finish}
 use Rattle.fluid_tasks.specs.Acts.{Said, Does, Leaves, Nothing, said}
-use Rattle.fluid_tasks.specs.Past.{Past, Status, is_of, items, free, holder_of, candidates}
+use Rattle.fluid_tasks.specs.Past.{Past, is_of, items, free, holder_of, candidates}
 
 -- ---- names
 

@@ -1,5 +1,5 @@
 -- The text of what is kept.
-use Rattle.std.specs.Prelude.{◌≡◌, ℕ, List, [], ◌∷◌, ◌++◌, map, Option, Some, None, option_map, String, string_bytes}
+use Rattle.std.specs.Prelude.{◌≡◌, ℕ, List, [], ◌∷◌, map, Option, Some, None, option_map, String, string_bytes}
 use Rattle.std.specs.List.{All, filter_map}
 use Rattle.std.specs.declared.alloc.Global.{Global}
 use Rattle.json.specs.Token as token

@@ -94,7 +94,11 @@ pub(crate) enum TaskVerb {
 }
 
 impl TaskVerb {
-    pub(crate) const ALL: [TaskVerb; 3] = [TaskVerb::Volunteer, TaskVerb::Abandon, TaskVerb::Complete];
+    pub(crate) const ALL: [TaskVerb; 3] = [
+        TaskVerb::Volunteer,
+        TaskVerb::Abandon,
+        TaskVerb::Complete,
+    ];
 }
 
 /// The words of the member `op` of what is said to a task.

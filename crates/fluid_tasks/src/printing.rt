@@ -13,7 +13,10 @@ use fluid_types::ClientId;
 use std::collections::BTreeMap;
 
 /// The object of the queues that have an item which is free or held.
-pub(crate) fn put_queues(out: &mut Printer, queues: &BTreeMap<String, Queue>) -> Result<(), NoMemory>
+pub(crate) fn put_queues(
+    out: &mut Printer,
+    queues: &BTreeMap<String, Queue>,
+) -> Result<(), NoMemory>
     ensures before { out.new.before ≡ out.old.before }
     ensures tokens { OnOk result (out.new.tokens ≡ out.old.tokens ++ tokens_of (object (members (shown_in queue_shown queues.now.entries)))) }
     ensures ordered { OnOk result (IsOrdered string_cmp queues.now) }

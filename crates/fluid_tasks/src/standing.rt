@@ -48,7 +48,10 @@ pub(crate) fn stands_since(
 }
 
 /// The holder of a task: its first candidate.
-pub(crate) fn holder<'a>(tasks: &'a BTreeMap<String, Candidates>, name: &str) -> Option<&'a ClientId>
+pub(crate) fn holder<'a>(
+    tasks: &'a BTreeMap<String, Candidates>,
+    name: &str,
+) -> Option<&'a ClientId>
     ensures { option_map (λ client. client.now) result ≡ option_map (λ e. e.1) (first (entries_at (at tasks.now name.now))) }
 {
     let candidates = tasks.get(name)?;
@@ -122,7 +125,12 @@ pub(crate) fn step_down_everywhere(
 }
 
 /// A client stands no longer for a task, where it stands since this number.
-pub(crate) fn step_down_once(tasks: &mut BTreeMap<String, Candidates>, name: &str, number: u64, client: &str)
+pub(crate) fn step_down_once(
+    tasks: &mut BTreeMap<String, Candidates>,
+    name: &str,
+    number: u64,
+    client: &str,
+)
     ensures { Changes (IsWithoutClient client.now number) name.now tasks.old tasks.new }
 {
     if stands_since(tasks, name, number, client) {

@@ -9,9 +9,14 @@ ghost use Rattle.fluid_tasks.specs.Kept.{StandsFor, Keeps, IsNumbered, KeepsBehi
 
 use crate::acts::{Act, left, spelled_act};
 use crate::held::{Holdings, forget_item, forget_task, note_item, note_task, noted_task};
-use crate::queues::{Queue, add_to, finish, first_free, give, is_held_by, make_queue, take_all_back, take_back};
-use crate::standing::{Candidates, clear, holder, is_holder, make_task, stand, stands_since, step_down_everywhere, step_down_once};
 use crate::printing::{put_queues, put_tasks};
+use crate::queues::{
+    Queue, add_to, finish, first_free, give, is_held_by, make_queue, take_all_back, take_back,
+};
+use crate::standing::{
+    Candidates, clear, holder, is_holder, make_task, stand, stands_since, step_down_everywhere,
+    step_down_once,
+};
 use fluid_json::{Json, NoMemory, Printer, Text};
 use fluid_types::{Address, ClientId, Kind, Message};
 use std::alloc::Global;

@@ -5,6 +5,7 @@ use fluid_types::{ClientId, Kind, Message};
 use std::alloc::Global;
 
 const CLIENTS: u64 = 100;
+
 const NAMES: u64 = 8;
 /// A client leaves with each so many-th message.
 const LIFE: u64 = 997;
@@ -44,7 +45,12 @@ fn apply(
     let message = if number % LIFE == 0 {
         left(alloc, client, before + 1)?
     } else {
-        op(alloc, client, before + 1, body(alloc, tasks, turn, number, items)?)?
+        op(
+            alloc,
+            client,
+            before + 1,
+            body(alloc, tasks, turn, number, items)?,
+        )?
     };
     tasks.apply(alloc, &message)
 }
@@ -71,27 +77,28 @@ fn body(
 }
 
 fn added(alloc: Global, name: u64, value: u64) -> Result<String, NoMemory> {
-    let text = format!(in alloc; "{{\"name\":\"q{name}\",\"op\":\"add\",\"type\":\"queue\",\"value\":{value}}}")?;
+    let text = format!(in alloc;
+        "{{\"name\":\"q{name}\",\"op\":\"add\",\"type\":\"queue\",\"value\":{value}}}"
+    )?;
     Ok(text)
 }
 
 fn of_item(alloc: Global, name: u64, verb: &str, item: u64) -> Result<String, NoMemory> {
-    let text = format!(in alloc; "{{\"item\":{item},\"name\":\"q{name}\",\"op\":\"{verb}\",\"type\":\"queue\"}}")?;
+    let text = format!(in alloc;
+        "{{\"item\":{item},\"name\":\"q{name}\",\"op\":\"{verb}\",\"type\":\"queue\"}}"
+    )?;
     Ok(text)
 }
 
 fn volunteering(alloc: Global, name: u64) -> Result<String, NoMemory> {
-    let text = format!(in alloc; "{{\"name\":\"t{name}\",\"op\":\"volunteer\",\"type\":\"task\"}}")?;
+    let text = format!(in alloc;
+        "{{\"name\":\"t{name}\",\"op\":\"volunteer\",\"type\":\"task\"}}"
+    )?;
     Ok(text)
 }
 
 // Notes the item that will be given.
-fn acquiring(
-    alloc: Global,
-    tasks: &Tasks,
-    turn: &mut Turn,
-    name: u64,
-) -> Result<String, NoMemory> {
+fn acquiring(alloc: Global, tasks: &Tasks, turn: &mut Turn, name: u64) -> Result<String, NoMemory> {
     let queue = format!(in alloc; "q{name}")?;
     turn.former = turn.latter;
     if let Some(item) = tasks.free(queue.as_str()).first() {

@@ -95,7 +95,12 @@ fn spoken(
 ) -> Text {
     let client = ClientId::read(alloc, client).expect(rt, "a name");
     let contents = read(alloc, body).expect(rt, "a JSON text");
-    apply(rt, alloc, tasks, message(kind, Some(client), contents, None));
+    apply(
+        rt,
+        alloc,
+        tasks,
+        message(kind, Some(client), contents, None),
+    );
     copied(rt, alloc, "")
 }
 
@@ -106,7 +111,12 @@ fn moved(rt: &impl Abort, alloc: Global, tasks: &mut Tasks, client: &str, what: 
         _ => panic!(rt; "no such line: {what}"),
     };
     let data = Text::new(format!(in alloc; "\"{client}\"").expect(rt, "memory"));
-    apply(rt, alloc, tasks, message(kind, None, Json::null(), Some(data)));
+    apply(
+        rt,
+        alloc,
+        tasks,
+        message(kind, None, Json::null(), Some(data)),
+    );
     copied(rt, alloc, "")
 }
 

@@ -1,7 +1,6 @@
 use Rattle.std.proofs.Common.{rules, ◌≡◌, ◌∷◌, [], ◌++◌, ◌∙◌, map, ap, sym}
 use Rattle.fluid_json.specs.Tree.{trees, text}
 use Rattle.fluid_json.specs.Tokens.{tokens_of, trees_tokens}
-use Rattle.fluid_tasks.specs.Printed.{list_of}
 use Rattle.fluid_tasks.proofs.Texts.{item_on}
 use Rattle.fluid_tasks.proofs.printing.put_clients.Goals as goal
 

@@ -1,4 +1,4 @@
-use Rattle.std.proofs.Common.{◌≡◌, ◌++◌, ◌∙◌, map, ap, sym, pos}
+use Rattle.std.proofs.Common.{◌++◌, ◌∙◌, map, ap, sym, pos}
 use Rattle.std.proofs.lemmas.List.{drop_all}
 use Rattle.fluid_json.specs.Tree.{trees, whole}
 use Rattle.fluid_json.specs.Tokens.{trees_tokens}

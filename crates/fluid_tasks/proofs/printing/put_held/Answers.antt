@@ -1,7 +1,7 @@
 use Rattle.std.proofs.Common.{rules, ◌≡◌, ◌∷◌, [], ◌++◌, ◌∙◌, map, ap, sym}
 use Rattle.fluid_json.specs.Tree.{trees}
-use Rattle.fluid_json.specs.Tokens.{tokens_of, trees_tokens}
-use Rattle.fluid_tasks.specs.Printed.{list_of, held_item}
+use Rattle.fluid_json.specs.Tokens.{trees_tokens}
+use Rattle.fluid_tasks.specs.Printed.{held_item}
 use Rattle.fluid_tasks.proofs.Texts.{item_on}
 use Rattle.fluid_tasks.proofs.printing.put_held.Goals as goal
 

@@ -1,7 +1,6 @@
-use Rattle.std.proofs.Common.{rules, ◌≡◌, ◌∷◌, [], ◌++◌, ◌∙◌, ap, sym, append_assoc}
-use Rattle.json.specs.Token as token
-use Rattle.fluid_json.specs.Tree.{object, members}
-use Rattle.fluid_json.specs.Tokens.{tokens_of, members_tokens}
+use Rattle.std.proofs.Common.{rules, ◌≡◌, ◌∷◌, [], ◌++◌, ◌∙◌, ap, sym}
+use Rattle.fluid_json.specs.Tree.{members}
+use Rattle.fluid_json.specs.Tokens.{members_tokens}
 use Rattle.fluid_tasks.specs.Shown.{task_shown, shown_in}
 use Rattle.fluid_tasks.proofs.Texts.{member_on}
 use Rattle.fluid_tasks.proofs.printing.put_tasks.Goals as goal

@@ -1,4 +1,4 @@
-use Rattle.std.proofs.Common.{◌≡◌, ◌∙◌, Some, ap, sym}
+use Rattle.std.proofs.Common.{◌≡◌, Some, ap, sym}
 use Rattle.std.specs.Prelude.{is_some}
 use Rattle.fluid_tasks.specs.Kept.{at, IsAdded}
 use Rattle.fluid_tasks.proofs.Names.{on_ok, on_err, changed, same_names}

@@ -1,7 +1,7 @@
-use Rattle.std.proofs.Common.{◌≡◌, ◌∙◌, Some, ap, sym}
+use Rattle.std.proofs.Common.{◌≡◌, Some, ap, sym}
 use Rattle.std.specs.Prelude.{is_some}
 use Rattle.fluid_tasks.specs.Kept.{at, IsGiven, IsSameQueue}
-use Rattle.fluid_tasks.proofs.Names.{on_ok, on_err, changed, same_names}
+use Rattle.fluid_tasks.proofs.Names.{on_ok, on_err, changed}
 use Rattle.fluid_tasks.proofs.queues.give.Goals as goal
 
 pub returns-in-Some-clause-given : goal.returns-in-Some-clause-given

@@ -1,4 +1,4 @@
-use Rattle.std.proofs.Common.{◌≡◌, ℕ, List, Option, nat_cmp}
+use Rattle.std.proofs.Common.{ℕ, List, Option, nat_cmp}
 use Rattle.std.specs.List.Sorted.{IsStrictlySortedBy}
 use Rattle.std.specs.BTreeMap.{get}
 use Rattle.fluid_tasks.specs.declared.queues.Queue.{Queue}

@@ -1,7 +1,7 @@
-use Rattle.std.proofs.Common.{◌≡◌, ◌∙◌, Some, ap, sym}
+use Rattle.std.proofs.Common.{◌≡◌, Some, ap, sym}
 use Rattle.std.specs.Prelude.{is_some}
 use Rattle.fluid_tasks.specs.Kept.{at, WithCandidate, IsSameTask}
-use Rattle.fluid_tasks.proofs.Names.{on_ok, on_err, changed, same_names}
+use Rattle.fluid_tasks.proofs.Names.{on_ok, on_err, changed}
 use Rattle.fluid_tasks.proofs.standing.stand.Goals as goal
 
 pub returns-in-Some-clause-stands : goal.returns-in-Some-clause-stands

@@ -1,4 +1,4 @@
-use Rattle.std.proofs.Common.{rules, ◌≡◌, ◌∷◌, [], ◌∙◌, ap, sym, subst, string_cmp, string_bytes, bytes_eq}
+use Rattle.std.proofs.Common.{rules, ◌≡◌, ◌∷◌, [], sym, subst, string_cmp, bytes_eq}
 use Rattle.std.specs.List.Sorted.{IsStrictlySortedBy}
 use Rattle.std.specs.Map.{keys_of}
 use Rattle.std.proofs.lemmas.Map.Keys.{sorted_tail}

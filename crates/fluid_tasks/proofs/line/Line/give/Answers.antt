@@ -1,5 +1,5 @@
-use Rattle.std.proofs.Common.{rules, ◌≡◌, ◌+◌, ◌<◌, ◌∷◌, drop, length, refl, sym, ◌∙◌, ap, arith}
-use Rattle.fluid_tasks.specs.Line.{ALine, given, given_of}
+use Rattle.std.proofs.Common.{rules, ◌+◌, ◌<◌, drop, length, refl, sym, ap}
+use Rattle.fluid_tasks.specs.Line.{given_of}
 use Rattle.fluid_tasks.proofs.Lists.{rest_at}
 use Rattle.fluid_tasks.proofs.line.Line.give.Goals as goal
 

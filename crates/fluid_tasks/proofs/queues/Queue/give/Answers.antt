@@ -1,4 +1,4 @@
-use Rattle.std.proofs.Common.{◌≡◌, ◌∙◌, Some, cond, ap, arith, nat_cmp}
+use Rattle.std.proofs.Common.{◌∙◌, Some, cond, ap, nat_cmp}
 use Rattle.std.specs.BTreeMap.{get}
 use Rattle.std.specs.Prelude.{is_some}
 use Rattle.fluid_tasks.proofs.Candidates.{eq-cmp}

@@ -1,4 +1,4 @@
-use Rattle.std.proofs.Common.{◌≡◌, ◌∙◌, ◌+◌, None, cond, ap, sym, nat_cmp}
+use Rattle.std.proofs.Common.{◌∙◌, ◌+◌, None, cond, ap, sym, nat_cmp}
 use Rattle.std.specs.Prelude.{is_some}
 use Rattle.std.specs.BTreeMap.{get, btree_map_len}
 use Rattle.fluid_tasks.proofs.Candidates.{eq-cmp}

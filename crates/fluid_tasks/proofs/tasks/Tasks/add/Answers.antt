@@ -1,4 +1,4 @@
-use Rattle.std.proofs.Common.{rules, ◌≡◌, ◌∙◌, true, None, Some, ap, sym, subst, nat_cmp}
+use Rattle.std.proofs.Common.{rules, ◌≡◌, true, None, Some, sym, subst, nat_cmp}
 use Rattle.std.specs.Prelude.{is_some}
 use Rattle.std.specs.BTreeMap.{UpdatesBy}
 use Rattle.fluid_tasks.specs.declared.tasks.Item.{Item}
@@ -27,7 +27,7 @@ returns-clause-behind c = λ client m past is number numbered kept.
     let updates = subst (λ n. UpdatesBy nat_cmp (nat_cmp n) c.args.self.now.items c.insert.new.self (Some it)) (sym number) c.in_ok-insert.ensures.updates in
     let some = subst (λ q. is_some (at c.make_queue.new.queues q) ≡ true) c.as_str-name.ensures.bytes c.in_ok-make_queue.ensures.made in
     let changed = subst (λ n. Changes (IsAdded n) c.args.queue c.make_queue.new.queues c.add_to.new.queues) (sym number)
-        (subst (λ q. Changes (IsAdded c.args.number) q c.make_queue.new.queues c.add_to.new.queues) c.as_str-name.ensures.bytes (let done : Changes (IsAdded c.args.number) c.as_str-name.result.now c.make_queue.new.queues c.add_to.new.queues = search rules in done)) in
+    (subst (λ q. Changes (IsAdded c.args.number) q c.make_queue.new.queues c.add_to.new.queues) c.as_str-name.ensures.bytes (let done : Changes (IsAdded c.args.number) c.as_str-name.result.now c.make_queue.new.queues c.add_to.new.queues = search rules in done)) in
     add_keeps m past numbered client c.args.queue it is own c.args.self.now.items c.insert.new.self c.args.self.now.queues c.make_queue.new.queues c.add_to.new.queues c.args.self.now.tasks c.args.self.now.clients
     updates c.make_queue.ensures.kept some changed kept
 

@@ -1,4 +1,4 @@
-use Rattle.std.proofs.Common.{◌+◌, ◌∙◌, [], ◌∷◌, length, refl, sym, ap, subst, arith}
+use Rattle.std.proofs.Common.{◌+◌, ◌∙◌, sym, ap, subst, arith}
 use Rattle.fluid_tasks.specs.Past.{past_of}
 use Rattle.fluid_tasks.specs.Kept.{Stands}
 use Rattle.fluid_tasks.proofs.Names.{when_err}
@@ -16,7 +16,7 @@ returns-clause-applied c = λ messages stands.
 
 pub returns-in_err-take-clause-unchanged : goal.returns-in_err-take-clause-unchanged
 returns-in_err-take-clause-unchanged c = λ messages stands. when_err c.from_residual.result (record {
-    numbered = stands.numbered;
-    heard = c.take.ensures.heard ∙ stands.heard;
-    keeps = c.in_err-take.ensures.still (past_of messages) (c.requires ∙ ap (λ n. n + 1) stands.heard, stands.numbered) stands.keeps;
-  })
+  numbered = stands.numbered;
+  heard = c.take.ensures.heard ∙ stands.heard;
+  keeps = c.in_err-take.ensures.still (past_of messages) (c.requires ∙ ap (λ n. n + 1) stands.heard, stands.numbered) stands.keeps;
+})

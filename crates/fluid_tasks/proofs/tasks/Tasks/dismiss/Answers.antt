@@ -1,4 +1,4 @@
-use Rattle.std.proofs.Common.{rules, ◌≡◌, ◌∙◌, None, Some, ap, sym}
+use Rattle.std.proofs.Common.{rules, ◌≡◌, None, Some}
 use Rattle.fluid_tasks.specs.Kept.{at, SameNames}
 use Rattle.std.proofs.lemmas.Map.Text.{btree_map_updates_text}
 use Rattle.fluid_tasks.proofs.Calls.{leave_nothing}

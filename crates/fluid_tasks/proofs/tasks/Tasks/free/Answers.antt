@@ -1,4 +1,4 @@
-use Rattle.std.proofs.Common.{◌≡◌, ◌∙◌, Some, None, ap, sym, subst}
+use Rattle.std.proofs.Common.{◌∙◌, ap}
 use Rattle.fluid_tasks.specs.Past.{past_of}
 use Rattle.fluid_tasks.specs.Kept.{at, free_at}
 use Rattle.fluid_tasks.proofs.Answered.{free_answer}

@@ -1,4 +1,4 @@
-use Rattle.std.proofs.Common.{◌≡◌, ◌∙◌}
+use Rattle.std.proofs.Common.{◌∙◌}
 use Rattle.fluid_tasks.specs.Past.{past_of}
 use Rattle.fluid_tasks.specs.Kept.{at}
 use Rattle.fluid_tasks.proofs.Stood.{holder-entries}

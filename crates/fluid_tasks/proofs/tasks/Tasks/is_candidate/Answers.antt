@@ -1,5 +1,4 @@
-use Rattle.std.proofs.Common.{rules, ◌≡◌, ◌∙◌, None, Some, ap, sym, false}
-use Rattle.std.specs.Prelude.{is_some}
+use Rattle.std.proofs.Common.{rules, ◌≡◌, ◌∙◌, None, Some, sym}
 use Rattle.fluid_tasks.specs.Past.{standing_since}
 use Rattle.fluid_tasks.specs.Kept.{at, task_at}
 use Rattle.fluid_tasks.proofs.Calls.{candidate_stands, not_noted}

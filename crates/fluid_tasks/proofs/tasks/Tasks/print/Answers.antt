@@ -1,4 +1,4 @@
-use Rattle.std.proofs.Common.{◌≡◌, ◌∙◌, ◌++◌, ◌∷◌, [], ap, ap₂, sym, codes}
+use Rattle.std.proofs.Common.{◌∙◌, ◌++◌, ◌∷◌, [], ap, codes}
 use Rattle.json.specs.Token as token
 use Rattle.fluid_json.specs.Tree.{object, members}
 use Rattle.fluid_json.specs.Tokens.{tokens_of}
@@ -17,14 +17,14 @@ returns c = λ messages stands.
     c.into_text.ensures (all_of own others)
     (c.in_ok-end_object.ensures.tokens
     ∙ ap (λ l. l ++ token.end_object ∷ [])
-      (c.in_ok-put_tasks.ensures.tokens
-      ∙ ap (λ l. l ++ tokens_of (object (members others)))
-        (c.in_ok-key-2.ensures.tokens
-        ∙ ap (λ l. l ++ token.key (codes "tasks") ∷ [])
-          (c.in_ok-put_queues.ensures.tokens
-          ∙ ap (λ l. l ++ tokens_of (object (members own)))
-            (c.in_ok-key.ensures.tokens
-            ∙ ap (λ l. l ++ token.key (codes "queues") ∷ [])
-              (c.in_ok-begin_object.ensures.tokens ∙ ap (λ l. l ++ token.begin_object ∷ []) c.new-out.ensures.tokens)))))
+    (c.in_ok-put_tasks.ensures.tokens
+    ∙ ap (λ l. l ++ tokens_of (object (members others)))
+    (c.in_ok-key-2.ensures.tokens
+    ∙ ap (λ l. l ++ token.key (codes "tasks") ∷ [])
+    (c.in_ok-put_queues.ensures.tokens
+    ∙ ap (λ l. l ++ tokens_of (object (members own)))
+    (c.in_ok-key.ensures.tokens
+    ∙ ap (λ l. l ++ token.key (codes "queues") ∷ [])
+    (c.in_ok-begin_object.ensures.tokens ∙ ap (λ l. l ++ token.begin_object ∷ []) c.new-out.ensures.tokens)))))
     ∙ all_tokens [] (token.begin_object ∷ []) (token.key (codes "queues") ∷ []) (tokens_of (object (members own))) (token.key (codes "tasks") ∷ []) (tokens_of (object (members others))) (token.end_object ∷ []))
     ∙ whole_text (past_of messages) own others queues_so tasks_so
