@@ -1,0 +1,15 @@
+mod Lists
+mod Facts
+mod Freeing
+mod Candidates
+mod Applied
+mod Freed
+mod Stood
+mod Left
+mod Names
+mod Computed
+mod Ordered
+mod Texts
+mod Law
+mod Calls
+mod Answered
