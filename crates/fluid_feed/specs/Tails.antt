@@ -19,7 +19,7 @@ with_more more t = record t { messages = t.messages ++ more }
 
 -- more than a trimmed one has
 abbrev pub too_many : ℕ
-too_many = 128
+too_many = 4096
 
 -- some of the first ones were let go, so that there aren't too many
 pub record IsTrimmed (old new : ATail) : Type 0 where

@@ -9,7 +9,7 @@ use std::alloc::Global;
 use std::marker::Model;
 
 /// So many messages are left of a tail that had twice as many or more, when it is trimmed.
-pub const KEPT: usize = 64;
+pub const KEPT: usize = 2048;
 
 /// The last messages of an order, printed, numbered one by one from a first number. Contracts see that number and the messages. One
 /// that is trimmed has less than twice `KEPT` messages.

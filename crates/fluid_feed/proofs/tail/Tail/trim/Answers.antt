@@ -9,7 +9,7 @@ returns-then-count c =
 
 pub invariant_of-self : goal.invariant_of-self
 invariant_of-self c =
-    let extra = c.len-count.result - 64 in
+    let extra = c.len-count.result - 2048 in
     let cut : c.drop-drain.new.self.0.items ≡ drop extra c.self.inside.texts.items = c.drop-drain.ensures.items ∙ c.drain.ensures.kept in
     let left : length c.drop-drain.new.self.0.items ≡ length c.self.inside.texts.items - extra = ap length cut ∙ length-drop extra c.self.inside.texts.items in
     let is = c.self.invariant in let n = c.len-count.ensures in let some = c.self.inside.texts.ok.0 in
@@ -17,7 +17,7 @@ invariant_of-self c =
 
 pub returns : goal.returns
 returns c =
-    let extra = c.len-count.result - 64 in
+    let extra = c.len-count.result - 2048 in
     let cut : c.drop-drain.new.self.0.items ≡ drop extra c.self.inside.texts.items = c.drop-drain.ensures.items ∙ c.drain.ensures.kept in
     let left : length c.drop-drain.new.self.0.items ≡ length c.self.inside.texts.items - extra = ap length cut ∙ length-drop extra c.self.inside.texts.items in
     let n = c.len-count.ensures in let many = c.if-count.false in let some = c.self.inside.texts.ok.0 in
