@@ -1,52 +1,63 @@
 #!/usr/bin/env python3
-"""What a workload writes, worked out from the rules in words and not by the program.
+"""What a workload writes, worked out from the raw records of its run by the rules in words, and not by the program.
 
-    workload_summary.py NUMBER CLIENTS OPS
+    workload_records.py NUMBER CLIENTS OPS | workload_summary.py
 
-Runs the acts of workload_acts.py over one document: each client submits as it says, the document's rules (docs/RULES.md)
-give every entry its verdict and every sequenced one its message, and the two containers read the messages. Prints the seven
-lines that `fluidd workload` writes.
+Reads raw records, one a line. The document's rules (docs/RULES.md) give each its verdict, and each sequenced one its message; the first
+client that joins is the first container's, the last one the last container's. Prints the seven lines that `fluidd workload` writes.
 
-Nothing is read but what the acts say: a second hand wrote the rules down here, with a list of entries, one row for each
-client, and a replay from the first message for each state that is asked for.
+A second hand wrote the rules down here: a list of messages, one row for each client, and a replay from the first message for each
+state that is asked for.
 """
 import hashlib
 import json
+import re
 import sys
-
-from workload_acts import workload
 
 
 def printed(value):
     return json.dumps(value, ensure_ascii=False, sort_keys=True, separators=(",", ":"))
 
 
+# ---- Git's ids
+
+
 def git_id(kind, body):
     return hashlib.sha1(f"{kind} {len(body)}".encode() + b"\0" + body).hexdigest()
 
 
+def blob_id(text):
+    return git_id("blob", text.encode())
+
+
 def tree_id(entries):
-    """The id of a tree: (name, whether it is a tree, id) in byte order of names, a tree's as if a `/` stood behind it."""
+    """The id of a tree of (name, whether it is a tree, id), in byte order of names, a tree's as if a `/` stood behind it."""
     body = b""
-    for name, is_tree, id_ in sorted(entries, key=lambda e: e[0].encode() + (b"/" if e[1] else b"")):
+    for name, is_tree, id_ in sorted(entries, key=lambda entry: entry[0].encode() + (b"/" if entry[1] else b"")):
         body += (b"40000 " if is_tree else b"100644 ") + name.encode() + b"\0" + bytes.fromhex(id_)
     return git_id("tree", body)
 
 
+def blobs_id(texts):
+    """The id of a tree of blobs with these texts, by their names."""
+    return tree_id([(name, False, blob_id(text)) for name, text in texts.items()])
+
+
 def app_id(channels):
-    entries = []
-    for address, (kind, value) in channels.items():
-        content = printed(value) if kind == "map" else printed({"value": str(value)})
-        blobs = [("content", False, git_id("blob", content.encode())), ("kind", False, git_id("blob", kind.encode()))]
-        entries.append((address, True, tree_id(blobs)))
-    return tree_id(entries)
+    """The id of the app tree of these channels."""
+    return tree_id([(address, True, blobs_id({"kind": kind, "content": printed(value) if kind == "map" else printed({"value": str(value)})}))
+                    for address, (kind, value) in channels.items()])
+
+
+# ---- channels
 
 
 def replay(messages, channels=None):
-    """The channels behind these, (kind, contents) each, from these channels on; they are changed."""
+    """The channels behind these messages, from these channels on, which are changed."""
     channels = {} if channels is None else channels
-    for kind, contents in messages:
-        if kind != "op" or not isinstance(contents, dict):
+    for message in messages:
+        contents = message["contents"]
+        if message["type"] != "op" or not isinstance(contents, dict):
             continue
         address = contents["address"]
         if contents.get("type") == "attach":
@@ -64,130 +75,116 @@ def replay(messages, channels=None):
     return channels
 
 
+# ---- the document
+
+
+class Row:
+    """What the rules say of a joined client."""
+
+    def __init__(self, reference, scopes):
+        self.number, self.reference, self.scopes, self.is_marked = 0, reference, scopes, False
+
+
 class Document:
-    """Entries get their verdicts one after another."""
+    """Raw records get their verdicts one after another. No client of a workload leaves, and none proposes."""
 
     def __init__(self):
-        self.entries, self.messages, self.rows = 0, [], {}  # id -> [last number, reference, is marked]
-        self.last_minimum = self.dropped = self.absorbed = self.nacked = 0
-        self.acknowledged = []  # (handle, reference) of each summaryAck
+        self.rows, self.messages = {}, []
+        self.members = []  # (number of the join's message, id, detail)
+        self.verdicts = []  # the words of all verdicts so far
+        self.summaries = []  # the numbers of the summarizes that wait
+        self.acknowledged = []  # (handle, reference, app) of each summaryAck
 
     def minimum(self):
-        return min((row[1] for row in self.rows.values()), default=len(self.messages))
+        return min((row.reference for row in self.rows.values()), default=len(self.messages))
 
-    def sequence(self, kind, contents):
-        """Enters the message; the rows are already those behind it, but for a minimum with nobody joined."""
-        self.messages.append((kind, contents))
-        self.last_minimum = self.minimum()
+    def last_minimum(self):
+        return self.messages[-1]["minimum"] if self.messages else 0
+
+    def enter(self, record):
+        """The word of its verdict: sequenced, nacked, dropped or absorbed."""
+        verdict = {"join": self._join, "submit": self._submit, "report": self._report}[record["raw"]](record)
+        self.verdicts.append(verdict)
+        return verdict
+
+    def _sequence(self, kind, contents, reference=-1):
+        """The rows are already those behind it, but where nobody is joined the minimum is the message's own number."""
+        self.messages.append({"type": kind, "contents": contents, "reference": reference})
+        self.messages[-1]["minimum"] = self.minimum()
         return "sequenced"
 
-    def join(self):
-        client = f"c{self.entries}"
-        self.entries += 1
-        self.rows[client] = [0, self.minimum(), False]
-        self.sequence("join", None)
-        return client
-
-    def submit(self, client, number, reference, kind, contents):
-        self.entries += 1
-        row = self.rows.get(client)
-        if row and number <= row[0]:
-            self.dropped += 1
+    def _join(self, record):
+        id_ = record["clientId"]
+        if id_ in self.rows:
             return "dropped"
-        if row and number > row[0] + 1 or not row or row[2]:
-            self.nacked += 1
+        self.rows[id_] = Row(self.minimum(), record["scopes"])
+        self.members.append((len(self.messages) + 1, id_, record["detail"]))
+        return self._sequence("join", None)
+
+    def _submit(self, record):
+        operation, row = record["operation"], self.rows.get(record["clientId"])
+        number, reference = operation["clientSequenceNumber"], operation["referenceSequenceNumber"]
+        if row and number <= row.number:
+            return "dropped"
+        if row and number > row.number + 1 or not row or row.is_marked:
             return "nacked"
         if reference < self.minimum():
-            row[0], row[1], row[2] = number, self.minimum(), True
-            self.nacked += 1
+            row.number, row.reference, row.is_marked = number, self.minimum(), True
             return "nacked"
-        if reference > len(self.messages):
-            self.nacked += 1
+        if reference > len(self.messages) or operation["type"] == "summarize" and "summary:write" not in row.scopes:
             return "nacked"
-        lifted = min([r[1] for c, r in self.rows.items() if c != client] + [reference])
-        row[0], row[1] = number, reference
-        if kind == "noop" and (contents is None or lifted <= self.last_minimum):
-            self.absorbed += 1
+        row.number, row.reference = number, reference
+        if operation["type"] == "noop" and (operation["contents"] is None or self.minimum() <= self.last_minimum()):
             return "absorbed"
-        return self.sequence(kind, contents)
+        if operation["type"] == "summarize":
+            self.summaries.append(len(self.messages) + 1)
+        return self._sequence(operation["type"], operation["contents"], reference)
 
-    def acknowledge(self, handle, reference):
-        """The report on the summarize that waits: its tree is held, and its head is that of the last one."""
-        self.entries += 1
-        assert not self.acknowledged or reference >= self.acknowledged[-1][1]
-        self.sequence("summaryAck", None)
-        self.acknowledged.append((handle, reference))
+    def _report(self, record):
+        if not self.summaries or record["summary"] != self.summaries[0]:
+            return "dropped"
+        asked = self.messages[self.summaries.pop(0) - 1]
+        contents, (head, least, _) = asked["contents"], self.acknowledged[-1] if self.acknowledged else ("", 0, None)
+        is_formed = isinstance(contents, dict) and re.fullmatch("[0-9a-f]{40}", contents.get("handle", "")) and "head" in contents
+        if not is_formed or contents["head"] != head or asked["reference"] < least or not record["found"]:
+            return self._sequence("summaryNack", None)
+        self.acknowledged.append((self.version_id(contents["handle"], asked["reference"]), asked["reference"], contents["handle"]))
+        return self._sequence("summaryAck", None)
+
+    def version_id(self, app, number):
+        """The id of the version of this app tree behind so many messages."""
+        minimum = self.messages[number - 1]["minimum"] if number else 0
+        members = [{"clientId": id_, "detail": detail, "sequenceNumber": at} for at, id_, detail in self.members if at <= number]
+        protocol = blobs_id({
+            "attributes": printed({"minimumSequenceNumber": minimum, "sequenceNumber": number}),
+            "quorumMembers": printed(sorted(members, key=lambda member: member["clientId"].encode())),
+            "quorumProposals": printed([]),
+            "quorumValues": printed([]),
+        })
+        return tree_id([(".app", True, app), (".protocol", True, protocol)])
 
 
-class Writer:
-    def __init__(self, document):
-        self.document, self.client, self.number, self.collected, self.last = document, document.join(), 0, 0, None
-
-    def submit(self, kind, contents, number):
-        verdict = self.document.submit(self.client, number, self.collected, kind, contents)
-        if verdict in ("sequenced", "absorbed"):
-            self.number, self.last = number, (number, self.collected, kind, contents)
-
-
-def set_(key, value):
-    return {"address": "m", "contents": {"type": "set", "key": f"k{key}", "value": {"type": "Plain", "value": value}}}
-
-
-def summary(acts):
-    """The lines of these acts, written as workload_acts.py prints them."""
-    document, writers, p, state, loaded = Document(), [], None, None, None
-    for line in acts:
-        act, *words = line.split()
-        words = [int(word) for word in words]
-        if act == "begin":
-            p = Writer(document)
-            p.collected = len(document.messages)  # it is loaded behind its own join
-            for address, kind in (("m", "map"), ("n", "counter")):
-                p.submit("op", {"address": address, "type": "attach", "kind": kind}, p.number + 1)
-            p.collected = len(document.messages)
-        elif act == "join":
-            writers.append(Writer(document))
-        elif act == "collect":
-            writers[words[0]].collected = len(document.messages)
-        elif act == "noop":
-            writers[words[0]].submit("noop", None, 1)
-        elif act == "again":
-            w = writers[words[0]]
-            document.submit(w.client, *w.last)
-        elif act == "gap":
-            w = writers[words[0]]
-            document.submit(w.client, w.number + 2, w.collected, "op", None)
-        elif act in ("set", "delete", "increment"):
-            w = writers[words[0]]
-            contents = {
-                "set": lambda: set_(words[1], words[2]),
-                "delete": lambda: {"address": "m", "contents": {"type": "delete", "key": f"k{words[1]}"}},
-                "increment": lambda: {"address": "n", "contents": {"type": "increment", "incrementAmount": words[1]}},
-            }[act]()
-            w.submit("op", contents, w.number + 1)
-        elif act == "round":
-            p.collected = len(document.messages)
-            handle = app_id(replay(document.messages[: p.collected]))
-            p.submit("summarize", handle, p.number + 1)
-            document.acknowledge(handle, p.collected)
-        elif act == "finish":
-            q = Writer(document)
-            # From the last acknowledged summary, whose tree is the channels at its reference, and the messages behind it.
-            base = document.acknowledged[-1][1] if document.acknowledged else 0
-            channels = replay(document.messages[:base])
-            assert app_id(channels) == (document.acknowledged[-1][0] if document.acknowledged else tree_id([]))
-            loaded = app_id(replay(document.messages[base:], channels))
-            state = app_id(replay(document.messages))
+def summary(records):
+    """The lines of these raw records, and the words of their verdicts."""
+    document = Document()
+    for record in records:
+        document.enter(record)
+    state = app_id(replay(document.messages))
+    # The last container is loaded from the last acknowledged summary, whose tree is the channels at its reference.
+    _, base, app = document.acknowledged[-1] if document.acknowledged else ("", 0, tree_id([]))
+    channels = replay(document.messages[:base])
+    loaded = app_id(replay(document.messages[base:], channels)) if app_id(channels) == app else None
+    count = document.verdicts.count
     return [
         f"messages {len(document.messages)}",
-        f"dropped {document.dropped}",
-        f"absorbed {document.absorbed}",
-        f"nacked {document.nacked}",
+        f"dropped {count('dropped')}",
+        f"absorbed {count('absorbed')}",
+        f"nacked {count('nacked')}",
         f"summaries {len(document.acknowledged)}",
         f"state {state}",
         f"loaded {'same' if loaded == state else 'different'}",
-    ]
+    ], document.verdicts
 
 
 if __name__ == "__main__":
-    print("\n".join(summary(workload(*(int(word) for word in sys.argv[1:4])))))
+    print("\n".join(summary(json.loads(line) for line in sys.stdin)[0]))

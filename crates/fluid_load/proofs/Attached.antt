@@ -14,6 +14,7 @@ use Rattle.fluid_containers.specs.Stepping.{IsShort}
 use Rattle.fluid_steps.specs.declared.steps.Step.TheVariants as step
 use Rattle.fluid_world.specs.Naming.{IsShortStep}
 use Rattle.fluid_turns.specs.Quiet.{IsQuietStep}
+use Rattle.fluid_load.specs.Quiet.{IsOwnStep}
 use Rattle.fluid_workload.specs.Working.{m, n, named, connecting}
 
 abbrev attaching : (address : List ℕ) → ChannelKind → List Row
@@ -41,3 +42,6 @@ connect_short client = omega arith
 
 pub connect_quiet : (client : ℕ) → IsQuietStep (step.Send (named client) connecting)
 connect_quiet client = refl
+
+pub connect_own : (client : ℕ) → IsOwnStep (step.Send (named client) connecting)
+connect_own client = refl

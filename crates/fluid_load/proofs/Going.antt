@@ -6,7 +6,7 @@ use Rattle.fluid_gen.specs.declared.act.Act.TheVariants.{Begin}
 use Rattle.fluid_load.specs.Standing.{AtWork, Works, Opens, CanWork, CanBegin}
 use Rattle.fluid_load.specs.Acting.{acted, acted_all}
 use Rattle.fluid_load.specs.Running.{IsBeginning, DidNext, DidNone}
-use Rattle.fluid_load.proofs.Parts.{Ended, on_none, then_works, then_opens, more_on, can_then, can_less, can_behind, begin_less}
+use Rattle.fluid_load.proofs.Parts.{Ended, grows_not, on_none, then_works, then_opens, more_opens, can_then, can_less, can_behind, begin_less}
 
 -- ---- the next act
 
@@ -18,8 +18,11 @@ pub none_left : (all : List Act) → slice_get all 0 ≡ None → all ≡ []
 none_left [] is = refl
 none_left (b ∷ all) is = absurd (cc)
 
+pub next_few : (all rest : List Act) (act : Act) → all ≡ act ∷ rest → 5 ≤ 5 * length all
+next_few all rest act is = omega (arith, ap length is)
+
 pub can_next : (all rest : List Act) (act : Act) (s : AtWork) → all ≡ act ∷ rest → CanWork (5 * length all) s → CanWork 5 s
-can_next all rest act s is can = can_less 5 (5 * length all) s (omega (arith, ap length is)) can
+can_next all rest act s is can = can_less 5 (5 * length all) s (next_few all rest act is) can
 
 pub did_next : (all rest : List Act) (act : Act) (a b : AtWork) → slice_get all 0 ≡ Some act → rest ≡ drop 1 all → Works 5 (acted act) a b (Ok tt) → DidNext all rest a b
 did_next all rest act a b is left works = record { act = act; is = subst (λ l. all ≡ act ∷ l) (sym left) (first_left all act is); works = works }
@@ -50,7 +53,7 @@ pub gone : (all left : List Act) (first now new : AtWork) → IsGoing all left f
 gone all left first now new going did = subst (λ s. Works (5 * length all) (acted_all all) first s (Ok tt)) (sym did.same) (by (subst (λ l. IsGoing all l first now) did.none going))
   where
     by : IsGoing all [] first now → Works (5 * length all) (acted_all all) first now (Ok tt)
-    by going = going.whole now (Ok tt) (record { on = on_none (5 * 0) now; leads = λ w good goes. goes })
+    by going = going.whole now (Ok tt) (record { on = on_none (5 * 0) now; leads = λ w good goes. goes; wears = λ w first steps good goes run. grows_not (5 * 0) w.world })
 
 pub fewer_left : (left rest : List Act) (a b : AtWork) → DidNext left rest a b → length rest + 1 ≤ length left
 fewer_left left rest a b did = omega (arith, ap length did.is)
@@ -61,8 +64,11 @@ module _ (all rest : List Act) (begins : IsBeginning all) (left : rest ≡ drop 
   behind_first : all ≡ Begin ∷ rest
   behind_first = begins.is ∙ ap (λ l. Begin ∷ l) (sym (left ∙ ap (drop 1) begins.is))
 
+  pub first_few : 4 ≤ 5 * length all
+  first_few = omega (arith, ap length behind_first)
+
   pub can_first : (s : AtWork) → CanBegin (5 * length all) s → CanBegin 4 s
-  can_first s can = begin_less 4 (5 * length all) s (omega (arith, ap length behind_first)) can
+  can_first s can = begin_less 4 (5 * length all) s first_few can
 
   pub can_others : (a b : AtWork) → CanBegin (5 * length all) a → Opens 4 (acted Begin) a b (Ok tt) → CanWork (5 * length rest) b
   can_others a b can opens = can_behind 4 (5 * length rest) (begin_less (4 + 5 * length rest) (5 * length all) a (omega (arith, ap length behind_first)) can) opens
@@ -71,4 +77,4 @@ module _ (all rest : List Act) (begins : IsBeginning all) (left : rest ≡ drop 
   all_opens a b d r opens works = subst (λ l. Opens (5 * length all) (acted_all l) a d r) (sym behind_first) (more (then_opens opens works))
     where
       more : Opens (4 + 5 * length rest) (acted_all (Begin ∷ rest)) a d r → Opens (5 * length all) (acted_all (Begin ∷ rest)) a d r
-      more one = record { on = more_on (4 + 5 * length rest) (5 * length all) a d r (omega (arith, ap length behind_first)) one.on; leads = one.leads }
+      more one = more_opens (5 * length all) (omega (arith, ap length behind_first)) one

@@ -1,5 +1,6 @@
 pub mod Parts
 mod Owned
+mod Grown
 mod Passed
 mod Worked
 mod Attached

@@ -13,6 +13,8 @@ use Rattle.fluid_transcript.specs.Transcript.{done}
 use Rattle.fluid_transcript.specs.Sound.{IsSound}
 use Rattle.fluid_transcript.proofs.Stepping.{done_leaves}
 use Rattle.fluid_holding.specs.Holding.{HoldsOwn}
+use Rattle.fluid_desk.specs.declared.stop.Stop.{Stop}
+use Rattle.fluid_desk.specs.Stopping.{MayStop}
 use Rattle.fluid_world.specs.declared.named.Named.{Named}
 use Rattle.fluid_world.specs.Naming.{refusal_by}
 use Rattle.fluid_world.specs.Standing.{WorldStands}
@@ -45,3 +47,6 @@ module _ (limits : Limits) (w : World) (step : Step) where
 
     pub accepted_takes : None ≡ refusal_by names step → (new : Opened) (now : Storing) (given : Values Named) → WorldStands new now given (done limits w step).world → WorldStands new now given (behind_step limits w step)
     accepted_takes is new now given takes = subst (WorldStands new now given) (sym (ap by_refusal (same_refusal names w stands.named step ∙ sym is))) takes
+
+    pub accepted_may : None ≡ refusal_by names step → (new : Opened) (stop : Stop) → MayStop (done limits w step).world new stop → MayStop (behind_step limits w step) new stop
+    accepted_may is new stop may = subst (λ v. MayStop v new stop) (sym (ap by_refusal (same_refusal names w stands.named step ∙ sym is))) may

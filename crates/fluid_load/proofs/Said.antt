@@ -1,5 +1,5 @@
 -- A workload behind what a client submits.
-use Rattle.std.proofs.Common.{◌≡◌, ℕ, ◌+◌, ◌≤◌, ◌<◌, ◌^◌, arith, Bool, true, false, List, [], ◌∷◌, ◌++◌, length, Option, Some, None, Result, Ok, Err, bytes_eq, refl, sym, ap, subst, ◌∙◌, append-nil, length-append}
+use Rattle.std.proofs.Common.{◌≡◌, ℕ, ◌+◌, ◌*◌, ◌≤◌, ◌<◌, ◌^◌, arith, Bool, true, false, List, [], ◌∷◌, ◌++◌, length, Option, Some, None, Result, Ok, Err, bytes_eq, refl, sym, ap, subst, ◌∙◌, append-nil, length-append}
 use Rattle.std.specs.Prelude.{if◌then◌else◌, ◌-◌, fold, is_some, option_map, option_and_then, IfOk, OnOk, OnErr}
 use Rattle.std.specs.Option.{option_to_list}
 use Rattle.std.specs.List.{list_any}
@@ -55,10 +55,11 @@ use Rattle.fluid_turns.specs.declared.writer.Writer.{Writer}
 use Rattle.fluid_turns.proofs.Lanes.{heard_so, entry_is}
 use Rattle.fluid_turns.proofs.Leaving.{submissions_leave_all}
 use Rattle.fluid_turns.proofs.Tallied.{tally_grows}
-use Rattle.fluid_load.specs.Standing.{AtWork, WorkGoes, ActsOn, Next, LeadsTo, Works, noted}
+use Rattle.fluid_load.specs.Standing.{AtWork, WorkGoes, GrowsBy, WearsBy, ActsOn, Next, LeadsTo, Works, noted}
 use Rattle.fluid_load.specs.Acting.{said, entered}
 use Rattle.fluid_load.specs.Saying.{ForWriter, SaysAs, EntersAs}
-use Rattle.fluid_load.proofs.Parts.{Ended, on_short, on_none, may_end}
+use Rattle.fluid_load.proofs.Parts.{Ended, stop_wears, grows_not, short_wears, on_short, on_none}
+use Rattle.fluid_load.proofs.Grown.{entry_grows}
 use Rattle.fluid_load.proofs.Submitted.{submitted_stands}
 
 -- ---- who submits
@@ -127,18 +128,24 @@ module _ (limits : Limits) (w : Workload) (client : ℕ) (has : Workload → (cl
 -- ---- parts for a client
 
 -- a client that doesn't write submits nothing
-pub nobody_works : (client : ℕ) (saying : Saying) (a : AtWork) → ((w : Workload) → WorkGoes a w → IsWriter w.world client None) → Works 0 (said client saying) a a (Ok tt)
+pub nobody_works : (client : ℕ) (saying : Saying) (a : AtWork) → ((w : Workload) → WorkGoes a w → IsWriter w.world client None) → Works 1 (said client saying) a a (Ok tt)
 nobody_works client saying a none = record {
-  on = on_none 0 a;
+  on = on_none 1 a;
   leads = λ w good goes. subst (λ v. WorkGoes a v) (sym (nobody a.lanes.limits w client (has_for saying) (none w goes))) goes;
+  wears = λ w first steps good goes run.
+      subst (λ (v : Workload). GrowsBy 1 w.world v.world) (sym (nobody a.lanes.limits w client (has_for saying) (none w goes))) (grows_not 1 w.world);
 }
 
 pub somebody_works : (client : ℕ) (saying : Saying) (document : List ℕ) (writer : Writer) (a b : AtWork) (r : Ended) → document ≡ work → ((w : Workload) → WorkGoes a w → IsWriter w.world client (Some writer))
-    → SaysAs document writer saying a b r → Works 0 (said client saying) a b r
-somebody_works client saying document writer a b r at its says = record { on = says.on; leads = λ w good goes. says.leads w client good goes at (its w goes) }
+    → SaysAs document writer saying a b r → Works 1 (said client saying) a b r
+somebody_works client saying document writer a b r at its says = record {
+  on = says.on;
+  leads = λ w good goes. says.leads w client good goes at (its w goes);
+  wears = λ w first steps good goes run. says.wears w client first steps good goes at (its w goes) run;
+}
 
 pub short_for : (document : List ℕ) (writer : Writer) (next : (client : ℕ) → Next) (a b : AtWork) → b ≡ a → ForWriter document writer next a b (Err NoMemory)
-short_for document writer next a b same = subst (λ c. ForWriter document writer next a c (Err NoMemory)) (sym same) (record { on = on_short 0 a; leads = λ w client good goes at is. (0, tt) })
+short_for document writer next a b same = subst (λ c. ForWriter document writer next a c (Err NoMemory)) (sym same) (record { on = on_short 1 a; leads = λ w client good goes at is. tt; wears = λ w client first steps good goes at is run. short_wears (steps + 2 * 1) w.world })
 
 -- what is known of what it has to submit
 abbrev Gives : (document : List ℕ) → Writer → Saying → AtWork → Option Submission → Type 0
@@ -146,9 +153,11 @@ Gives document writer saying a given = (w : Workload) (client : ℕ) → WorkGoe
 
 pub nothing_says : (document : List ℕ) (writer : Writer) (saying : Saying) (a b : AtWork) → b ≡ a → Gives document writer saying a None → SaysAs document writer saying a b (Ok tt)
 nothing_says document writer saying a b same gives = subst (λ c. SaysAs document writer saying a c (Ok tt)) (sym same) (record {
-  on = on_none 0 a;
+  on = on_none 1 a;
   leads = λ w client good goes at is.
       subst (λ v. WorkGoes a v) (sym (somebody a.lanes.limits w client (has_for saying) writer.id None is.id (sym (gives w client goes at is)))) goes;
+  wears = λ w client first steps good goes at is run.
+      subst (λ (v : Workload). GrowsBy 1 w.world v.world) (sym (somebody a.lanes.limits w client (has_for saying) writer.id None is.id (sym (gives w client goes at is)))) (grows_not 1 w.world);
 })
 
 pub enters_says : (document : List ℕ) (writer : Writer) (saying : Saying) (s : Submission) (a b d : AtWork) (r : Ended) → b ≡ a → Gives document writer saying a (Some s) → EntersAs document writer s b d r → SaysAs document writer saying a d r
@@ -159,6 +168,9 @@ enters_says document writer saying s a b d r same gives enters = by (subst (λ c
       on = enters.on;
       leads = λ w client good goes at is.
           subst (λ v. LeadsTo v d r) (sym (somebody a.lanes.limits w client (has_for saying) writer.id (Some s) is.id (sym (gives w client goes at is)))) (enters.leads w client good goes at is);
+      wears = λ w client first steps good goes at is run.
+          subst (λ (v : Workload). WearsBy steps 1 w.world v.world r) (sym (somebody a.lanes.limits w client (has_for saying) writer.id (Some s) is.id (sym (gives w client goes at is))))
+          (enters.wears w client first steps good goes at is run);
     }
 
 -- ---- an entry
@@ -187,19 +199,17 @@ module _ (limits : Limits) (w : World) (client : ℕ) (raw : Raw) where
 
 -- what an entry on the lane leaves of all else
 module _ (raw : Raw) (old mid : AtWork) (rest : mid ≡ record old { lanes = mid.lanes }) (limits_are : mid.lanes.limits ≡ old.lanes.limits) where
-  on_entered : (r : Ended) → ((first steps : ℕ) → HasRun first steps old.lanes → RunsOn first (steps + 1) mid.lanes r) → ActsOn 0 old mid r
+  on_entered : (r : Ended) → ((first steps : ℕ) → HasRun first steps old.lanes → RunsOn first (steps + 1) mid.lanes r) → ActsOn 1 old mid r
   on_entered r runs = record {
     limits = limits_are;
     good = ap (λ (s : AtWork). s.good) rest;
     counts = omega (arith, ap (λ (s : AtWork). s.store.faults) rest);
-    runs = λ first steps run. (
-      steps + 1,
-      subst (λ (now : Storing). RunsLinking first (steps + 1) old.store now mid.lanes r) (sym (ap (λ (s : AtWork). s.store) rest)) (on_links first (steps + 1) old.store old.store mid.lanes r (runs first steps run)),
-    );
+    runs = λ first steps run.
+        subst (λ (now : Storing). RunsLinking first (steps + 1) old.store now mid.lanes r) (sym (ap (λ (s : AtWork). s.store) rest)) (on_links first (steps + 1) old.store old.store mid.lanes r (runs first steps run));
     numbers = counted r;
   }
     where
-      counted : (r : Ended) → OnOk r ((n : ℕ) → AreCounted n old.names → AreCounted (n + 0) mid.names)
+      counted : (r : Ended) → OnOk r ((n : ℕ) → AreCounted n old.names → AreCounted (n + 1) mid.names)
       counted (Ok done) = λ n few q h there. omega (arith, few q h (ap (λ (s : AtWork). get s.names q) (sym rest) ∙ there))
       counted (Err stop) = tt
 
@@ -283,8 +293,14 @@ module _ (others : OthersLeave) (document : List ℕ) (writer : Writer) (s : Sub
   pub stops_entering : (stop : Stop) → ((first steps : ℕ) → HasRun first steps old.lanes → RunsOn {A = Option Verdict} first (steps + 1) mid.lanes (Err stop)) → Entering document raw old mid (Err stop) → EntersAs document writer s old mid (Err stop)
   stops_entering stop runs enters = record {
     on = on_entered raw old mid rest limits_are (Err stop) runs;
-    leads = λ w client good goes at is. may_end w.world mid.lanes stop (enters w.world client goes.stands.stands.desk goes.open_is at);
+    leads = λ w client good goes at is. tt;
+    wears = λ w client first steps good goes at is run.
+        stop_wears steps 1 w.world w.world mid.lanes stop (grows_not 1 w.world) (runs first steps run).few (enters w.world client goes.stands.stands.desk goes.open_is at);
   }
+
+  -- one entry at most
+  entry_wears : (w : Workload) (client : ℕ) → GrowsBy 1 w.world (entered client writer.id s old.lanes.limits w).world
+  entry_wears w client = entry_grows old.lanes.limits w.world client (Submit writer.id s w.world.moment)
 
   pub full_enters : ((first steps : ℕ) → HasRun first steps old.lanes → RunsOn {A = Option Verdict} first (steps + 1) mid.lanes (Ok None)) → Entering document raw old mid (Ok None) → EntersAs document writer s old mid (Ok tt)
   full_enters runs enters = record {
@@ -292,20 +308,19 @@ module _ (others : OthersLeave) (document : List ℕ) (writer : Writer) (s : Sub
     leads = λ w client good goes at is.
         let e = entering_own (Ok None) enters w.world client goes.stands.stands.desk goes.open_is at in
         full_goes raw old mid rest limits_are others w client writer.id s goes is.id e.stands e.verdict_is;
+    wears = λ w client first steps good goes at is run. entry_wears w client;
   }
 
   -- what the note of a verdict leaves
   abbrev pub Same : AtWork → Type 0
   Same new = (new.lanes ≡ mid.lanes) × ((new.store ≡ mid.store) × ((new.names ≡ mid.names) × (new.good ≡ mid.good)))
 
-  on_noted : (new : AtWork) (r : Ended) → Same new → ActsOn 0 old mid (Ok tt) → OnErr r (r ≡ Err NoMemory) → ActsOn 0 old new r
+  on_noted : (new : AtWork) (r : Ended) → Same new → ActsOn 1 old mid (Ok tt) → OnErr r (r ≡ Err NoMemory) → ActsOn 1 old new r
   on_noted new r same on short = record {
     limits = ap (λ (o : Opened). o.limits) same.0 ∙ on.limits;
     good = same.1.1.1 ∙ on.good;
     counts = omega (arith, on.counts, ap (λ (k : Storing). k.faults) same.1.0);
-    runs = λ first steps run.
-        let mid_run = on.runs first steps run in
-        (mid_run.0, by first mid_run.0 r (subst (λ o. HasRun first mid_run.0 o) (sym same.0) mid_run.1) short);
+    runs = λ first steps run. by first (steps + 1) r (subst (λ o. HasRun first (steps + 1) o) (sym same.0) (on.runs first steps run)) short;
     numbers = counted r;
   }
     where
@@ -313,7 +328,7 @@ module _ (others : OthersLeave) (document : List ℕ) (writer : Writer) (s : Sub
       by first steps (Ok done) run short = run
       by first steps (Err stop) run short = subst (λ (e : Ended). RunsLinking first steps old.store new.store new.lanes e) (sym short) (record { shelves = run.shelves; few = run.few; ends = tt })
 
-      counted : (r : Ended) → OnOk r ((n : ℕ) → AreCounted n old.names → AreCounted (n + 0) new.names)
+      counted : (r : Ended) → OnOk r ((n : ℕ) → AreCounted n old.names → AreCounted (n + 1) new.names)
       counted (Ok done) = λ n few q h there. on.numbers n few q h (ap (λ (t : Values Named). get t q) (sym same.1.1.0) ∙ there)
       counted (Err stop) = tt
 
@@ -322,15 +337,21 @@ module _ (others : OthersLeave) (document : List ℕ) (writer : Writer) (s : Sub
   noted_enters v new r runs enters notes same short = record {
     on = on_noted new r same (on_entered raw old mid rest limits_are (Ok tt) runs) short;
     leads = λ w client good goes at is. by w client goes at is r notes short;
+    wears = λ w client first steps good goes at is run. worn w client steps r short;
   }
     where
+      worn : (w : Workload) (client steps : ℕ) (r : Ended) → OnErr r (r ≡ Err NoMemory) → WearsBy steps 1 w.world (entered client writer.id s old.lanes.limits w).world r
+      worn w client steps (Ok done) short = entry_wears w client
+      worn w client steps (Err stop) short =
+          subst (λ (e : Ended). WearsBy steps 1 w.world (entered client writer.id s old.lanes.limits w).world e) (sym short) (short_wears (steps + 2 * 1) w.world)
+
       by : (w : Workload) (client : ℕ) → WorkGoes old w → document ≡ work → Writes w.world client writer → (r : Ended) → OnOk r (new ≡ noted writer.name s v mid) → OnErr r (r ≡ Err NoMemory)
           → LeadsTo (entered client writer.id s old.lanes.limits w) new r
       by w client goes at is (Ok done) notes short =
           let e = entering_own (Ok (Some v)) enters w.world client goes.stands.stands.desk goes.open_is at in
           subst (λ x. WorkGoes x (entered client writer.id s old.lanes.limits w)) (sym notes)
           (noted_goes raw old mid rest limits_are others w client writer.id s goes is.id e.stands writer.name v is.name e.verdict_is)
-      by w client goes at is (Err stop) notes short = subst (λ (e : Ended). LeadsTo (entered client writer.id s old.lanes.limits w) new e) (sym short) (0, tt)
+      by w client goes at is (Err stop) notes short = tt
 
 -- ---- a note
 

@@ -23,7 +23,7 @@ use Rattle.fluid_desk.specs.declared.stop.Stop.{Stop}
 use Rattle.fluid_desk.specs.declared.stop.Stop.TheVariants as stop
 use Rattle.fluid_desk.specs.declared.stop.StoredFault.TheVariants.{Lane, Delta, Object}
 use Rattle.fluid_desk.specs.Laws.{DesksComeBack, FaultsAreCounted}
-use Rattle.fluid_desk.specs.Stopping.{IsHonest, HasRun}
+use Rattle.fluid_desk.specs.Stopping.{HasRun}
 use Rattle.fluid_door_link.specs.Hushing.{hushed, IsHushed, IsShortAsTold}
 use Rattle.fluid_containers.specs.Ending.{RunsLinking}
 use Rattle.fluid_world.specs.declared.ends.ScriptEnd.{ScriptEnd}
@@ -37,10 +37,10 @@ use Rattle.fluid_workload.specs.Summary.{summary, written_by, behind_all}
 use Rattle.fluid_transcript.specs.Transcript.{written}
 use Rattle.fluid_turns.specs.Tallying.{IsTally}
 use Rattle.fluid_voice.specs.Ends.{is_beyond}
-use Rattle.fluid_load.specs.Standing.{AtWork, IsFair, WorkGoes, WorkBegins, MayBegin, CanBegin, LeadsTo, Opens}
+use Rattle.fluid_load.specs.Standing.{AtWork, IsFair, WearsBy, WorkGoes, WorkBegins, MayBegin, CanBegin, LeadsTo, Opens}
 use Rattle.fluid_load.specs.Acting.{acted_all}
 use Rattle.fluid_load.specs.Running.{IsBegun, IsBeginning, SaysAll, Concludes, Finishes, FinishesBy}
-use Rattle.fluid_load.specs.Ending.{outside, CameBy, IsNewDeskOf, WritesSummary}
+use Rattle.fluid_load.specs.Ending.{outside, CameBy, IsNewDeskOf, IsNearlyFull, WritesSummary}
 use Rattle.fluid_load.proofs.Parts.{Ended}
 
 -- ---- how many acts there are
@@ -102,6 +102,7 @@ begins_at_first shelves limits objects w is =
       opens = inr (record {
         name = ap (λ (v : World). get v.names p) is.desk.first ∙ get-empty byte_order p;
         within = ap (λ (v : World). is_beyond v.opened work) is.desk.first;
+        no_entry = is.no_entry;
       });
     }
 
@@ -167,27 +168,27 @@ module _ (old new : Writing) (shelves back : Shelving) (store given : Storing) w
       by (Ok done) opens ends = concluded_came e ends
       by (Err stop) opens ends =
           let run = opens.on.runs shelves.faults 0 (subst (λ (x : AtWork). HasRun shelves.faults 0 x.lanes) (sym begun) (run_at_first shelves limits)) in
-          stopped_came counted (is_some told) s stop e (subst (λ (x : AtWork). Closes x.lanes back) same closed) (subst (λ (x : AtWork). IsHushed given x.store) same hush) run.0
-          (subst (λ (x : AtWork). RunsLinking {A = Unit {0}} shelves.faults run.0 x.store s.store s.lanes (Err stop)) begun run.1) ends.0 ends.1
+          stopped_came counted (is_some told) s stop e (subst (λ (x : AtWork). Closes x.lanes back) same closed) (subst (λ (x : AtWork). IsHushed given x.store) same hush) (0 + 5 * length all)
+          (subst (λ (x : AtWork). RunsLinking {A = Unit {0}} shelves.faults (0 + 5 * length all) x.store s.store s.lanes (Err stop)) begun run) ends.0 ends.1
 
   -- over a desk that stands for a world only what may be
-  honest_stop : (limits : Limits) (w : World) (number clients ops : ℕ) (stop : Stop) (steps : ℕ) → IsHonest steps stop → new ≡ old → WritesSummary limits w number clients ops before now (end_for stop)
-  honest_stop limits w number clients ops (stop.KeeperFault note) steps honest same = same
-  honest_stop limits w number clients ops (stop.StoreFault note) steps honest same = same
-  honest_stop limits w number clients ops (stop.BadStored (Delta n)) steps honest same = absurd honest
-  honest_stop limits w number clients ops (stop.BadStored (Object fault)) steps honest same = absurd honest
-  honest_stop limits w number clients ops (stop.BadStored (Lane lane.Worn)) steps honest same = (refl, same)
-  honest_stop limits w number clients ops (stop.BadStored (Lane (lane.LogFailed note))) steps honest same = absurd honest
-  honest_stop limits w number clients ops (stop.BadStored (Lane (lane.Full entries))) steps honest same = absurd honest
-  honest_stop limits w number clients ops (stop.BadStored (Lane (lane.BadRecord place))) steps honest same = absurd honest
-  honest_stop limits w number clients ops (stop.BadStored (Lane (lane.NoCheckpoint asked stored))) steps honest same = absurd honest
-  honest_stop limits w number clients ops (stop.BadStored (Lane lane.CheckpointsFull)) steps honest same = absurd honest
-  honest_stop limits w number clients ops (stop.BadStored (Lane lane.TooManyClients)) steps honest same = absurd honest
-  honest_stop limits w number clients ops (stop.BadStored (Lane (lane.DeltaFailed note))) steps honest same = absurd honest
-  honest_stop limits w number clients ops (stop.BadStored (Lane lane.NoMemory)) steps honest same = absurd honest
-  honest_stop limits w number clients ops (stop.BadStored (Lane (lane.BadCheckpoint n fault))) steps honest same = absurd honest
-  honest_stop limits w number clients ops (stop.BadStored (Lane (lane.TooLarge bytes))) steps honest same = absurd honest
-  honest_stop limits w number clients ops stop.NoMemory steps honest same = same
+  honest_stop : (limits : Limits) (w : World) (number clients ops : ℕ) (stop : Stop) → IsFair (0 + 2 * (5 * length (acts number clients ops))) w stop → new ≡ old → WritesSummary limits w number clients ops before now (end_for stop)
+  honest_stop limits w number clients ops (stop.KeeperFault note) honest same = same
+  honest_stop limits w number clients ops (stop.StoreFault note) honest same = same
+  honest_stop limits w number clients ops (stop.BadStored (Delta n)) (name, honest) same = absurd honest
+  honest_stop limits w number clients ops (stop.BadStored (Object fault)) (name, honest) same = absurd honest
+  honest_stop limits w number clients ops (stop.BadStored (Lane lane.Worn)) (name, full) same = (refl, ((name, omega (arith, full, acts_are number clients ops)), same))
+  honest_stop limits w number clients ops (stop.BadStored (Lane (lane.LogFailed note))) (name, honest) same = absurd honest
+  honest_stop limits w number clients ops (stop.BadStored (Lane (lane.Full entries))) (name, honest) same = absurd honest
+  honest_stop limits w number clients ops (stop.BadStored (Lane (lane.BadRecord place))) (name, honest) same = absurd honest
+  honest_stop limits w number clients ops (stop.BadStored (Lane (lane.NoCheckpoint asked stored))) (name, honest) same = absurd honest
+  honest_stop limits w number clients ops (stop.BadStored (Lane lane.CheckpointsFull)) (name, honest) same = absurd honest
+  honest_stop limits w number clients ops (stop.BadStored (Lane lane.TooManyClients)) (name, honest) same = absurd honest
+  honest_stop limits w number clients ops (stop.BadStored (Lane (lane.DeltaFailed note))) (name, honest) same = absurd honest
+  honest_stop limits w number clients ops (stop.BadStored (Lane lane.NoMemory)) (name, honest) same = absurd honest
+  honest_stop limits w number clients ops (stop.BadStored (Lane (lane.BadCheckpoint n fault))) (name, honest) same = absurd honest
+  honest_stop limits w number clients ops (stop.BadStored (Lane (lane.TooLarge bytes))) (name, honest) same = absurd honest
+  honest_stop limits w number clients ops stop.NoMemory honest same = same
 
   said_summary : DesksComeBack → (limits : Limits) (w : World) (number clients ops : ℕ) (s : AtWork) (e : ScriptEnd) → WorkGoes s (behind_all limits w number clients ops) → Closes s.lanes back → IsHushed given s.store → IsShortAsTold s.store
       → SaysAll (written_by limits w number clients ops) old new e → WritesSummary limits w number clients ops before now e
@@ -208,14 +209,17 @@ module _ (old new : Writing) (shelves back : Shelving) (store given : Storing) w
   module _ (come : DesksComeBack) (limits : Limits) (number clients ops : ℕ) (all : List Act) (are : all ≡ acts number clients ops) (first s t : AtWork) (r : Ended) (e : ScriptEnd)
       (opens : Opens (5 * length all) (acted_all all) first s r) (same : t ≡ s) (closed : Closes t.lanes back) (hush : IsHushed given t.store) (short : IsShortAsTold t.store) (ends : Finishes r old new e)
       (lines : (w : Workload) → LeadsTo w s r → FinishesBy r (written (summary w)) old new e) where
-    writes_for : (w : World) → first.good ≡ true → first.lanes.limits ≡ limits → WorkBegins first (begun w) → WritesSummary limits w number clients ops before now e
-    writes_for w good limited begins = by r refl led
+    writes_for : (w : World) (first_faults : ℕ) → first.good ≡ true → first.lanes.limits ≡ limits → WorkBegins first (begun w) → HasRun first_faults 0 first.lanes → WritesSummary limits w number clients ops before now e
+    writes_for w first_faults good limited begins run = by r refl led
       where
         led : LeadsTo (behind_all limits w number clients ops) s r
         led = subst (λ acts. LeadsTo (behind_acts limits (begun w) acts) s r) are (subst (λ l. LeadsTo (behind_acts l (begun w) all) s r) limited (opens.leads (begun w) good begins))
 
-        by_stop : (stop : Stop) → IsFair stop → new ≡ old → WritesSummary limits w number clients ops before now (end_for stop)
-        by_stop stop (steps, honest) same = honest_stop limits w number clients ops stop steps honest same
+        -- where it stopped, behind no step, in all of them
+        worn : (x : Ended) → r ≡ x → WearsBy 0 (5 * length (acts number clients ops)) w (acted_all all first.lanes.limits (begun w)).world x
+        worn x is =
+            subst (WearsBy 0 (5 * length (acts number clients ops)) w (acted_all all first.lanes.limits (begun w)).world) is
+            (subst (λ (acts : List Act). WearsBy 0 (5 * length acts) w (acted_all all first.lanes.limits (begun w)).world r) are (opens.wears (begun w) first_faults 0 good begins run))
 
         by : (x : Ended) → r ≡ x → LeadsTo (behind_all limits w number clients ops) s r → WritesSummary limits w number clients ops before now e
         by (Ok done) is leads =
@@ -224,10 +228,11 @@ module _ (old new : Writing) (shelves back : Shelving) (store given : Storing) w
             (subst (λ x. FinishesBy x (written (summary (behind_all limits w number clients ops))) old new e) is (lines (behind_all limits w number clients ops) leads))
         by (Err stop) is leads =
             let stopped = subst (λ x. Finishes x old new e) is ends in
-            subst (WritesSummary limits w number clients ops before now) (sym stopped.0) (by_stop stop (subst (LeadsTo (behind_all limits w number clients ops) s) is leads) stopped.1)
+            subst (WritesSummary limits w number clients ops before now) (sym stopped.0) (honest_stop limits w number clients ops stop (worn (Err stop) is) stopped.1)
 
     pub writes_told : (told : Option World) → IfSome told (IsNewDeskOf shelves store) → IsBegun (nothing_open shelves limits) (hushed (is_some told) store) (is_some told) first
         → IfSome told (λ w. WritesSummary limits w number clients ops before now e)
     writes_told None is begun_is = tt
     writes_told (Some w) is begun_is =
-        writes_for w (ap (λ (x : AtWork). x.good) begun_is) (ap (λ (x : AtWork). x.lanes.limits) begun_is) (subst (λ x. WorkBegins x (begun w)) (sym begun_is) (begins_at_first shelves limits store w is))
+        writes_for w shelves.faults (ap (λ (x : AtWork). x.good) begun_is) (ap (λ (x : AtWork). x.lanes.limits) begun_is) (subst (λ x. WorkBegins x (begun w)) (sym begun_is) (begins_at_first shelves limits store w is))
+        (subst (λ (x : AtWork). HasRun shelves.faults 0 x.lanes) (sym begun_is) (run_at_first shelves limits))

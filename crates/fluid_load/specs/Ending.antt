@@ -1,8 +1,9 @@
 -- What the end of a workload says: its cause, what was written, and what the desk that comes back tells.
-use Rattle.std.specs.Prelude.{◌≡◌, ℕ, [], Some}
+use Rattle.std.specs.Prelude.{◌≡◌, ◌≤◌, ◌+◌, ◌*◌, ℕ, List, [], length, Some}
 use Rattle.fluid_io.specs.Streams.{Writing, Appends, AppendsFront}
 use Rattle.fluid_log.specs.Shelving.{Shelving}
 use Rattle.fluid_store.specs.Storing.{Storing}
+use Rattle.fluid_document.specs.Entries.{most}
 use Rattle.fluid_lane.specs.declared.fault.LaneFault.TheVariants.{Worn}
 use Rattle.fluid_rules.specs.declared.limits.Limits.{Limits}
 use Rattle.fluid_transcript.specs.World.{World, document}
@@ -33,9 +34,17 @@ pub record DidWork (limits : Limits) (w : World) (number clients ops : ℕ) (bef
   pub written : Appends (written_by limits w number clients ops) before.sink.written now.sink.written
   pub back : ComesBackAs now (behind_all limits w number clients ops).world
 
+-- so few entries and side steps does a workload add to a document
+abbrev pub most_added : (clients ops : ℕ) → ℕ
+most_added clients ops = 30 * (1 + clients + ops)
+
+-- a document of a desk's world has so many entries before a workload that these would bring it to the end of all numbers
+abbrev pub IsNearlyFull : World → (clients ops : ℕ) → Type 0
+IsNearlyFull w clients ops = (name : List ℕ) × (most ≤ length (document w name).raws + most_added clients ops)
+
 -- nothing is written before the summary, and of that a beginning where the sink failed
 abbrev pub WritesSummary : Limits → World → (number clients ops : ℕ) → (before now : Outside) → ScriptEnd → Type 0
 WritesSummary limits w number clients ops before now Done = DidWork limits w number clients ops before now
 WritesSummary limits w number clients ops before now WriteFault = AppendsFront (written_by limits w number clients ops) before.sink.written now.sink.written
-WritesSummary limits w number clients ops before now (BadStored fault) = (fault ≡ Lane Worn) × (now.sink ≡ before.sink)
+WritesSummary limits w number clients ops before now (BadStored fault) = (fault ≡ Lane Worn) × (IsNearlyFull w clients ops × (now.sink ≡ before.sink))
 WritesSummary limits w number clients ops before now end = now.sink ≡ before.sink

@@ -1,5 +1,5 @@
 -- A workload from its beginning to its end.
-use Rattle.std.specs.Prelude.{◌≡◌, ◌*◌, ℕ, Bool, true, false, List, [], ◌∷◌, length, Result, Ok, Err}
+use Rattle.std.specs.Prelude.{◌≡◌, ◌*◌, ℕ, ⊤, Bool, true, false, List, [], ◌∷◌, length, Result, Ok, Err}
 use Rattle.std.specs.FinMap.{empty}
 use Rattle.fluid_io.specs.Causes.{Rose}
 use Rattle.fluid_io.specs.Streams.{Writing, Appends, AppendsFront}
@@ -11,7 +11,7 @@ use Rattle.fluid_desk.specs.declared.stop.Stop.{Stop}
 use Rattle.fluid_world.specs.Ending.{end_for}
 use Rattle.fluid_world.specs.declared.ends.ScriptEnd.{ScriptEnd}
 use Rattle.fluid_world.specs.declared.ends.ScriptEnd.TheVariants.{Done, WriteFault, NoMemory}
-use Rattle.fluid_load.specs.Standing.{AtWork, IsFair, Works}
+use Rattle.fluid_load.specs.Standing.{AtWork, Works}
 use Rattle.fluid_load.specs.Acting.{acted, acted_all}
 
 -- nothing was done yet
@@ -58,7 +58,7 @@ abbrev pub Finishes : Result (Unit {0}) Stop → (old new : Writing) → ScriptE
 Finishes (Ok done) old new end = Concludes old new end
 Finishes (Err stop) old new end = (end ≡ end_for stop) × (new ≡ old)
 
--- where none did, all of these bytes are said; and one that did had to
+-- where none did, all of these bytes are said
 abbrev pub FinishesBy : Result (Unit {0}) Stop → List ℕ → (old new : Writing) → ScriptEnd → Type 0
 FinishesBy (Ok done) bytes old new end = SaysAll bytes old new end
-FinishesBy (Err stop) bytes old new end = IsFair stop
+FinishesBy (Err stop) bytes old new end = ⊤

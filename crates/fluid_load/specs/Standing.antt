@@ -1,5 +1,5 @@
 -- When a workload stands for what the definition says, and what an act of it owes.
-use Rattle.std.specs.Prelude.{if◌then◌else◌, ◌≡◌, ◌⊎◌, ◌≤◌, ◌+◌, ◌-◌, ◌^◌, ℕ, min, Bool, true, false, List, None, Result, Ok, Err, OnOk, refl}
+use Rattle.std.specs.Prelude.{if◌then◌else◌, ◌≡◌, ◌⊎◌, ◌≤◌, ◌+◌, ◌-◌, ◌*◌, ◌^◌, ℕ, ⊤, min, length, Bool, true, false, List, [], None, Result, Ok, Err, OnOk, refl}
 use Rattle.std.specs.Coded.{Coded, code_by, coded×, coded_ℕ, coded_bool}
 use Rattle.std.specs.FinMap.{get, insert}
 use Rattle.fluid_table.specs.Table.{Values, values_code}
@@ -12,11 +12,11 @@ use Rattle.fluid_lanes.specs.Opened.{Opened, opened_code}
 use Rattle.fluid_door_link.specs.Codes.{storing_code}
 use Rattle.fluid_holding.specs.Holding.{HoldsOwn}
 use Rattle.fluid_voice.specs.Ends.{is_beyond}
-use Rattle.fluid_transcript.specs.World.{World, is_open}
+use Rattle.fluid_transcript.specs.World.{World, document, is_open}
 use Rattle.fluid_transcript.specs.Containers.{is_taken}
 use Rattle.fluid_workload.specs.Working.{work, p, Workload, work_ledger}
 use Rattle.fluid_desk.specs.declared.stop.Stop.{Stop}
-use Rattle.fluid_desk.specs.Stopping.{IsHonest, HasRun}
+use Rattle.fluid_desk.specs.Stopping.{IsHonest, MayStop, HasRun}
 use Rattle.fluid_containers.specs.Ending.{RunsLinking}
 use Rattle.fluid_world.specs.declared.named.Named.{Named}
 use Rattle.fluid_world.specs.contracts.named.Named as named
@@ -66,10 +66,12 @@ pub record WorkGoes (s : AtWork) (w : Workload) : Type 0 where
 abbrev pub MayGo : AtWork → Type 0
 MayGo s = s.good ≡ true → (w : Workload) × WorkGoes s w
 
--- before the first step its document may not be open yet: then the first container has no name, and the document may be opened
+-- before the first step its document may not be open yet: then the first container has no name, the document may be opened, and it has
+-- no entry
 pub record IsNew (w : World) : Type 0 where
   pub name : get w.names p ≡ None
   pub within : is_beyond w.opened work ≡ false
+  pub no_entry : (document w work).raws ≡ []
 
 pub record WorkBegins (s : AtWork) (w : Workload) : Type 0 where
   pub stands : WorkStands s w
@@ -80,14 +82,10 @@ MayBegin s = s.good ≡ true → (w : Workload) × WorkBegins s w
 
 -- ---- a step that may be refused
 
--- nothing that is stored is refused, but that a document has come to the end of all numbers
-abbrev pub IsFair : Stop → Type 0
-IsFair stop = (steps : ℕ) × IsHonest steps stop
-
 -- names, desk and store stand for the world behind a step
 abbrev pub PassTakes : World → Opened → Storing → Values Named → Result (Unit {0}) Stop → Type 0
 PassTakes w lanes store names (Ok done) = WorldStands lanes store names w
-PassTakes w lanes store names (Err stop) = IsFair stop
+PassTakes w lanes store names (Err stop) = MayStop w lanes stop
 
 -- a step was done, or passed over; its entries aren't counted yet
 pub record HasPassed (w : Workload) (old new : AtWork) : Type 0 where
@@ -97,16 +95,32 @@ pub record HasPassed (w : Workload) (old new : AtWork) : Type 0 where
 
 abbrev pub Passes : Workload → AtWork → AtWork → Result (Unit {0}) Stop → Type 0
 Passes w old new (Ok done) = HasPassed w old new
-Passes w old new (Err stop) = IsFair stop
+Passes w old new (Err stop) = MayStop w.world new.lanes stop
+
+-- ---- how documents grow
+
+-- no document has more than so many entries more
+abbrev pub GrowsBy : (more : ℕ) → (old new : World) → Type 0
+GrowsBy more old new = (name : List ℕ) → length (document new name).raws ≤ length (document old name).raws + more
+
+-- nothing that is stored is refused, but that with so many entries and side steps more a document of this world comes to the end of all
+-- numbers
+abbrev pub IsFair : (more : ℕ) → World → Stop → Type 0
+IsFair more w stop = (name : List ℕ) × IsHonest (length (document w name).raws + more) stop
+
+-- in a part of at most so many steps, behind so many: each adds at most an entry, and at most a side step
+abbrev pub WearsBy : (steps more : ℕ) → (old new : World) → Result (Unit {0}) Stop → Type 0
+WearsBy steps more old new (Ok done) = GrowsBy more old new
+WearsBy steps more old new (Err stop) = IsFair (steps + 2 * more) old stop
 
 -- ---- on every desk
 
--- a part of a run, in which no container submits more than so often
+-- a part of a run of at most so many steps, in which no container submits more often
 pub record ActsOn (more : ℕ) (a b : AtWork) (result : Result (Unit {0}) Stop) : Type 0 where
   pub limits : b.lanes.limits ≡ a.lanes.limits
   pub good : b.good ≡ a.good
   pub counts : a.store.faults ≤ b.store.faults
-  pub runs : (first steps : ℕ) → HasRun first steps a.lanes → (more : ℕ) × RunsLinking first more a.store b.store b.lanes result
+  pub runs : (first steps : ℕ) → HasRun first steps a.lanes → RunsLinking first (steps + more) a.store b.store b.lanes result
   pub numbers : OnOk result ((n : ℕ) → AreCounted n a.names → AreCounted (n + more) b.names)
 
 -- so often may they submit still
@@ -122,17 +136,19 @@ Next = Limits → Workload → Workload
 -- it stands for this workload, whose document is open
 abbrev pub LeadsTo : Workload → AtWork → Result (Unit {0}) Stop → Type 0
 LeadsTo w s (Ok done) = WorkGoes s w
-LeadsTo w s (Err stop) = IsFair stop
+LeadsTo w s (Err stop) = ⊤
 
--- what a part owes in which no container submits more than so often, where the document is open: it leads to what is made of the workload
+-- what a part of so many steps owes, where the document is open: it leads to what is made of the workload, and wears no document more
 pub record Works (more : ℕ) (next : Next) (a b : AtWork) (result : Result (Unit {0}) Stop) : Type 0 where
   pub on : ActsOn more a b result
   pub leads : (w : Workload) → a.good ≡ true → WorkGoes a w → LeadsTo (next a.lanes.limits w) b result
+  pub wears : (w : Workload) (first steps : ℕ) → a.good ≡ true → WorkGoes a w → HasRun first steps a.lanes → WearsBy steps more w.world (next a.lanes.limits w).world result
 
 -- and where it may not be open yet
 pub record Opens (more : ℕ) (next : Next) (a b : AtWork) (result : Result (Unit {0}) Stop) : Type 0 where
   pub on : ActsOn more a b result
   pub leads : (w : Workload) → a.good ≡ true → WorkBegins a w → LeadsTo (next a.lanes.limits w) b result
+  pub wears : (w : Workload) (first steps : ℕ) → a.good ≡ true → WorkBegins a w → HasRun first steps a.lanes → WearsBy steps more w.world (next a.lanes.limits w).world result
 
 -- such a part may be done
 pub record CanWork (more : ℕ) (s : AtWork) : Type 0 where

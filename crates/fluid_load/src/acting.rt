@@ -117,8 +117,8 @@ where
 
     // A client sets a key of the map.
     fn set(&mut self, alloc: Global, client: u32, key: u32, value: u32) -> Result<(), Stop>
-        requires { CanWork 0 self.old }
-        ensures { Works 0 (acted (gen.Set client key value)) self.old self.new result }
+        requires { CanWork 1 self.old }
+        ensures { Works 1 (acted (gen.Set client key value)) self.old self.new result }
     {
         let edit = set(alloc, key, value)?;
         self.submit(alloc, client, Saying::Op(edit))
@@ -126,8 +126,8 @@ where
 
     // A client deletes a key of the map.
     fn delete(&mut self, alloc: Global, client: u32, key: u32) -> Result<(), Stop>
-        requires { CanWork 0 self.old }
-        ensures { Works 0 (acted (gen.Delete client key)) self.old self.new result }
+        requires { CanWork 1 self.old }
+        ensures { Works 1 (acted (gen.Delete client key)) self.old self.new result }
     {
         let edit = delete(alloc, key)?;
         self.submit(alloc, client, Saying::Op(edit))
@@ -135,8 +135,8 @@ where
 
     // A client adds to the counter.
     fn increment(&mut self, alloc: Global, client: u32, amount: i64) -> Result<(), Stop>
-        requires { CanWork 0 self.old }
-        ensures { Works 0 (acted (gen.Increment client amount)) self.old self.new result }
+        requires { CanWork 1 self.old }
+        ensures { Works 1 (acted (gen.Increment client amount)) self.old self.new result }
     {
         let edit = increment(alloc, amount)?;
         self.submit(alloc, client, Saying::Op(edit))

@@ -23,7 +23,7 @@ ghost use Rattle.fluid_turns.specs.Quiet.{IsQuietStep};
 ghost use Rattle.fluid_steps.specs.declared.steps.Step.TheVariants as form;
 ghost use Rattle.fluid_loader.specs.declared.link.Pick.TheVariants as pick;
 ghost use Rattle.fluid_load.specs.Standing.{ActsOn, CanBegin, CanPass, CanWork, Opens, Passes, WorkGoes, WorkStands, Works, noted, unsequenced, with_nacked};
-ghost use Rattle.fluid_load.specs.Quiet.{Submits};
+ghost use Rattle.fluid_load.specs.Quiet.{IsOwnStep, Submits};
 ghost use Rattle.fluid_load.specs.Acting.{loaded_first, said, step_done};
 ghost use Rattle.fluid_load.specs.Saying.{EntersAs, SaysAs};
 
@@ -103,6 +103,7 @@ where
         requires can { CanWork 1 self.old }
         requires short { IsShortStep step }
         requires quiet { IsQuietStep step }
+        requires own { IsOwnStep step }
         ensures { Works 1 (step_done step) self.old self.new result }
     {
         self.pass(alloc, step)
@@ -121,6 +122,7 @@ where
     pub(crate) fn submitting_step(&mut self, alloc: Global, step: Step) -> Result<(), Stop>
         requires can { CanWork 1 self.old }
         requires short { IsShortStep step }
+        requires own { IsOwnStep step }
         requires submits { Submits step }
         ensures { Works 1 (step_done step) self.old self.new result }
     {
@@ -182,9 +184,9 @@ where
 
     /// A client submits, where it has something to submit.
     pub(crate) fn submit(&mut self, alloc: Global, client: u32, saying: Saying) -> Result<(), Stop>
-        requires can { CanWork 0 self.old }
+        requires can { CanWork 1 self.old }
         requires short { IsShortSaying saying }
-        ensures { Works 0 (said client saying) self.old self.new result }
+        ensures { Works 1 (said client saying) self.old self.new result }
     {
         let name = named(alloc, client)?;
         let document = work(alloc)?;
@@ -218,7 +220,7 @@ where
         writer: &Writer,
         saying: &Saying,
     ) -> Result<(), Stop>
-        requires can { CanWork 0 self.old }
+        requires can { CanWork 1 self.old }
         requires short { IsShortSaying saying.now }
         ensures { SaysAs document.now writer.now saying.now self.old self.new result }
     {
@@ -251,7 +253,7 @@ where
         writer: &Writer,
         submission: Fitting,
     ) -> Result<(), Stop>
-        requires { CanWork 0 self.old }
+        requires { CanWork 1 self.old }
         ensures { EntersAs document.now writer.now submission self.old self.new result }
     {
         others_leave_containers();

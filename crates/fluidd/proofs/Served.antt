@@ -130,18 +130,6 @@ pub is_scripting : (t : Task) (load : Option (List ℕ)) → t ≡ Doing (script
 is_scripting t None is = subst IsScripting (sym is) tt
 is_scripting t (Some document) is = subst IsScripting (sym is) tt
 
--- and where one is asked for, it is one of the two
-pub scripting_in : (t : Task) → IsScripting t → (load : Option (List ℕ)) × (t ≡ Doing (scripting load))
-scripting_in (Doing Sequence) h = absurd h
-scripting_in (Doing Script) h = (None, refl)
-scripting_in (Doing (Load document)) h = (Some document, refl)
-scripting_in (Doing (Workload number clients ops)) h = absurd h
-scripting_in (Doing (Serve port connections lines)) h = absurd h
-scripting_in (Doing (Help topic)) h = absurd h
-scripting_in (Doing Version) h = absurd h
-scripting_in (Showing text) h = absurd h
-scripting_in Usage h = absurd h
-
 pub is_reading : (t : Task) (load : Option (List ℕ)) → t ≡ Doing (scripting load) → IsReading t
 is_reading t None is = subst IsReading (sym is) tt
 is_reading t (Some document) is = subst IsReading (sym is) tt

@@ -1,4 +1,4 @@
--- Over a desk on which nothing is kept no document comes to the end of its numbers.
+-- Over a desk on which nothing is kept no document comes to the end of its numbers, and nothing that is stored is refused.
 use Rattle.std.proofs.Common.{◌≡◌, ◌⊎◌, inl, inr, ℕ, ◌+◌, ◌*◌, ◌≤◌, Bool, true, false, if◌then◌else◌, List, [], ◌∷◌, ◌++◌, length, Option, Some, None, arith, refl, sym, ap, subst, ◌∙◌}
 use Rattle.std.specs.Prelude.{unwrap_or}
 use Rattle.std.specs.FinMap.{empty, insert, get-empty}
@@ -12,7 +12,13 @@ use Rattle.fluid_transcript.specs.Transcript.{readied, at_line, behind, end_effe
 use Rattle.fluid_transcript.proofs.Stepping.{moment_is_lines}
 use Rattle.fluid_world.specs.Taking.{IsLong}
 use Rattle.fluid_world.specs.Ending.{full, Outside, IsLongAtLast, GrowsLong}
+use Rattle.fluid_load.specs.Ending.{IsNearlyFull}
+use Rattle.fluid_words.specs.declared.command.Command.TheVariants.{Sequence, Script, Load, Workload, Serve, Help, Version}
 use Rattle.fluidd.specs.Scripts.{Scripts}
+use Rattle.fluidd.specs.Served.{IsServeStatus}
+use Rattle.fluidd.specs.Tasks.{Task, Doing, Showing, Usage, UsesDesk, scripting}
+use Rattle.fluidd.specs.Workloads.{IsBetween, Summarizes}
+use Rattle.fluidd.proofs.Nothing.{no_entry}
 use Rattle.fluidd.proofs.Short.{IsShort, AreShort, all_weaker, slack, behind_short, last_short}
 
 -- ---- moments
@@ -78,3 +84,31 @@ never_long load input g = by g.long
 -- so a script over such a desk never has the status of a worn document
 pub never_worn : (load : Option (List ℕ)) (before now : Outside) (status : ℕ) → Scripts (Some (first_world empty empty)) load before now status → status ≡ 11 → ⊥
 never_worn load before now status s is = never_long load before.source.left ((s.writes (first_world empty empty) refl).worn is).1
+
+-- a workload adds far fewer entries than there are numbers
+not_full : (clients ops : ℕ) → IsBetween 1 1000 clients → IsBetween 1 100000 ops → IsNearlyFull (first_world empty empty) clients ops → ⊥
+not_full clients ops (one, few) (some, many) (name, full) = absurd (omega (arith, few, many, full, ap length (no_entry name)))
+
+-- so no workload over such a desk has it
+pub never_full : (number clients ops : ℕ) (before now : Outside) (status : ℕ) → IsBetween 1 1000 clients → IsBetween 1 100000 ops → Summarizes (Some (first_world empty empty)) number clients ops before now status → status ≡ 11 → ⊥
+never_full number clients ops before now status few many s is = not_full clients ops few many ((s.writes (first_world empty empty) refl).worn is).1
+
+-- `serve` has no such status
+pub never_served : (status : ℕ) → IsServeStatus status → status ≡ 11 → ⊥
+never_served status (inl is) eleven = absurd (omega (arith, is, eleven))
+never_served status (inr (inl is)) eleven = absurd (omega (arith, is, eleven))
+never_served status (inr (inr (inl is))) eleven = absurd (omega (arith, is, eleven))
+never_served status (inr (inr (inr is))) eleven = absurd (omega (arith, is, eleven))
+
+-- so none that uses the desk has
+pub never_stored : (t : Task) (status : ℕ) → ((load : Option (List ℕ)) → t ≡ Doing (scripting load) → status ≡ 11 → ⊥) → ((number clients ops : ℕ) → t ≡ Doing (Workload number clients ops) → status ≡ 11 → ⊥)
+    → ((port connections : ℕ) (lines : Bool) → t ≡ Doing (Serve port connections lines) → status ≡ 11 → ⊥) → UsesDesk t → status ≡ 11 → ⊥
+never_stored (Doing Script) status script work serve uses is = script None refl is
+never_stored (Doing (Load document)) status script work serve uses is = script (Some document) refl is
+never_stored (Doing (Workload number clients ops)) status script work serve uses is = work number clients ops refl is
+never_stored (Doing (Serve port connections lines)) status script work serve uses is = serve port connections lines refl is
+never_stored (Doing Sequence) status script work serve uses is = absurd uses
+never_stored (Doing (Help topic)) status script work serve uses is = absurd uses
+never_stored (Doing Version) status script work serve uses is = absurd uses
+never_stored (Showing text) status script work serve uses is = absurd uses
+never_stored Usage status script work serve uses is = absurd uses

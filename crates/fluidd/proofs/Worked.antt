@@ -72,9 +72,9 @@ module _ (w : World) (number clients ops : ℕ) (before now : Outside) where
     whole = λ e. absurd (omega arith);
     same = λ e. absurd (omega arith);
     cut = λ e. absurd (omega arith);
-    nothing = λ e. h.1;
-    worn = λ e. subst (IsRefusedBy before now) h.0 cause.1;
-    complete = λ none. inr (inr (refl, subst (IsRefusedBy before now) h.0 cause.1));
+    nothing = λ e. h.1.1;
+    worn = λ e. (subst (IsRefusedBy before now) h.0 cause.1, h.1.0);
+    complete = λ none. inr (inr (refl, h.1.0));
   }
   as_summary end.NoMemory cause h same = record {
     whole = λ e. absurd (omega arith);

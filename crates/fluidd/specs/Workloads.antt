@@ -10,7 +10,8 @@ use Rattle.fluid_desk.specs.declared.stop.StoredFault.TheVariants.{Lane}
 use Rattle.fluid_workload.specs.Summary.{written_by}
 use Rattle.fluid_world.specs.Ending.{full, Outside, IsQuiet, IsRefusedBy}
 use Rattle.fluid_alike.specs.Alike.{EndsSame}
-use Rattle.fluid_load.specs.Ending.{DidWork}
+use Rattle.fluid_load.specs.Ending.{DidWork, IsNearlyFull}
+use Rattle.fluidd.specs.Scripts.{NoneRose}
 
 -- a number from one to another
 abbrev pub IsBetween : (least most n : ℕ) → Type 0
@@ -20,15 +21,9 @@ IsBetween least most n = (least ≤ n) × (n ≤ most)
 abbrev pub IsWorkStatus : (status : ℕ) → Type 0
 IsWorkStatus status = (status ≡ 0) ⊎ ((status ≡ 5) ⊎ ((status ≡ 6) ⊎ ((status ≡ 7) ⊎ ((status ≡ 8) ⊎ (status ≡ 11)))))
 
--- no count rose
-pub record NoCountRose (before now : Outside) : Type 0 where
-  pub sink : Rose before.sink.faults now.sink.faults → ⊥
-  pub shelves : Rose before.shelves.faults now.shelves.faults → ⊥
-  pub store : Rose before.store.faults now.store.faults → ⊥
-
--- memory was wanting, or the document is worn
-abbrev pub IsCutShort : (before now : Outside) → (status : ℕ) → Type 0
-IsCutShort before now status = (status ≡ 6) ⊎ ((status ≡ 11) × IsRefusedBy before now (Lane Worn))
+-- memory was wanting, or a document of the desk came to the end of all numbers by what the workload added
+abbrev pub IsCutShort : World → (clients ops status : ℕ) → Type 0
+IsCutShort w clients ops status = (status ≡ 6) ⊎ ((status ≡ 11) × IsNearlyFull w clients ops)
 
 -- where a desk tells a world in which the document has no entry, what the status says of what was written and of the desk that comes back
 pub record SummarizesAs (w : World) (number clients ops : ℕ) (before now : Outside) (status : ℕ) : Type 0 where
@@ -40,10 +35,10 @@ pub record SummarizesAs (w : World) (number clients ops : ℕ) (before now : Out
   pub cut : status ≡ 5 → AppendsFront (written_by full w number clients ops) before.sink.written now.sink.written
   -- 6, 7, 8, 11: nothing
   pub nothing : (status ≡ 6) ⊎ ((status ≡ 7) ⊎ ((status ≡ 8) ⊎ (status ≡ 11))) → now.sink ≡ before.sink
-  -- 11: the document is worn
-  pub worn : status ≡ 11 → IsRefusedBy before now (Lane Worn)
+  -- 11: a document is worn: it had so many entries before that with those of a workload it comes to the end of all numbers
+  pub worn : status ≡ 11 → IsRefusedBy before now (Lane Worn) × IsNearlyFull w clients ops
   -- where nothing failed, all is done
-  pub complete : NoCountRose before now → (status ≡ 0) ⊎ IsCutShort before now status
+  pub complete : NoneRose before now → (status ≡ 0) ⊎ IsCutShort w clients ops status
 
 -- what the status says of a run that began so and left the outside so
 pub record Summarizes (told : Option World) (number clients ops : ℕ) (before now : Outside) (status : ℕ) : Type 0 where

@@ -134,7 +134,7 @@ where
 }
 
 /// The same over a desk on which nothing is kept yet, which tells the first world: what `main` calls. Nothing that is stored is
-/// refused then, and no document comes to the end of its numbers: `script` and `load` never end with 11.
+/// refused then, and no document comes to the end of its numbers: no command that uses the desk ends with 11.
 pub fn run_first<R, S, K, B, O, C, F, P>(
     rt: &R,
     alloc: Global,
@@ -163,7 +163,7 @@ where
     ensures script { (load : Option (List ℕ)) → task_of words.now ≡ Doing (scripting load) →
         Scripts (Some (first_world empty empty)) load (record { source = S.seen input.old; sink = K.seen output.old; shelves = B.seen desk.shelves; store = O.seen desk.objects })
         (record { source = S.seen input.new; sink = K.seen output.new; shelves = B.seen result.1.shelves; store = O.seen result.1.objects }) result.0 }
-    ensures stored { IsScripting (task_of words.now) → result.0 ≡ 11 → ⊥ }
+    ensures stored { UsesDesk (task_of words.now) → result.0 ≡ 11 → ⊥ }
     ensures workload { (number clients ops : ℕ) → task_of words.now ≡ Doing (Workload number clients ops) →
         Summarizes (Some (first_world empty empty)) number clients ops (outside (K.seen output.old) (B.seen desk.shelves) (O.seen desk.objects))
         (outside (K.seen output.new) (B.seen result.1.shelves) (O.seen result.1.objects)) result.0 }

@@ -7,8 +7,8 @@ ghost use Rattle.fluidd.specs.Output.{code_of};
 pub enum Status {
     /// What the words ask for is done. Of `sequence`: no line is refused, the source has nothing left, and the verdict line
     /// of each record was written to the sink. Of `script` and `load`: the same, with the lines of each step or that of the last
-    /// container. Of `serve`: as many connections as were asked for were served, or all that the front gave. Of a page or the
-    /// version: its text was written.
+    /// container. Of `workload`: its summary was written. Of `serve`: as many connections as were asked for were served, or all that
+    /// the front gave. Of a page or the version: its text was written.
     Done,
     /// The words are no command.
     Usage,

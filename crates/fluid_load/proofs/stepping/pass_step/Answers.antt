@@ -5,9 +5,7 @@ use Rattle.fluid_containers.specs.Stepping.{MayStand}
 use Rattle.fluid_world.specs.Naming.{AreCounted, IsShortStep, refusal_by}
 use Rattle.fluid_world.proofs.Stepped.{same_counted}
 use Rattle.fluid_desk.proofs.Running.{run_more}
-use Rattle.fluid_transcript.specs.Transcript.{done}
-use Rattle.fluid_load.proofs.Parts.{may_end}
-use Rattle.fluid_load.proofs.Passed.{refused_takes, accepted_takes}
+use Rattle.fluid_load.proofs.Passed.{refused_takes, accepted_takes, accepted_may}
 use Rattle.fluid_load.proofs.stepping.pass_step.Goals as goal
 
 pub take_step-requires : goal.take_step-requires
@@ -36,4 +34,5 @@ returns-in-Some-clause-runs g c = λ first steps run. run_more first steps c.arg
 
 pub returns-clause-does : goal.returns-clause-does
 returns-clause-does g c = λ w good stands owned moment.
-    may_end (done c.args.lanes.now.limits w c.args.step).world c.take_step.new.lanes c.in-Err.stop (c.in-Err.ensures.does w good stands owned moment)
+    accepted_may c.args.lanes.now.limits w c.args.step c.args.lanes.now c.args.objects.now c.args.names.now.table.values stands (sym c.in-None.is ∙ c.refusal.ensures)
+    c.take_step.new.lanes c.in-Err.stop (c.in-Err.ensures.does w good stands owned moment)

@@ -34,25 +34,25 @@ pub returns-in-Gap : goal.returns-in-Gap
 returns-in-Gap g c = subst (λ a. Works 5 (acted a) c.args.self.now c.submit-in-Gap.new.self c.submit-in-Gap.result) (sym c.in-Gap.is) (more_works 5 (omega arith) c.submit-in-Gap.ensures)
 
 pub set-requires : goal.set-requires
-set-requires g c = can_less 0 5 c.args.self.now (omega arith) c.requires
+set-requires g c = can_less 1 5 c.args.self.now (omega arith) c.requires
 
 pub returns-in-Set : goal.returns-in-Set
 returns-in-Set g c = subst (λ a. Works 5 (acted a) c.args.self.now c.set.new.self c.set.result) (sym c.in-Set.is) (more_works 5 (omega arith) c.set.ensures)
 
 pub delete-requires : goal.delete-requires
-delete-requires g c = can_less 0 5 c.args.self.now (omega arith) c.requires
+delete-requires g c = can_less 1 5 c.args.self.now (omega arith) c.requires
 
 pub returns-in-Delete : goal.returns-in-Delete
 returns-in-Delete g c = subst (λ a. Works 5 (acted a) c.args.self.now c.delete.new.self c.delete.result) (sym c.in-Delete.is) (more_works 5 (omega arith) c.delete.ensures)
 
 pub increment-requires : goal.increment-requires
-increment-requires g c = can_less 0 5 c.args.self.now (omega arith) c.requires
+increment-requires g c = can_less 1 5 c.args.self.now (omega arith) c.requires
 
 pub returns-in-Increment : goal.returns-in-Increment
 returns-in-Increment g c =
     let fits : FitsSigned w64 c.in-Increment.amount = search rules in
     subst (λ a. Works 5 (acted a) c.args.self.now c.increment.new.self c.increment.result) (sym c.in-Increment.is)
-    (more_works 5 (omega arith) (subst (λ x. Works 0 (acted (gen.Increment c.in-Increment.client x)) c.args.self.now c.increment.new.self c.increment.result) (to_z-of_z _ _ fits) c.increment.ensures))
+    (more_works 5 (omega arith) (subst (λ x. Works 1 (acted (gen.Increment c.in-Increment.client x)) c.args.self.now c.increment.new.self c.increment.result) (to_z-of_z _ _ fits) c.increment.ensures))
 
 pub returns-in-Round : goal.returns-in-Round
 returns-in-Round g c = subst (λ a. Works 5 (acted a) c.args.self.now c.round.new.self c.round.result) (sym c.in-Round.is) c.round.ensures

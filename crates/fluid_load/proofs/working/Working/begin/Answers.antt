@@ -18,17 +18,17 @@ pump-requires g c = can_then 1 1 (can_then 1 2 (can_behind 1 3 c.requires c.in_o
 pub returns-in_err-load_first : goal.returns-in_err-load_first
 returns-in_err-load_first g c =
     let e = err_from_is_err_and c.from_residual.result c.from_residual.ensures.1 in
-    rw (e.1, e.2) (stop_opens c.in_err-load_first.ensures)
+    rw (e.1, e.2) (stop_opens (omega arith) c.in_err-load_first.ensures)
 
 pub returns-in_err-attach_map : goal.returns-in_err-attach_map
 returns-in_err-attach_map g c =
     let e = err_from_is_err_and c.from_residual-in_err-attach_map.result c.from_residual-in_err-attach_map.ensures.1 in
-    rw (e.1, e.2) (stop_opened c.in_ok-load_first.ensures c.in_err-attach_map.ensures)
+    rw (e.1, e.2) (stop_opened (omega arith) c.in_ok-load_first.ensures c.in_err-attach_map.ensures)
 
 pub returns-in_err-attach_counter : goal.returns-in_err-attach_counter
 returns-in_err-attach_counter g c =
     let e = err_from_is_err_and c.from_residual-in_err-attach_counter.result c.from_residual-in_err-attach_counter.ensures.1 in
-    rw (e.1, e.2) (stop_opened (then_opens c.in_ok-load_first.ensures c.in_ok-attach_map.ensures) c.in_err-attach_counter.ensures)
+    rw (e.1, e.2) (stop_opened (omega arith) (then_opens c.in_ok-load_first.ensures c.in_ok-attach_map.ensures) c.in_err-attach_counter.ensures)
 
 pub returns : goal.returns
 returns g c = then_opens (then_opens (then_opens c.in_ok-load_first.ensures c.in_ok-attach_map.ensures) c.in_ok-attach_counter.ensures) c.pump.ensures

@@ -10,7 +10,7 @@ use Rattle.fluid_load.proofs.working.Working.delete.Goals as goal
 pub returns-in_err-edit : goal.returns-in_err-edit
 returns-in_err-edit g c =
     let e = err_from_is_err_and c.from_residual.result c.from_residual.ensures.1 in
-    rw (e.1, e.2) (short_works 0 (acted (gen.Delete c.args.client c.args.key)) c.args.self.now)
+    rw (e.1, e.2) (short_works 1 (acted (gen.Delete c.args.client c.args.key)) c.args.self.now)
 
 pub returns : goal.returns
-returns g c = subst (λ e. Works 0 (said c.args.client (say.Op e)) c.args.self.now c.submit.new.self c.submit.result) c.in_ok-edit.ensures.made c.submit.ensures
+returns g c = subst (λ e. Works 1 (said c.args.client (say.Op e)) c.args.self.now c.submit.new.self c.submit.result) c.in_ok-edit.ensures.made c.submit.ensures

@@ -12,7 +12,7 @@ pump-requires g c = can_then 1 1 c.requires c.in_ok-load_last.ensures
 pub returns-in_err-load_last : goal.returns-in_err-load_last
 returns-in_err-load_last g c =
     let e = err_from_is_err_and c.from_residual.result c.from_residual.ensures.1 in
-    rw (e.1, e.2) (stop_works c.in_err-load_last.ensures)
+    rw (e.1, e.2) (stop_works (omega arith) c.in_err-load_last.ensures)
 
 pub returns : goal.returns
 returns g c = then_works c.in_ok-load_last.ensures c.pump.ensures

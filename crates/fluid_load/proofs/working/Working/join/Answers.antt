@@ -2,10 +2,11 @@ use Rattle.std.proofs.Common.{sym, subst}
 use Rattle.std.proofs.lemmas.Result.{err_from_is_err_and}
 use Rattle.fluid_world.specs.Naming.{IsShortStep}
 use Rattle.fluid_turns.specs.Quiet.{IsQuietStep}
+use Rattle.fluid_load.specs.Quiet.{IsOwnStep}
 use Rattle.fluid_load.specs.Standing.{Works}
 use Rattle.fluid_load.specs.Acting.{step_done, joined}
 use Rattle.fluid_load.proofs.Parts.{short_works}
-use Rattle.fluid_load.proofs.Attached.{connect_short, connect_quiet}
+use Rattle.fluid_load.proofs.Attached.{connect_short, connect_quiet, connect_own}
 use Rattle.fluid_load.proofs.working.Working.join.Goals as goal
 
 pub step-requires-clause-short : goal.step-requires-clause-short
@@ -13,6 +14,9 @@ step-requires-clause-short g c = subst IsShortStep (sym c.in_ok-step.ensures) (c
 
 pub step-requires-clause-quiet : goal.step-requires-clause-quiet
 step-requires-clause-quiet g c = subst IsQuietStep (sym c.in_ok-step.ensures) (connect_quiet c.args.client)
+
+pub step-requires-clause-own : goal.step-requires-clause-own
+step-requires-clause-own g c = subst IsOwnStep (sym c.in_ok-step.ensures) (connect_own c.args.client)
 
 pub returns-in_err-step : goal.returns-in_err-step
 returns-in_err-step g c =

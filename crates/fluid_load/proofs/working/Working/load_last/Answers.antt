@@ -9,6 +9,9 @@ use Rattle.fluid_load.proofs.working.Working.load_last.Goals as goal
 pub step-requires-clause-can : goal.step-requires-clause-can
 step-requires-clause-can g c = subst (CanWork 1) (sym c.figures-summaries.ensures.same) c.requires
 
+pub step-requires-clause-own : goal.step-requires-clause-own
+step-requires-clause-own g c = c.in_ok-document.ensures
+
 pub returns-in_err-document : goal.returns-in_err-document
 returns-in_err-document g c =
     let e = err_from_is_err_and c.from_residual.result c.from_residual.ensures.1 in

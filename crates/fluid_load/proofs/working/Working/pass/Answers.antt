@@ -28,6 +28,6 @@ returns-clause-on g c = rw (← c.self.view_is) (record {
   limits = c.pass_step.ensures.limits;
   good = refl;
   counts = c.pass_step.ensures.counts;
-  runs = λ first steps run. (steps + 1, c.pass_step.ensures.runs first steps run);
+  runs = c.pass_step.ensures.runs;
   numbers = c.pass_step.ensures.numbers;
 })

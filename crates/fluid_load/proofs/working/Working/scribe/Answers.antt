@@ -6,6 +6,9 @@ use Rattle.fluid_load.specs.Acting.{step_done, scribed}
 use Rattle.fluid_load.proofs.Parts.{short_works}
 use Rattle.fluid_load.proofs.working.Working.scribe.Goals as goal
 
+pub step-requires-clause-own : goal.step-requires-clause-own
+step-requires-clause-own g c = c.in_ok-document.ensures
+
 pub returns-in_err-document : goal.returns-in_err-document
 returns-in_err-document g c =
     let e = err_from_is_err_and c.from_residual.result c.from_residual.ensures.1 in

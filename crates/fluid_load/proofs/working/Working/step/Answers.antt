@@ -6,4 +6,4 @@ pub pass-requires-clause-can : goal.pass-requires-clause-can
 pass-requires-clause-can g c = can_pass c.args.self.now c.requires.can
 
 pub returns : goal.returns
-returns g c = step_works c.args.step c.args.self.now c.pass.new.self c.pass.result c.requires.quiet c.pass.ensures.on c.pass.ensures.does
+returns g c = step_works c.args.step c.args.self.now c.pass.new.self c.pass.result c.requires.quiet c.requires.own c.pass.ensures.on c.pass.ensures.does

@@ -9,17 +9,17 @@ use Rattle.fluid_load.proofs.working.Working.submit.Goals as goal
 pub returns-in_err-name : goal.returns-in_err-name
 returns-in_err-name g c =
     let e = err_from_is_err_and c.from_residual.result c.from_residual.ensures.1 in
-    rw (e.1, e.2) (short_works 0 (said c.args.client c.args.saying) c.args.self.now)
+    rw (e.1, e.2) (short_works 1 (said c.args.client c.args.saying) c.args.self.now)
 
 pub returns-in_err-document : goal.returns-in_err-document
 returns-in_err-document g c =
     let e = err_from_is_err_and c.from_residual-in_err-document.result c.from_residual-in_err-document.ensures.1 in
-    rw (e.1, e.2) (short_works 0 (said c.args.client c.args.saying) c.args.self.now)
+    rw (e.1, e.2) (short_works 1 (said c.args.client c.args.saying) c.args.self.now)
 
 pub returns-in_err-writer : goal.returns-in_err-writer
 returns-in_err-writer g c =
     let e = err_from_is_err_and c.from_residual-in_err-writer.result c.from_residual-in_err-writer.ensures.1 in
-    rw (e.1, e.2) (short_works 0 (said c.args.client c.args.saying) c.args.self.now)
+    rw (e.1, e.2) (short_works 1 (said c.args.client c.args.saying) c.args.self.now)
 
 pub returns : goal.returns
 returns g c = nobody_works c.args.client c.args.saying c.args.self.now (λ w goes.

@@ -15,7 +15,7 @@ returns-in-None g c = nothing_says c.args.document.now c.args.writer.now c.args.
     (λ w client goes at is. sym c.in-None.is ∙ c.in_ok-submission.ensures.is w client goes at is)
 
 pub enter-requires : goal.enter-requires
-enter-requires g c = subst (CanWork 0) (sym c.submission.ensures.same) c.requires.can
+enter-requires g c = subst (CanWork 1) (sym c.submission.ensures.same) c.requires.can
 
 pub returns-in-Some : goal.returns-in-Some
 returns-in-Some g c = enters_says c.args.document.now c.args.writer.now c.args.saying.now c.in-Some.submission c.args.self.now c.submission.new.self c.enter.new.self c.enter.result c.submission.ensures.same

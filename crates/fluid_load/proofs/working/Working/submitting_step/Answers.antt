@@ -17,10 +17,10 @@ returns-in_err-document g c =
 pub returns-in_err-pass : goal.returns-in_err-pass
 returns-in_err-pass g c =
     let e = err_from_is_err_and c.from_residual-in_err-pass.result c.from_residual-in_err-pass.ensures.1 in
-    rw (e.1, e.2) (submitted_not c.args.step c.args.self.now c.figures-before.new.self c.pass.new.self _ c.figures-before.ensures.same c.in_err-pass.ensures.on c.in_err-pass.ensures.does)
+    rw (e.1, e.2) (submitted_not c.args.step c.args.self.now c.figures-before.new.self c.pass.new.self _ c.figures-before.ensures.same c.requires.own c.in_err-pass.ensures.on c.in_err-pass.ensures.does)
 
 pub returns : goal.returns
 returns g c =
     submitted_so c.args.step c.args.self.now c.figures-before.new.self c.pass.new.self c.figures-after.new.self c.count_nacked.new.self c.figures-before.result c.figures-after.result
-    c.figures-before.ensures.same c.figures-after.ensures.same c.count_nacked.ensures c.requires.submits c.in_ok-pass.ensures.on c.in_ok-pass.ensures.does
+    c.figures-before.ensures.same c.figures-after.ensures.same c.count_nacked.ensures c.requires.own c.requires.submits c.in_ok-pass.ensures.on c.in_ok-pass.ensures.does
     (λ w desk opened. c.figures-before.ensures.are w desk c.in_ok-document.ensures opened) (λ w desk opened. c.figures-after.ensures.are w desk c.in_ok-document.ensures opened) c.figures-after.ensures.few
