@@ -11,6 +11,7 @@ const NAMES: u64 = 8;
 const LIFE: u64 = 997;
 
 /// The items that a client was given in its turn of seven messages: the last one but one, and the last one.
+#[derive(Drop)]
 struct Turn {
     former: u64,
     latter: u64,
