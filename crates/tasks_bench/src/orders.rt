@@ -11,6 +11,7 @@ const NAMES: u64 = 8;
 const LIFE: u64 = 997;
 
 /// The items that a client was given in its turn of seven messages: the last one but one, and the last one.
+#[derive(Drop)]
 struct Turn {
     former: u64,
     latter: u64,
@@ -42,16 +43,12 @@ fn apply(
         return Ok(());
     }
     let client = number / 7 % CLIENTS;
-    let message = if number % LIFE == 0 {
-        left(alloc, client, before + 1)?
+    let mut message = if number % LIFE == 0 {
+        left(alloc, client)?
     } else {
-        op(
-            alloc,
-            client,
-            before + 1,
-            body(alloc, tasks, turn, number, items)?,
-        )?
+        op(alloc, client, body(alloc, tasks, turn, number, items)?)?
     };
+    message.number = before + 1;
     tasks.apply(alloc, &message)
 }
 
@@ -108,29 +105,23 @@ fn acquiring(alloc: Global, tasks: &Tasks, turn: &mut Turn, name: u64) -> Result
     Ok(text)
 }
 
-fn left(alloc: Global, client: u64, own: u64) -> Result<Message, NoMemory> {
+fn left(alloc: Global, client: u64) -> Result<Message, NoMemory> {
     let data = Text::new(format!(in alloc; "\"c{client}\"")?);
-    Ok(message(Kind::Leave, None, own, Json::null(), Some(data)))
+    Ok(message(Kind::Leave, None, Json::null(), Some(data)))
 }
 
-fn op(alloc: Global, client: u64, own: u64, body: String) -> Result<Message, NoMemory> {
+fn op(alloc: Global, client: u64, body: String) -> Result<Message, NoMemory> {
     let id = ClientId::of_entry(alloc, client)?;
     let contents = Json::text(Text::new(body));
-    Ok(message(Kind::Op, Some(id), own, contents, None))
+    Ok(message(Kind::Op, Some(id), contents, None))
 }
 
-fn message(
-    kind: Kind,
-    client: Option<ClientId>,
-    number: u64,
-    contents: Json,
-    system: Option<Text>,
-) -> Message {
+fn message(kind: Kind, client: Option<ClientId>, contents: Json, system: Option<Text>) -> Message {
     Message {
         client,
         client_number: 1,
         reference: 0,
-        number,
+        number: 0,
         minimum: 0,
         kind,
         contents,
