@@ -1,14 +1,14 @@
 -- The worked examples of queues and tasks: what is written depends only on what each message says and on its number, so that the
 -- messages of a document may be read as those of an order that was worked out.
-use Rattle.std.proofs.Common.{◌≡◌, ℕ, ◌+◌, Bool, ◌&&◌, cond, List, [], ◌∷◌, ◌++◌, length, map, Option, Some, None, option_map, Ok, codes, refl, ap, ap₂, ◌∙◌, arith}
+use Rattle.std.proofs.Common.{◌≡◌, ℕ, ◌+◌, ◌&&◌, cond, List, [], ◌∷◌, ◌++◌, length, Some, None, option_map, Ok, codes, refl, ap, ap₂, ◌∙◌, arith}
 use Rattle.std.specs.Prelude.{filter, flat_map, take, decimal}
 use Rattle.std.specs.List.{filter_map}
 use Rattle.std.specs.Fmt.{digits}
-use Rattle.std.specs.FinMap.{FinMap, empty}
+use Rattle.std.specs.FinMap.{empty}
 use Rattle.json.specs.Print.{escape_byte}
 use Rattle.fluid_json.specs.Printed.{printed}
 use Rattle.fluid_json.specs.Spelled.{answer}
-use Rattle.fluid_json.specs.Tree.{Tree, null, text, depth, IsCanonical}
+use Rattle.fluid_json.specs.Tree.{Tree, text, depth, IsCanonical}
 use Rattle.fluid_json.proofs.ReadBack.{answers_itself}
 use Rattle.fluid_types.specs.Contents.{body}
 use Rattle.fluid_types.specs.Names.{is_name}
@@ -27,7 +27,7 @@ use Rattle.fluid_tasks.specs.Past.{Past, first, is_text, is_number, numbers, add
 use Rattle.fluid_tasks.specs.Printed.{queue_in, task_in, with_name, shown_queue, shown_task, shown, all_of, queues as queue_names, tasks as task_names, held, print}
 use Rattle.fluid_tasks.specs.Examples.{TwoItems, op, leave, join, a, b, t, volunteer, finish, one_is_done}
 use Rattle.fluid_steps.specs.declared.steps.Step.TheVariants.{Tasks}
-use Rattle.fluid_transcript.specs.World.{ledger_of, says, World, Effect}
+use Rattle.fluid_transcript.specs.World.{says}
 use Rattle.fluid_transcript.specs.Lines.{of_name, tasks_line}
 use Rattle.fluid_transcript.specs.Transcript.{at_line}
 use Rattle.fluid_transcript.specs.Examples.{few, d}
