@@ -7,7 +7,7 @@ use Rattle.fluid_callers.proofs.Tasked.{tells, untold, line_reads}
 use Rattle.fluid_callers.proofs.tasking.tasks_on.Goals as goal
 
 pub tasks_line-requires : goal.tasks_line-requires
-tasks_line-requires g c = subst AreFirst (sym c.as_slice.ensures) c.in_ok-messages.ensures.numbered
+tasks_line-requires g c = subst AreFirst (sym c.as_slice.ensures.value) c.in_ok-messages.ensures.numbered
 
 pub returns-in_err-messages-clause-does : goal.returns-in_err-messages-clause-does
 returns-in_err-messages-clause-does g c = λ limits w d of.
@@ -22,7 +22,7 @@ returns-in_err-messages-clause-runs g c =
 pub returns-clause-does : goal.returns-clause-does
 returns-clause-does g c = λ limits w d of.
     tells limits w d c.args.name.now c.messages_from.new.lane c.in_ok-messages.messages.items c.told.result (c.in_ok-messages.ensures.does limits d of)
-    (subst (λ ms. IsLine (line_behind c.args.name.now ms) c.told.result) c.as_slice.ensures (c.told.ensures _ c.tasks_line.ensures))
+    (subst (λ ms. IsLine (line_behind c.args.name.now ms) c.told.result) c.as_slice.ensures.value (c.told.ensures _ c.tasks_line.ensures))
 
 pub returns-clause-runs : goal.returns-clause-runs
 returns-clause-runs g c =
