@@ -1,6 +1,6 @@
 -- The worked examples of queues and tasks: what is written depends only on what each message says and on its number, so that the
 -- messages of a document may be read as those of an order that was worked out.
-use Rattle.std.proofs.Common.{◌≡◌, ℕ, ◌+◌, ◌&&◌, cond, List, [], ◌∷◌, ◌++◌, length, Some, None, option_map, Ok, codes, refl, ap, ap₂, ◌∙◌, arith}
+use Rattle.std.proofs.Common.{◌≡◌, ◌≤◌, ℕ, ◌+◌, ◌&&◌, cond, List, [], ◌∷◌, ◌++◌, length, Some, None, option_map, Ok, codes, refl, ap, ap₂, ◌∙◌, arith}
 use Rattle.std.specs.Prelude.{filter, flat_map, take, decimal}
 use Rattle.std.specs.List.{filter_map}
 use Rattle.std.specs.Fmt.{digits}
