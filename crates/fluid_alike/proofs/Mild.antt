@@ -29,7 +29,7 @@ use Rattle.fluid_edits.specs.declared.edit.Edit.{Edit as AnEdit}
 use Rattle.fluid_runtime.specs.Refused.{answer}
 use Rattle.fluid_runtime.specs.declared.fault.EditFault.{EditFault}
 use Rattle.fluid_steps.specs.declared.steps.Step.{Step}
-use Rattle.fluid_steps.specs.declared.steps.Step.TheVariants.{Send, Collect, Close, Scribe, Checkpoint, Restart, Reopen, Sweep, Count, Load, Pump, Edit, Beat, Summarize, Show}
+use Rattle.fluid_steps.specs.declared.steps.Step.TheVariants.{Send, Collect, Close, Scribe, Checkpoint, Restart, Reopen, Sweep, Count, Tasks, Load, Pump, Edit, Beat, Summarize, Show}
 use Rattle.fluid_steps.specs.declared.refusal.LineWhy.{LineWhy}
 use Rattle.fluid_voice.specs.declared.states.VoiceState.{VoiceState}
 use Rattle.fluid_voice.specs.declared.states.VoiceState.TheVariants.{Fresh, Reading, Writing, Used}
@@ -254,6 +254,7 @@ mild_effect limits (Close c) is r d = absurd is
 mild_effect limits (Reopen name) is r d = absurd is
 mild_effect limits (Sweep name silence) is r d = absurd is
 mild_effect limits (Count name) is r d = absurd is
+mild_effect limits (Tasks name) is r d = absurd is
 mild_effect limits (Beat p) is r d = absurd is
 mild_effect limits (Summarize p) is r d = absurd is
 mild_effect limits (Show p) is r d = absurd is
@@ -273,6 +274,7 @@ mild_beyond limits name (Close c) is r = absurd is
 mild_beyond limits name (Reopen other) is r = absurd is
 mild_beyond limits name (Sweep other silence) is r = absurd is
 mild_beyond limits name (Count other) is r = absurd is
+mild_beyond limits name (Tasks other) is r = absurd is
 mild_beyond limits name (Beat p) is r = absurd is
 mild_beyond limits name (Summarize p) is r = absurd is
 mild_beyond limits name (Show p) is r = absurd is

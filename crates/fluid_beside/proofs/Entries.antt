@@ -28,7 +28,7 @@ use Rattle.fluid_store.specs.Putting.{Putting, Clashing, putting}
 use Rattle.fluid_store.specs.Listed.{objects}
 use Rattle.fluid_lane.specs.Laws.{first_silent_in}
 use Rattle.fluid_steps.specs.declared.steps.Step.{Step}
-use Rattle.fluid_steps.specs.declared.steps.Step.TheVariants.{Send, Collect, Close, Scribe, Checkpoint, Restart, Reopen, Sweep, Count, Load, Pump, Edit, Beat, Summarize, Show}
+use Rattle.fluid_steps.specs.declared.steps.Step.TheVariants.{Send, Collect, Close, Scribe, Checkpoint, Restart, Reopen, Sweep, Count, Tasks, Load, Pump, Edit, Beat, Summarize, Show}
 use Rattle.fluid_voice.specs.declared.states.VoiceState.{VoiceState}
 use Rattle.fluid_voice.specs.declared.states.VoiceState.TheVariants.{Fresh, Reading, Writing, Used}
 use Rattle.fluid_voice.specs.declared.actions.Act.{Act}
@@ -320,6 +320,7 @@ module _ (limits : Limits) (w : World) (sound : IsSound w) (q : List ℕ) (k : C
   beside (Reopen name) ok other to fits = leaves (joined (ledger_of d))
   beside (Sweep name silence) ok other to fits = sweeps name (first_silent_in w.moment silence (ledger_of d))
   beside (Count name) ok other to fits = none (id_of k)
+  beside (Tasks name) ok other to fits = none (id_of k)
   beside (Load p name pick) ok other to fits = joins (is_some (join_refusal (joining limits w (ledger_of d)))) fits
   beside (Pump p) ok other to fits = contained p _ (λ j its. none (id_of k))
   beside (Edit p op) ok other to fits = contained p _ (λ j its. edits p op j other its (own_document p j its to) (omega (arith, fits)))

@@ -17,7 +17,7 @@ use Rattle.fluid_store.specs.Listed.{objects}
 use Rattle.fluid_runtime.specs.AppTree.{app_tree}
 use Rattle.fluid_lane.specs.Laws.{first_silent_in}
 use Rattle.fluid_steps.specs.declared.steps.Step.{Step}
-use Rattle.fluid_steps.specs.declared.steps.Step.TheVariants.{Send, Collect, Close, Scribe, Checkpoint, Restart, Reopen, Sweep, Count, Load, Pump, Edit, Beat, Summarize, Show}
+use Rattle.fluid_steps.specs.declared.steps.Step.TheVariants.{Send, Collect, Close, Scribe, Checkpoint, Restart, Reopen, Sweep, Count, Tasks, Load, Pump, Edit, Beat, Summarize, Show}
 use Rattle.fluid_transcript.specs.World.{Document, Container, Name, World, ledger_of, with_name, Effect, says}
 use Rattle.fluid_transcript.specs.Documents.{scribed_by, reported, is_found, objects_for, checkpoint_of, swept_by}
 use Rattle.fluid_transcript.specs.Containers.{channels, visible, edited_by, summarized_by}
@@ -80,6 +80,7 @@ module _ (limits : Limits) (w : World) (names : FinMap byte_order Name) (q : Lis
   named d (Reopen name) other = refl
   named d (Sweep name silence) other = sweeps name (first_silent_in w.moment silence (ledger_of d))
   named d (Count name) other = refl
+  named d (Tasks name) other = refl
   named d (Load p name pick) other = put names p _ q other
   named d (Pump p) other = on p (container_of w p) _ (λ k. put names p _ q other)
   named d (Edit p op) other = on p (container_of w p) _ (λ k. edits d p op k other)
@@ -97,6 +98,7 @@ module _ (limits : Limits) (w : World) (names : FinMap byte_order Name) (q : Lis
   named_beyond name (Reopen other_name) other = refl
   named_beyond name (Sweep other_name silence) other = refl
   named_beyond name (Count other_name) other = refl
+  named_beyond name (Tasks other_name) other = refl
   named_beyond name (Load p other_name pick) other = put names p _ q other
   named_beyond name (Pump p) other = refl
   named_beyond name (Edit p op) other = refl
@@ -143,6 +145,7 @@ module _ (limits : Limits) (w : World) where
   keeps d (Reopen name) none = refl
   keeps d (Sweep name silence) none = keeps_sweeps name (first_silent_in w.moment silence (ledger_of d))
   keeps d (Count name) none = refl
+  keeps d (Tasks name) none = refl
   keeps d (Load p name pick) none = refl
   keeps d (Pump p) none = keeps_on (container_of w p) _ (λ k. refl)
   keeps d (Edit p op) none = keeps_on (container_of w p) _ (λ k. keeps_edits d p op k)
@@ -160,6 +163,7 @@ module _ (limits : Limits) (w : World) where
   keeps_beyond name (Reopen other_name) none = refl
   keeps_beyond name (Sweep other_name silence) none = refl
   keeps_beyond name (Count other_name) none = refl
+  keeps_beyond name (Tasks other_name) none = refl
   keeps_beyond name (Load p other_name pick) none = refl
   keeps_beyond name (Pump p) none = refl
   keeps_beyond name (Edit p op) none = refl

@@ -4,7 +4,7 @@ use Rattle.std.specs.FinMap.{get}
 use Rattle.fluid_types.specs.Ledger.{Ledger}
 use Rattle.fluid_rules.specs.declared.limits.Limits.{Limits}
 use Rattle.fluid_steps.specs.declared.steps.Step.{Step}
-use Rattle.fluid_steps.specs.declared.steps.Step.TheVariants.{Send, Collect, Close, Scribe, Checkpoint, Restart, Reopen, Sweep, Count, Load, Pump, Edit, Beat, Summarize, Show}
+use Rattle.fluid_steps.specs.declared.steps.Step.TheVariants.{Send, Collect, Close, Scribe, Checkpoint, Restart, Reopen, Sweep, Count, Tasks, Load, Pump, Edit, Beat, Summarize, Show}
 use Rattle.fluid_transcript.specs.World.{Container, container, World, document}
 use Rattle.fluid_transcript.specs.Containers.{id_of}
 use Rattle.fluid_transcript.specs.Steps.{refusal}
@@ -23,6 +23,7 @@ own_name (Restart name checkpoint) = None
 own_name (Reopen name) = None
 own_name (Sweep name silence) = None
 own_name (Count name) = None
+own_name (Tasks name) = None
 own_name (Load p name pick) = Some p
 own_name (Pump p) = Some p
 own_name (Edit p op) = Some p

@@ -5,6 +5,7 @@ use Rattle.std.specs.FinMap.{get}
 use Rattle.std.proofs.lemmas.List.{take_all, drop_all}
 use Rattle.fluid_table.proofs.Places.{get_own}
 use Rattle.fluid_types.specs.Ledger.{order, seq}
+use Rattle.fluid_types.specs.Order.{AreNumberedFrom}
 use Rattle.fluid_types.specs.declared.messages.Message.{Message}
 use Rattle.fluid_deltas.specs.Ranges.{IsSlice}
 use Rattle.fluid_deltas.specs.declared.fault.DeltaFault.{DeltaFault}
@@ -106,6 +107,10 @@ module _ {V : Type 0} (read : V → List Message) (from to : ℕ) (old new : Sta
 
   not_worn : (v : V) → IsWornSo (Ok v) → is_worn old ≡ false
   not_worn v worn = worn_or_not (is_worn old) (λ h. absurd (two_ends v delta.Worn (worn h).0)) (λ h. h)
+
+  -- those that were given have the numbers of the range
+  pub range_numbered : (v : V) → IsWornSo (Ok v) → IsRange (Ok v) → AreNumberedFrom from (read v)
+  range_numbered v worn ranges = (ranges (not_worn v worn)).reads.numbers.numbered
 
   -- why messages weren't given
   reads_by : (f : DeltaFault) → Goes old new (range_steps {A = V} (Err f)) → IsRange (Err f) → IsSliceOf (Err f) → is_worn old ≡ false → EndsReading old new (delta_stop f)

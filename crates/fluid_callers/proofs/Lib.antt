@@ -6,4 +6,5 @@ mod Feeds
 pub mod Ends
 mod Sent
 mod Collected
+mod Tasked
 pub mod Departing

@@ -1,4 +1,5 @@
 pub mod Reaching
 pub mod Ending
 pub mod Hearing
+pub mod Tasking
 pub mod Calling

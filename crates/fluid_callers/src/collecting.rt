@@ -1,6 +1,7 @@
 //! A connection is given the messages of its document that weren't delivered.
 ghost use Rattle.std.specs.Prelude.{◌≡◌, ◌≤◌, ◌<◌, ◌+◌, ◌-◌, ◌++◌, ◌∷◌, [], ℕ, List, Some, IfOk, OnOk, MatchResult, length};
 ghost use Rattle.fluid_types.specs.Ledger.{order};
+ghost use Rattle.fluid_types.specs.Order.{AreNumberedFrom};
 ghost use Rattle.fluid_types.specs.declared.messages.Message.{Message as AMessage};
 ghost use Rattle.fluid_document.specs.Entries.{most};
 ghost use Rattle.fluid_rules.specs.declared.limits.Limits.{Limits as ALimits};
@@ -127,7 +128,7 @@ fn gather_lane<K: Keeper>(
 }
 
 // The messages from one number to before another; none where the first isn't below it.
-fn messages_from<K: Keeper>(
+pub(crate) fn messages_from<K: Keeper>(
     alloc: Global,
     lane: &mut Lane<K>,
     from: u64,
@@ -137,6 +138,7 @@ fn messages_from<K: Keeper>(
     requires last { behind ≡ lane.old.entries.state.sequencer.sequence + 1 }
     ensures does { (limits : ALimits) (d : ADocument) → IsLaneOf limits lane.old d → MatchResult result (λ messages. Fetched limits d from lane.new messages.items) (IsHonest (steps_on d lane.new)) }
     ensures runs { LaneReads lane.old lane.new result }
+    ensures numbered { IfOk result (λ messages. AreNumberedFrom from messages.items) }
 {
     if behind <= from {
         return Ok(Vec::new(alloc));

@@ -162,7 +162,7 @@ fn leave_line(alloc: Global, name: &DocName, raw: &Raw) -> Result<Text, NoMemory
 }
 
 /// Under this name a document is wanted, and as many are open as may be.
-pub(crate) fn turned_away_line(alloc: Global, name: &DocName) -> Result<Text, NoMemory>
+pub fn turned_away_line(alloc: Global, name: &DocName) -> Result<Text, NoMemory>
     ensures { IfOk result (λ line. line ≡ lines.turned_away_line name.now TooManyDocuments) }
 {
     let name = name.as_str();

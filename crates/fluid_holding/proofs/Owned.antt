@@ -30,7 +30,7 @@ use Rattle.fluid_store.specs.Putting.{Putting, Clashing, behind, put_first, putt
 use Rattle.fluid_store.specs.declared.listing.StoredObject.{StoredObject}
 use Rattle.fluid_steps.specs.Grammar.{step_spelled}
 use Rattle.fluid_steps.specs.declared.steps.Step.{Step}
-use Rattle.fluid_steps.specs.declared.steps.Step.TheVariants.{Send, Collect, Close, Scribe, Checkpoint, Restart, Reopen, Sweep, Count, Load, Pump, Edit, Beat, Summarize, Show}
+use Rattle.fluid_steps.specs.declared.steps.Step.TheVariants.{Send, Collect, Close, Scribe, Checkpoint, Restart, Reopen, Sweep, Count, Tasks, Load, Pump, Edit, Beat, Summarize, Show}
 use Rattle.fluid_steps.specs.declared.refusal.LineWhy.{LineWhy}
 use Rattle.fluid_voice.specs.Ends.{Found, Outcome, outcome, held_behind, held_with, is_beyond}
 use Rattle.fluid_voice.specs.Ends.Outcome.{ends, clashes}
@@ -221,6 +221,7 @@ module _ (limits : Limits) (w : World) (holds : HoldsOwn w.store) where
   effect_own d (Reopen name) = holds
   effect_own d (Sweep name silence) = sweep_own name (first_silent_in w.moment silence (ledger_of d))
   effect_own d (Count name) = holds
+  effect_own d (Tasks name) = holds
   effect_own d (Load p name pick) = holds
   effect_own d (Pump p) = on_own w (container_of w p) (pumped w d p) holds (λ k. holds)
   effect_own d (Edit p op) = on_own w (container_of w p) (edit_effect limits w d p op) holds (edit_own d p op)
@@ -238,6 +239,7 @@ module _ (limits : Limits) (w : World) (holds : HoldsOwn w.store) where
   beyond_own name (Reopen other) = holds
   beyond_own name (Sweep other silence) = holds
   beyond_own name (Count other) = holds
+  beyond_own name (Tasks other) = holds
   beyond_own name (Load p other pick) = holds
   beyond_own name (Pump p) = holds
   beyond_own name (Edit p op) = holds

@@ -39,7 +39,7 @@ use Rattle.fluid_loader.specs.Submitting.{summarize_tree}
 use Rattle.fluid_loader.specs.declared.link.Pick.TheVariants.{Empty}
 use Rattle.fluid_types.specs.Ledger.{order}
 use Rattle.fluid_steps.specs.declared.steps.Step.{Step}
-use Rattle.fluid_steps.specs.declared.steps.Step.TheVariants.{Send, Collect, Close, Scribe, Checkpoint, Restart, Reopen, Sweep, Count, Load, Pump, Edit, Beat, Summarize, Show}
+use Rattle.fluid_steps.specs.declared.steps.Step.TheVariants.{Send, Collect, Close, Scribe, Checkpoint, Restart, Reopen, Sweep, Count, Tasks, Load, Pump, Edit, Beat, Summarize, Show}
 use Rattle.fluid_steps.specs.declared.refusal.LineWhy.{LineWhy}
 use Rattle.fluid_voice.specs.declared.states.VoiceState.{VoiceState}
 use Rattle.fluid_voice.specs.declared.states.VoiceState.TheVariants.{Fresh, Reading, Writing, Used}
@@ -58,7 +58,7 @@ use Rattle.fluid_transcript.specs.Lines.{full_line, large_line, stored_line}
 use Rattle.fluid_transcript.specs.Containers.{submitted_as, submitting, channels, visible, app_id, head, joining, join_refusal, join_for, pumped, edited_by, summarized, summarized_by, entry_of}
 use Rattle.fluid_transcript.specs.Steps.{refusal, refusal_as_new, about, effect, beyond, container_in, container_of, on_container, edit_effect}
 use Rattle.fluid_transcript.specs.Transcript.{readied, done, done_in, done_on}
-use Rattle.fluid_transcript.specs.Sound.{IsSoundVoice, IsSoundName, IsSound}
+use Rattle.fluid_transcript.specs.Sound.{IsSoundName, IsSound}
 use Rattle.fluid_transcript.proofs.Sounds.{document_inserted}
 use Rattle.fluid_desk.proofs.Opening.{readied_same}
 use Rattle.fluid_workload.specs.Working.{work, p, connecting, behind_step, behind_entry}
@@ -174,6 +174,7 @@ own_few limits (Close c) is r d = absurd is
 own_few limits (Reopen name) is r d = absurd is
 own_few limits (Sweep name silence) is r d = absurd is
 own_few limits (Count name) is r d = absurd is
+own_few limits (Tasks name) is r d = absurd is
 own_few limits (Edit p (Err fault)) is r d = absurd is
 own_few limits (Beat p) is r d = absurd is
 own_few limits (Show p) is r d = absurd is
@@ -237,6 +238,7 @@ about_open w (Close c) own sound open_is name is = absurd own
 about_open w (Reopen other) own sound open_is name is = absurd own
 about_open w (Sweep other silence) own sound open_is name is = absurd own
 about_open w (Count other) own sound open_is name is = absurd own
+about_open w (Tasks other) own sound open_is name is = absurd own
 about_open w (Edit p (Err fault)) own sound open_is name is = absurd own
 about_open w (Beat p) own sound open_is name is = absurd own
 about_open w (Show p) own sound open_is name is = absurd own

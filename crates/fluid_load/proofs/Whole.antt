@@ -40,7 +40,7 @@ use Rattle.fluid_voice.specs.Ends.{is_beyond}
 use Rattle.fluid_load.specs.Standing.{AtWork, IsFair, WearsBy, WorkGoes, WorkBegins, MayBegin, CanBegin, LeadsTo, Opens}
 use Rattle.fluid_load.specs.Acting.{acted_all}
 use Rattle.fluid_load.specs.Running.{IsBegun, IsBeginning, SaysAll, Concludes, Finishes, FinishesBy}
-use Rattle.fluid_load.specs.Ending.{outside, CameBy, IsNewDeskOf, IsNearlyFull, WritesSummary}
+use Rattle.fluid_load.specs.Ending.{outside, CameBy, IsNewDeskOf, WritesSummary}
 use Rattle.fluid_load.proofs.Parts.{Ended}
 
 -- ---- how many acts there are

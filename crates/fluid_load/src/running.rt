@@ -36,8 +36,9 @@ use fluid_world::{ScriptEnd, end_for};
 use std::alloc::Global;
 
 /// Does the acts of the workload of this number, with so many clients, from 1 to 1,000, and ops, from 1 to 100,000, over these
-/// shelves and this store, and writes its summary, which ends with `loaded same`. Shelves and store come back: all documents are
-/// closed. Where they tell a world, nothing that is stored is refused, but that one of its documents is near the end of all numbers.
+/// shelves and this store, and writes its summary. Shelves and store come back: all documents are closed. Where they tell a world, the
+/// summary ends with `loaded same`, and nothing that is stored is refused, but that one of its documents is near the end of all
+/// numbers.
 pub fn workload<R, K: Sink, B: Shelves, O: Objects>(
     rt: &R,
     alloc: Global,

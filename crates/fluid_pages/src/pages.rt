@@ -84,6 +84,7 @@ usage: fluidd script
   sweep D MS        one client that was silent for over MS milliseconds leaves,
                     the first of them in byte order of ids
   count D           how many entries D has, and its numbers
+  tasks D           the queues and tasks of D, as its messages make them
 
 A name has 1 to 16 characters of a-z and 0-9. The moment of a step, in
 milliseconds, is its line's number. An input has at most 16,777,216 lines, and a

@@ -27,6 +27,7 @@ one_of_each = record {
   reopen = refl;
   sweep = refl;
   count = refl;
+  tasks = refl;
   load = refl;
   latest = refl;
   handle = refl;

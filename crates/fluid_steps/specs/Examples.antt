@@ -4,7 +4,7 @@ use Rattle.fluid_json.specs.Tree.{whole}
 use Rattle.fluid_json.specs.declared.fault.JsonFault.TheVariants.{NotJson}
 use Rattle.fluid_edits.specs.declared.edit.Edit.TheVariants.{Attach, Set, Delete, Clear, Increment}
 use Rattle.fluid_edits.specs.declared.edit.ChannelKind.TheVariants.{Map}
-use Rattle.fluid_steps.specs.declared.steps.Step.TheVariants.{Send, Collect, Close, Scribe, Checkpoint, Restart, Reopen, Sweep, Count, Load, Pump, Edit, Beat, Summarize, Show}
+use Rattle.fluid_steps.specs.declared.steps.Step.TheVariants.{Send, Collect, Close, Scribe, Checkpoint, Restart, Reopen, Sweep, Count, Tasks, Load, Pump, Edit, Beat, Summarize, Show}
 use Rattle.fluid_loader.specs.declared.link.Pick.TheVariants as pick
 use Rattle.fluid_steps.specs.declared.refusal.LineWhy.TheVariants.{UnknownStep, BadStep}
 use Rattle.fluid_steps.specs.Grammar.{step_spelled}
@@ -20,6 +20,7 @@ pub record OneOfEach : Type 0 where
   pub reopen : step_spelled (codes "reopen d") ≡ Ok (Reopen (codes "d"))
   pub sweep : step_spelled (codes "sweep d 0") ≡ Ok (Sweep (codes "d") 0)
   pub count : step_spelled (codes "count d") ≡ Ok (Count (codes "d"))
+  pub tasks : step_spelled (codes "tasks d") ≡ Ok (Tasks (codes "d"))
   pub load : step_spelled (codes "load p d none") ≡ Ok (Load (codes "p") (codes "d") pick.Empty)
   pub latest : step_spelled (codes "load p d latest") ≡ Ok (Load (codes "p") (codes "d") pick.Latest)
   pub handle :

@@ -109,6 +109,7 @@ form word.Restart rest = restart rest
 form word.Reopen rest = option_map step.Reopen (document_name rest)
 form word.Sweep rest = sweep rest
 form word.Count rest = option_map step.Count (document_name rest)
+form word.Tasks rest = option_map step.Tasks (document_name rest)
 form word.Load rest = load rest
 form word.Pump rest = option_map step.Pump (script_name rest)
 form word.Edit rest = edit rest

@@ -1,7 +1,7 @@
 -- The words with which steps begin.
 use Rattle.std.specs.Prelude.{ℕ, List, [], ◌∷◌, codes}
 use Rattle.fluid_steps.specs.declared.steps.StepWord.{StepWord}
-use Rattle.fluid_steps.specs.declared.steps.StepWord.TheVariants.{Send, Collect, Close, Scribe, Checkpoint, Restart, Reopen, Sweep, Count, Load, Pump, Edit, Beat, Summarize, Show}
+use Rattle.fluid_steps.specs.declared.steps.StepWord.TheVariants.{Send, Collect, Close, Scribe, Checkpoint, Restart, Reopen, Sweep, Count, Tasks, Load, Pump, Edit, Beat, Summarize, Show}
 
 abbrev pub step_word : StepWord → List ℕ
 step_word Send = codes "send"
@@ -13,6 +13,7 @@ step_word Restart = codes "restart"
 step_word Reopen = codes "reopen"
 step_word Sweep = codes "sweep"
 step_word Count = codes "count"
+step_word Tasks = codes "tasks"
 step_word Load = codes "load"
 step_word Pump = codes "pump"
 step_word Edit = codes "edit"
@@ -22,4 +23,4 @@ step_word Show = codes "show"
 
 abbrev pub step_words : List StepWord
 step_words =
-    Send ∷ Collect ∷ Close ∷ Scribe ∷ Checkpoint ∷ Restart ∷ Reopen ∷ Sweep ∷ Count ∷ Load ∷ Pump ∷ Edit ∷ Beat ∷ Summarize ∷ Show ∷ []
+    Send ∷ Collect ∷ Close ∷ Scribe ∷ Checkpoint ∷ Restart ∷ Reopen ∷ Sweep ∷ Count ∷ Tasks ∷ Load ∷ Pump ∷ Edit ∷ Beat ∷ Summarize ∷ Show ∷ []

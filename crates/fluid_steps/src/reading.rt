@@ -121,6 +121,7 @@ fn read_form(alloc: Global, word: StepWord, rest: &str) -> Result<Option<Step>, 
         StepWord::Checkpoint => Ok(document_name(alloc, rest)?.map(Step::Checkpoint)),
         StepWord::Reopen => Ok(document_name(alloc, rest)?.map(Step::Reopen)),
         StepWord::Count => Ok(document_name(alloc, rest)?.map(Step::Count)),
+        StepWord::Tasks => Ok(document_name(alloc, rest)?.map(Step::Tasks)),
     }
 }
 

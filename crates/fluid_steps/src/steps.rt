@@ -26,6 +26,8 @@ pub enum Step {
     Sweep(DocName, u64),
     /// How many entries a document has, and what numbers.
     Count(DocName),
+    /// What the messages of a document make of its queues and tasks.
+    Tasks(DocName),
     /// A container of a new name joins a document and is loaded.
     Load(ScriptName, DocName, Pick),
     /// A container takes in the messages up to the last.
@@ -53,6 +55,7 @@ pub enum StepWord {
     Reopen,
     Sweep,
     Count,
+    Tasks,
     Load,
     Pump,
     Edit,
@@ -62,7 +65,7 @@ pub enum StepWord {
 }
 
 impl StepWord {
-    pub const ALL: [StepWord; 15] = [
+    pub const ALL: [StepWord; 16] = [
         StepWord::Send,
         StepWord::Collect,
         StepWord::Close,
@@ -72,6 +75,7 @@ impl StepWord {
         StepWord::Reopen,
         StepWord::Sweep,
         StepWord::Count,
+        StepWord::Tasks,
         StepWord::Load,
         StepWord::Pump,
         StepWord::Edit,
@@ -97,6 +101,7 @@ impl Word for StepWord {
             StepWord::Reopen => "reopen",
             StepWord::Sweep => "sweep",
             StepWord::Count => "count",
+            StepWord::Tasks => "tasks",
             StepWord::Load => "load",
             StepWord::Pump => "pump",
             StepWord::Edit => "edit",

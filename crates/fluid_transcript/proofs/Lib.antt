@@ -2,6 +2,7 @@ mod Computed
 mod LinesComputed
 mod OneLine
 mod ScriptComputed
+mod TasksComputed
 mod Growing
 mod Rowed
 mod Leaving

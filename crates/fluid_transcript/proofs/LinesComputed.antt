@@ -44,7 +44,7 @@ refusals = record { empty_line = refl; step = refl; form = refl; no_container = 
 
 pub beyond : Beyond
 unfolding past.membership past.tail past.last_number past.is_nacked past.latest_taken past.reference_from past.heard past.put_id past.ever_joined past.joined past.entered_at past.minimum past.reference order seq past_of is_joined last_number is_nacked reference scopes heard joined minimum last_minimum lifted unsettled message nack submission_verdict verdict ledger counted unanswered acks acks_behind ack_of code_of kind_of kind_name rule_text name_of digits contents_of connected_rows error_rows reply_items escape_byte encode_with batches summary_rule
-beyond = record { count = refl; sweep = refl; load = refl }
+beyond = record { count = refl; sweep = refl; tasks = refl; load = refl }
 
 pub first_use : FirstUse
 unfolding past.membership past.tail past.last_number past.is_nacked past.latest_taken past.reference_from past.heard past.put_id past.ever_joined past.joined past.entered_at past.minimum past.reference order seq past_of is_joined last_number is_nacked reference scopes heard joined minimum last_minimum lifted unsettled message nack submission_verdict verdict ledger counted unanswered acks acks_behind ack_of code_of kind_of kind_name rule_text name_of digits contents_of connected_rows error_rows reply_items escape_byte encode_with batches summary_rule is_name is_script_name

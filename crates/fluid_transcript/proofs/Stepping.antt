@@ -15,7 +15,7 @@ use Rattle.fluid_types.specs.Ledger.{order}
 use Rattle.fluid_lane.specs.Laws.{first_silent_in}
 use Rattle.fluid_steps.specs.Grammar.{step_spelled}
 use Rattle.fluid_steps.specs.declared.steps.Step.{Step}
-use Rattle.fluid_steps.specs.declared.steps.Step.TheVariants.{Send, Collect, Close, Scribe, Checkpoint, Restart, Reopen, Sweep, Count, Load, Pump, Edit, Beat, Summarize, Show}
+use Rattle.fluid_steps.specs.declared.steps.Step.TheVariants.{Send, Collect, Close, Scribe, Checkpoint, Restart, Reopen, Sweep, Count, Tasks, Load, Pump, Edit, Beat, Summarize, Show}
 use Rattle.fluid_steps.specs.declared.refusal.LineWhy.{LineWhy}
 use Rattle.fluid_voice.specs.declared.refusals.ConnectRefusal.TheVariants.{TooManyDocuments}
 use Rattle.fluid_voice.specs.Ends.{is_beyond}
@@ -23,7 +23,7 @@ use Rattle.fluid_voice.specs.Heard.{acts_of}
 use Rattle.fluid_voice.specs.States as states
 use Rattle.fluid_transcript.specs.World.{Document, Container, Name, connection, container, used_up, World, new_document, first_world, document, is_open, ledger_of, with_entries, farewells, Effect, says, changed, does}
 use Rattle.fluid_transcript.specs.Connections.{voice_named, connects, sent_to}
-use Rattle.fluid_transcript.specs.Documents.{restarted, reopened, counted_up}
+use Rattle.fluid_transcript.specs.Documents.{restarted, reopened, counted_up, told_tasks}
 use Rattle.fluid_transcript.specs.Lines.{turned_away_line}
 use Rattle.fluid_transcript.specs.Steps.{container_in, container_of, refusal_to_send, refusal_as_connection, refusal_as_container, refusal_as_new, refusal_of_edit, refusal, container_document, about, on_container, edit_effect, effect, beyond}
 use Rattle.fluid_transcript.specs.Transcript.{readied, done_in, done_on, done, at_line, done_as, taken, refused_as, end_effect, loaded_last}
@@ -77,6 +77,7 @@ module _ (limits : Limits) (w : World) (d : Document) (sound : IsSound w) where
   step_fits (Reopen name) ok found = plain w (Some name) (reopened w d name) refl (keeps_self w.store)
   step_fits (Sweep name silence) ok found = sweep_fits w (Some name) name (first_silent_in w.moment silence (ledger_of d))
   step_fits (Count name) ok found = plain w (Some name) (counted_up w d name) refl (keeps_self w.store)
+  step_fits (Tasks name) ok found = plain w (Some name) (told_tasks w d name) refl (keeps_self w.store)
   step_fits (Load p name pick) ok found = load_fits w d p name ok found limits pick
   step_fits (Pump p) ok found = contained p _ ok (λ k there found. pump_fits w p k sound there d found) found
   step_fits (Edit p op) ok found = contained p _ (edit_ok op _ ok) (λ k there found. edits p op k there) found
@@ -100,6 +101,7 @@ module _ (limits : Limits) (w : World) (name : List ℕ) (sound : IsSound w) (fu
   beyond_fits (Reopen other) is ok = plain w None _ refl (keeps_self w.store)
   beyond_fits (Sweep other silence) is ok = plain w None _ refl (keeps_self w.store)
   beyond_fits (Count other) is ok = plain w None _ refl (keeps_self w.store)
+  beyond_fits (Tasks other) is ok = plain w None _ refl (keeps_self w.store)
   beyond_fits (Load p other pick) is ok = used_fits w None _ p ok (keeps_self w.store) refl
   beyond_fits (Pump p) is ok = plain w None _ refl (keeps_self w.store)
   beyond_fits (Edit p op) is ok = plain w None _ refl (keeps_self w.store)
@@ -119,6 +121,7 @@ same_about a b names moment (Restart name checkpoint) = refl
 same_about a b names moment (Reopen name) = refl
 same_about a b names moment (Sweep name silence) = refl
 same_about a b names moment (Count name) = refl
+same_about a b names moment (Tasks name) = refl
 same_about a b names moment (Load p name pick) = refl
 same_about a b names moment (Pump p) = ap (λ n. option_and_then (λ k. Some k.document) (container_in (get n p))) names
 same_about a b names moment (Edit p op) = ap (λ n. option_and_then (λ k. Some k.document) (container_in (get n p))) names
@@ -136,6 +139,7 @@ same_refusal a b names (Restart name checkpoint) = refl
 same_refusal a b names (Reopen name) = refl
 same_refusal a b names (Sweep name silence) = refl
 same_refusal a b names (Count name) = refl
+same_refusal a b names (Tasks name) = refl
 same_refusal a b names (Load p name pick) = ap (λ n. refusal_as_new (get n p)) names
 same_refusal a b names (Pump p) = ap (λ n. refusal_as_container (get n p)) names
 same_refusal a b names (Edit p op) = ap (λ n. refusal_of_edit op (refusal_as_container (get n p))) names

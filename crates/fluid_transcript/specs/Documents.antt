@@ -1,4 +1,4 @@
--- The steps of a document: `scribe`, `checkpoint`, `restart`, `reopen`, `sweep` and `count`.
+-- The steps of a document: `scribe`, `checkpoint`, `restart`, `reopen`, `sweep`, `count` and `tasks`.
 use Rattle.std.specs.Prelude.{ℕ, nat_le, nat_lt, Bool, false, ◌&&◌, List, [], ◌∷◌, ◌++◌, length, codes, Option, Some, None, if◌then◌else◌}
 use Rattle.std.specs.Option.{option_map_or}
 use Rattle.fluid_types.specs.declared.entries.Raw.TheVariants.{Leave, Report}
@@ -20,7 +20,7 @@ use Rattle.fluid_document.specs.Entries.{entries_of}
 use Rattle.fluid_document.specs.Kept.{checkpoint_text}
 use Rattle.fluid_lane.specs.Laws.{first_silent_in}
 use Rattle.fluid_transcript.specs.World.{Document, World, ledger_of, with_entries, farewells, Effect, says}
-use Rattle.fluid_transcript.specs.Lines.{idle_line, answer_line, scribe_clash_line, stored_line, full_line, large_line, restarted_line, no_checkpoint_line, reopened_line, swept_line, nobody_swept_line, count_line}
+use Rattle.fluid_transcript.specs.Lines.{idle_line, answer_line, scribe_clash_line, stored_line, full_line, large_line, restarted_line, no_checkpoint_line, reopened_line, swept_line, nobody_swept_line, count_line, tasks_line}
 
 -- ---- scribe
 
@@ -84,7 +84,7 @@ restarted w d name checkpoint =
     else restarted_line name checkpoint (ledger_of d))
     ∷ [])
 
--- ---- reopen, sweep, count
+-- ---- reopen, sweep, count, tasks
 
 -- all that are joined leave
 abbrev pub reopened : World → Document → (name : List ℕ) → Effect
@@ -101,3 +101,7 @@ swept w d name silence = swept_by w name (first_silent_in w.moment silence (ledg
 
 abbrev pub counted_up : World → Document → (name : List ℕ) → Effect
 counted_up w d name = says w (count_line name (ledger_of d) ∷ [])
+
+-- the queues and tasks of its messages
+abbrev pub told_tasks : World → Document → (name : List ℕ) → Effect
+told_tasks w d name = says w (tasks_line name (ledger_of d) ∷ [])

@@ -10,3 +10,4 @@ pub mod Laws
 pub mod Examples
 pub mod LineExamples
 pub mod ScriptExamples
+pub mod TaskExamples

@@ -12,7 +12,7 @@ use Rattle.fluid_edits.specs.declared.edit.ChannelKind.TheVariants.{Map, Counter
 use Rattle.fluid_edits.specs.Replay.{no_channels}
 use Rattle.fluid_loader.specs.Submitting.{numbered}
 use Rattle.fluid_steps.specs.declared.refusal.LineWhy.TheVariants.{UnknownStep, BadStep, NameInUse, UnknownName}
-use Rattle.fluid_steps.specs.declared.steps.Step.TheVariants.{Count, Load, Sweep}
+use Rattle.fluid_steps.specs.declared.steps.Step.TheVariants.{Count, Load, Sweep, Tasks}
 use Rattle.fluid_loader.specs.declared.link.Pick.TheVariants as pick
 use Rattle.fluid_voice.specs.declared.actions.Act.TheVariants as act
 use Rattle.fluid_voice.specs.declared.states.VoiceState.TheVariants.{Fresh, Reading, Writing}
@@ -120,6 +120,7 @@ pub record Refusals : Type 0 where
 pub record Beyond : Type 0 where
   pub count : (beyond few nothing d (Count d)).lines ≡ codes "d refused 429: too many documents" ∷ []
   pub sweep : (beyond few nothing d (Sweep d 0)).lines ≡ codes "d refused 429: too many documents" ∷ []
+  pub tasks : (beyond few nothing d (Tasks d)).lines ≡ codes "d refused 429: too many documents" ∷ []
   pub load : (beyond few nothing d (Load (codes "p") d pick.Empty)).lines ≡ codes "p refused 429: too many documents" ∷ []
 
 -- the first use of a document

@@ -3,7 +3,7 @@ use Rattle.std.specs.Prelude.{ℕ, List, ◌++◌, length, codes, decimal}
 use Rattle.hex.specs.Hex.{encode_lower}
 use Rattle.fluid_json.specs.Tree.{Tree}
 use Rattle.fluid_json.specs.Printed.{printed}
-use Rattle.fluid_types.specs.Ledger.{Ledger, seq}
+use Rattle.fluid_types.specs.Ledger.{Ledger, order, seq}
 use Rattle.fluid_types.specs.Texts.{kind_of, code_of, rule_text}
 use Rattle.fluid_types.specs.declared.nacks.NackRule.{NackRule}
 use Rattle.fluid_rules.specs.Rules.{minimum}
@@ -12,6 +12,8 @@ use Rattle.fluid_rules.specs.declared.answers.Answer.{Answer}
 use Rattle.fluid_rules.specs.declared.answers.Answer.TheVariants.{Dropped, Ack, Refused}
 use Rattle.fluid_codec.specs.Replies.{reply_printed}
 use Rattle.fluid_codec.specs.declared.replies.Reply.{Reply}
+use Rattle.fluid_tasks.specs.Past as tasks
+use Rattle.fluid_tasks.specs.Printed.{print}
 use Rattle.fluid_runtime.specs.declared.fault.EditFault.{EditFault}
 use Rattle.fluid_runtime.specs.declared.fault.EditFault.TheVariants.{NoChannel, WrongKind, OutOfRange, Exists, NoMemory}
 use Rattle.fluid_voice.specs.Refusals.{refusal_code, refusal_text}
@@ -97,6 +99,10 @@ nobody_swept_line d = of_name d (codes "swept none")
 
 abbrev pub count_line : List ℕ → Ledger → List ℕ
 count_line d l = of_name d (numbers l)
+
+-- tasks at S: what the messages make of queues and tasks
+abbrev pub tasks_line : List ℕ → Ledger → List ℕ
+tasks_line d l = of_name d (codes "tasks at " ++ (decimal (seq l) ++ (codes ": " ++ print (tasks.past_of (order l)))))
 
 -- ---- containers
 

@@ -5,7 +5,7 @@ use Rattle.fluid_json.specs.declared.fault.JsonFault.{JsonFault}
 use Rattle.fluid_edits.specs.declared.edit.Edit.{Edit as AnEdit}
 use Rattle.fluid_rules.specs.declared.limits.Limits.{Limits}
 use Rattle.fluid_steps.specs.declared.steps.Step.{Step}
-use Rattle.fluid_steps.specs.declared.steps.Step.TheVariants.{Send, Collect, Close, Scribe, Checkpoint, Restart, Reopen, Sweep, Count, Load, Pump, Edit, Beat, Summarize, Show}
+use Rattle.fluid_steps.specs.declared.steps.Step.TheVariants.{Send, Collect, Close, Scribe, Checkpoint, Restart, Reopen, Sweep, Count, Tasks, Load, Pump, Edit, Beat, Summarize, Show}
 use Rattle.fluid_steps.specs.declared.refusal.LineWhy.{LineWhy}
 use Rattle.fluid_steps.specs.declared.refusal.LineWhy.TheVariants.{NameInUse, UnknownName, Json}
 use Rattle.fluid_voice.specs.declared.refusals.ConnectRefusal.TheVariants.{TooManyDocuments}
@@ -13,7 +13,7 @@ use Rattle.fluid_voice.specs.States as states
 use Rattle.fluid_transcript.specs.World.{Document, new_document, Container, Name, connection, container, used_up, World, Effect, says}
 use Rattle.fluid_transcript.specs.Lines.{turned_away_line}
 use Rattle.fluid_transcript.specs.Connections.{voice_of, sent, sent_to, collected, closed}
-use Rattle.fluid_transcript.specs.Documents.{scribed, checkpointed, restarted, reopened, swept, counted_up}
+use Rattle.fluid_transcript.specs.Documents.{scribed, checkpointed, restarted, reopened, swept, counted_up, told_tasks}
 use Rattle.fluid_transcript.specs.Containers.{load, load_beyond, pumped, edited, beaten, summarized, showing}
 
 -- ---- names
@@ -71,6 +71,7 @@ refusal w (Restart name checkpoint) = None
 refusal w (Reopen name) = None
 refusal w (Sweep name silence) = None
 refusal w (Count name) = None
+refusal w (Tasks name) = None
 refusal w (Load p name pick) = refusal_as_new (get w.names p)
 refusal w (Pump p) = refusal_as_container (get w.names p)
 refusal w (Edit p op) = refusal_of_edit op (refusal_as_container (get w.names p))
@@ -94,6 +95,7 @@ about w (Restart name checkpoint) = Some name
 about w (Reopen name) = Some name
 about w (Sweep name silence) = Some name
 about w (Count name) = Some name
+about w (Tasks name) = Some name
 about w (Load p name pick) = Some name
 about w (Pump p) = container_document w p
 about w (Edit p op) = container_document w p
@@ -123,6 +125,7 @@ effect limits w d (Restart name checkpoint) = restarted w d name checkpoint
 effect limits w d (Reopen name) = reopened w d name
 effect limits w d (Sweep name silence) = swept w d name silence
 effect limits w d (Count name) = counted_up w d name
+effect limits w d (Tasks name) = told_tasks w d name
 effect limits w d (Load p name pick) = load limits w d p name pick
 effect limits w d (Pump p) = on_container w (container_of w p) (pumped w d p)
 effect limits w d (Edit p op) = on_container w (container_of w p) (edit_effect limits w d p op)

@@ -2,6 +2,9 @@
 ghost use Rattle.fluid_transcript.specs.Examples.{NewDocument, TwoClients, Sweeps, Loads, GoesOn};
 ghost use Rattle.fluid_transcript.specs.LineExamples.{Forms, Hears, Collects, Edits, Refusals, Beyond, FirstUse};
 ghost use Rattle.fluid_transcript.specs.ScriptExamples.{SweepScript, ReopenScript, Last, Closes, LoadNames, Again, Pumps, Stores, Summarizes, Scribes};
+ghost use Rattle.fluid_transcript.specs.TaskExamples.{Items, Volunteers};
+
+use fluid_tasks::examples::two_items;
 
 /// The steps of a document that is new.
 pub fn new_document()
@@ -76,3 +79,12 @@ pub fn putting()
     ensures summarizes { Summarizes }
     ensures scribes { Scribes }
 {}
+
+/// Queues and tasks, as the messages of a document make them.
+pub fn queues_and_tasks()
+    ensures items { Items }
+    ensures volunteers { Volunteers }
+{
+    // (an order that was worked out, and no work: its clause is for the proof)
+    two_items();
+}

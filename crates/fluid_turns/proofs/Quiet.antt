@@ -27,7 +27,7 @@ use Rattle.fluid_codec.specs.declared.events.Event.TheVariants as heard
 use Rattle.fluid_scribe.specs.declared.job.Job.{Job}
 use Rattle.fluid_store.specs.Putting.{Putting, Clashing, putting}
 use Rattle.fluid_steps.specs.declared.steps.Step.{Step}
-use Rattle.fluid_steps.specs.declared.steps.Step.TheVariants.{Send, Collect, Close, Scribe, Checkpoint, Restart, Reopen, Sweep, Count, Load, Pump, Edit, Beat, Summarize, Show}
+use Rattle.fluid_steps.specs.declared.steps.Step.TheVariants.{Send, Collect, Close, Scribe, Checkpoint, Restart, Reopen, Sweep, Count, Tasks, Load, Pump, Edit, Beat, Summarize, Show}
 use Rattle.fluid_steps.specs.declared.refusal.LineWhy.{LineWhy}
 use Rattle.fluid_voice.specs.declared.states.VoiceState.{VoiceState}
 use Rattle.fluid_voice.specs.declared.actions.Act.{Act}
@@ -276,6 +276,7 @@ quiet_entries limits (Close c) is r d = absurd is
 quiet_entries limits (Reopen name) is r d = absurd is
 quiet_entries limits (Sweep name silence) is r d = absurd is
 quiet_entries limits (Count name) is r d = absurd is
+quiet_entries limits (Tasks name) is r d = absurd is
 quiet_entries limits (Edit p op) is r d = absurd is
 quiet_entries limits (Beat p) is r d = absurd is
 quiet_entries limits (Summarize p) is r d = absurd is

@@ -11,7 +11,7 @@ use Rattle.fluid_lane.specs.Standing.{Standing}
 use Rattle.fluid_lanes.specs.Opened.{Opened}
 use Rattle.fluid_loader.specs.Laws.{StayBased}
 use Rattle.fluid_steps.specs.declared.steps.Step.{Step}
-use Rattle.fluid_steps.specs.declared.steps.Step.TheVariants.{Send, Collect, Close, Scribe, Checkpoint, Restart, Reopen, Sweep, Count, Load, Pump, Edit, Beat, Summarize, Show}
+use Rattle.fluid_steps.specs.declared.steps.Step.TheVariants.{Send, Collect, Close, Scribe, Checkpoint, Restart, Reopen, Sweep, Count, Tasks, Load, Pump, Edit, Beat, Summarize, Show}
 use Rattle.fluid_transcript.specs.World.{Document, Container, Name, connection, container, used_up, World, document, is_open}
 use Rattle.fluid_transcript.specs.Sound.{ledger_in, IsSoundName, IsSound}
 use Rattle.fluid_transcript.specs.Steps.{refusal_to_send, refusal_as_connection, refusal_as_container, refusal_as_new, refusal_of_edit, refusal}
@@ -112,6 +112,7 @@ same_refusal names w named (Restart name checkpoint) = refl
 same_refusal names w named (Reopen name) = refl
 same_refusal names w named (Sweep name silence) = refl
 same_refusal names w named (Count name) = refl
+same_refusal names w named (Tasks name) = refl
 same_refusal names w named (Load p name pick) = as_new w (get names p) (get w.names p) (named p)
 same_refusal names w named (Pump p) = as_container w (get names p) (get w.names p) (named p)
 same_refusal names w named (Edit p op) = ap (refusal_of_edit op) (as_container w (get names p) (get w.names p) (named p))

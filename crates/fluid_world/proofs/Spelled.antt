@@ -56,6 +56,7 @@ module _ (ops : OpsAreShort) where
   forms word.Reopen rest few = mapped step.Reopen (document_name rest) (λ name. tt)
   forms word.Sweep rest few = bound (cut rest) _ (λ parts is. bound (document_name parts.0) _ (λ name named. bound (number parts.1) _ (λ n numbered. tt)))
   forms word.Count rest few = mapped step.Count (document_name rest) (λ name. tt)
+  forms word.Tasks rest few = mapped step.Tasks (document_name rest) (λ name. tt)
   forms word.Load rest few =
       bound (cut rest) _ (λ parts is. bound (cut parts.1) _ (λ others was. bound (script_name parts.0) _ (λ name named. bound (document_name others.0) _ (λ d document. bound (pick others.1) _ (λ p picked. tt)))))
   forms word.Pump rest few = mapped step.Pump (script_name rest) (λ name. tt)

@@ -4,7 +4,7 @@ use Rattle.std.specs.FinMap.{get}
 use Rattle.fluid_table.specs.Table.{Values}
 use Rattle.fluid_readback.specs.Laws.{longest_text}
 use Rattle.fluid_steps.specs.declared.steps.Step.{Step}
-use Rattle.fluid_steps.specs.declared.steps.Step.TheVariants.{Send, Collect, Close, Scribe, Checkpoint, Restart, Reopen, Sweep, Count, Load, Pump, Edit, Beat, Summarize, Show}
+use Rattle.fluid_steps.specs.declared.steps.Step.TheVariants.{Send, Collect, Close, Scribe, Checkpoint, Restart, Reopen, Sweep, Count, Tasks, Load, Pump, Edit, Beat, Summarize, Show}
 use Rattle.fluid_steps.specs.declared.refusal.LineWhy.{LineWhy}
 use Rattle.fluid_steps.specs.declared.refusal.LineWhy.TheVariants.{NameInUse, UnknownName}
 use Rattle.fluid_transcript.specs.Steps.{refusal_of_edit}
@@ -54,6 +54,7 @@ refusal_by names (Restart name checkpoint) = None
 refusal_by names (Reopen name) = None
 refusal_by names (Sweep name silence) = None
 refusal_by names (Count name) = None
+refusal_by names (Tasks name) = None
 refusal_by names (Load p name pick) = new_refusal (get names p)
 refusal_by names (Pump p) = container_refusal (get names p)
 refusal_by names (Edit p op) = refusal_of_edit op (container_refusal (get names p))

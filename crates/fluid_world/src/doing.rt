@@ -17,7 +17,7 @@ use crate::holding::{beat_as, edit_as, load_as, pump_as, show_as, summarize_as};
 use crate::lines::one;
 use crate::names::Names;
 use fluid_beside::steps_leave_others;
-use fluid_callers::Written;
+use fluid_callers::{Written, tasks};
 use fluid_desk::{Stop, checkpoint, count, reopen, restart, scribe, sweep};
 use fluid_door_link::ToldObjects;
 use fluid_holding::others_leave_containers;
@@ -44,6 +44,7 @@ pub fn refusal(names: &Names, step: &Step) -> Option<LineWhy>
         Step::Reopen(_) => None,
         Step::Sweep(_, _) => None,
         Step::Count(_) => None,
+        Step::Tasks(_) => None,
         Step::Load(name, _, _) => names.refusal_as_new(name),
         Step::Pump(name) => names.refusal_as_container(name),
         Step::Edit(name, op) => refusal_of_edit(op, names.refusal_as_container(name)),
@@ -107,6 +108,7 @@ where
         Step::Reopen(name) => one(alloc, reopen(alloc, lanes, &name, moment)),
         Step::Sweep(name, silence) => one(alloc, sweep(alloc, lanes, &name, silence, moment)),
         Step::Count(name) => one(alloc, count(alloc, lanes, &name, moment)),
+        Step::Tasks(name) => one(alloc, tasks(alloc, lanes, &name, moment)),
         Step::Load(name, document, pick) => {
             load_as(alloc, lanes, objects, names, name, &document, &pick, moment)
         }

@@ -1,17 +1,16 @@
 -- How many clients and ops the words can ask for.
-use Rattle.std.proofs.Common.{◌≡◌, ◌⊎◌, ℕ, ◌≤◌, Bool, true, false, List, [], ◌∷◌, Option, Some, None, Result, Ok, Err, codes, refl, sym, subst}
+use Rattle.std.proofs.Common.{◌≡◌, ℕ, Bool, true, false, List, [], ◌∷◌, Option, Some, None, codes, refl, subst}
 use Rattle.std.proofs.lemmas.Bool.{and_parts, leb-true}
 use Rattle.std.specs.Prelude.{IfSome, if◌then◌else◌, option_and_then, option_map, nat_le, ◌&&◌}
 use Rattle.clap.specs.Walk.{Row, Text, first_of}
 use Rattle.fluid_types.specs.Names.{is_name}
 use Rattle.fluid_words.specs.Numbers.{within, number_in}
 use Rattle.fluid_words.specs.Found.{found}
-use Rattle.fluid_words.specs.Words.{sequence, script, load, workload, serve, number_of, load_of, load_by, workload_by, serve_by, is_flagged, named, behind, is_word, spelled, or_usage, command_of}
+use Rattle.fluid_words.specs.Words.{sequence, script, load, workload, serve, number_of, load_of, load_by, workload_by, serve_by, is_flagged, behind, is_word, spelled, or_usage}
 use Rattle.fluid_words.specs.declared.command.Command.{Command}
 use Rattle.fluid_words.specs.declared.command.Command.TheVariants as a
 use Rattle.fluid_words.specs.declared.command.CommandName.{CommandName}
 use Rattle.fluid_words.specs.declared.command.CommandName.TheVariants as name
-use Rattle.fluid_words.specs.declared.command.WordsFault.{WordsFault}
 use Rattle.fluidd.specs.Workloads.{IsBetween}
 use Rattle.fluidd.specs.Tasks.{Task, Doing, task_by, task_for, task_of}
 

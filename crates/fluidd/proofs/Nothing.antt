@@ -1,16 +1,16 @@
 -- Shelves and a store into which nothing was put.
-use Rattle.std.proofs.Common.{◌≡◌, ℕ, List, [], ◌∷◌, length, Option, Some, None, refl, sym, ap, subst, ◌∙◌, arith, bytes_eq}
+use Rattle.std.proofs.Common.{◌≡◌, ℕ, List, [], ◌∷◌, length, Option, Some, None, refl, sym, ap, subst, ◌∙◌, arith}
 use Rattle.std.specs.Prelude.{unwrap_or}
 use Rattle.std.specs.FinMap.{FinMap, empty, entries, from_sorted, get, get-empty, len-entries, len-empty}
 use Rattle.fluid_table.specs.Table.{byte_order}
 use Rattle.fluid_table.proofs.Maps.{from_sorted_nothing}
 use Rattle.fluid_log.specs.Keeping.{Keeping, nothing_kept}
 use Rattle.fluid_log.specs.Shelving.{fresh, keeper_under}
-use Rattle.fluid_log.specs.Places.{Places, keeper_in, shelves_seen, entries_where, values_where}
-use Rattle.fluid_store.specs.Held.{Held, IsShort}
+use Rattle.fluid_log.specs.Places.{Places, keeper_in, entries_where, values_where}
+use Rattle.fluid_store.specs.Held.{IsShort}
 use Rattle.fluid_rules.specs.Rules.{ledger}
 use Rattle.fluid_doors.specs.Laws.{NewIsKept}
-use Rattle.fluid_transcript.specs.World.{Document, new_document, document, first_world}
+use Rattle.fluid_transcript.specs.World.{new_document, document, first_world}
 use Rattle.fluid_desk.specs.Stands.{IsKeeperOf}
 use Rattle.fluid_holding.specs.Holding.{HoldsOwn}
 

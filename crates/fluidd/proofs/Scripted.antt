@@ -5,9 +5,8 @@ use Rattle.std.specs.Str.Lines.{lines}
 use Rattle.fluid_io.specs.Causes.{Rose}
 use Rattle.fluid_io.specs.declared.faults.FaultNote.{FaultNote}
 use Rattle.fluid_log.specs.Shelving.{AreWhole}
-use Rattle.fluid_lane.specs.declared.fault.LaneFault.TheVariants.{Worn}
 use Rattle.fluid_pipe.specs.Meaning.{Meaning, Accepts}
-use Rattle.fluid_pipe.specs.Output.{HasRefused, IsWhole, IsRefused, IsRefusedFor, IsBegun, NoFault, ReadFailed, Wrote}
+use Rattle.fluid_pipe.specs.Output.{HasRefused, IsRefused, IsRefusedFor, IsBegun, ReadFailed, Wrote}
 use Rattle.fluid_pipe.specs.declared.refusal.Refusal.{Refusal}
 use Rattle.fluid_pipe.proofs.Advances.{appends-none}
 use Rattle.fluid_pipe.proofs.Refused.{not_both, wrote-whole, wrote-refused}
@@ -16,13 +15,12 @@ use Rattle.fluid_store.specs.Storing.{Storing}
 use Rattle.fluid_steps.specs.declared.refusal.LineWhy.{LineWhy}
 use Rattle.fluid_transcript.specs.World.{World}
 use Rattle.fluid_desk.specs.declared.stop.StoredFault.{StoredFault}
-use Rattle.fluid_desk.specs.declared.stop.StoredFault.TheVariants.{Lane}
 use Rattle.fluid_world.specs.Taking.{means}
-use Rattle.fluid_world.specs.Ending.{full, Outside, IsQuiet, IsRefusedBy, HasCause, DoesAll, DidRefuse, WasBegun, WasCut, Writes, IsWholeWith}
+use Rattle.fluid_world.specs.Ending.{full, Outside, IsQuiet, IsRefusedBy, HasCause, DoesAll, DidRefuse, Writes, IsWholeWith}
 use Rattle.fluid_world.specs.declared.ends.ScriptEnd.{ScriptEnd}
 use Rattle.fluid_world.specs.declared.ends.ScriptEnd.TheVariants as end
 use Rattle.fluidd.specs.Output.{code_of}
-use Rattle.fluidd.specs.Scripts.{script_status, IsScriptStatus, NoneRose, FallsShort, WritesAs, Scripts}
+use Rattle.fluidd.specs.Scripts.{script_status, IsScriptStatus, WritesAs, Scripts}
 
 none_of : (status : ℕ) → (status ≡ 6 → ⊥) → (status ≡ 7 → ⊥) → (status ≡ 8 → ⊥) → (status ≡ 11 → ⊥) → (status ≡ 6) ⊎ ((status ≡ 7) ⊎ ((status ≡ 8) ⊎ (status ≡ 11))) → ⊥
 none_of status a b c d (inl h) = a h

@@ -1,6 +1,5 @@
 -- How `serve` ends, read off its status, and that it is what the words ask for.
-use Rattle.std.proofs.Common.{◌≡◌, ◌≤◌, ℕ, Bool, true, false, List, Option, Some, None, inl, inr, refl, sym, ap, subst, ◌∙◌, arith}
-use Rattle.fluid_words.specs.declared.command.Command.{Command}
+use Rattle.std.proofs.Common.{◌≡◌, ℕ, Bool, true, false, List, Option, Some, None, inl, inr, refl, sym, ap, subst, ◌∙◌, arith}
 use Rattle.fluid_words.specs.declared.command.Command.TheVariants.{Sequence, Script, Load, Workload, Serve, Help, Version}
 use Rattle.fluid_front.specs.Fronts.{Fronting}
 use Rattle.fluid_front.specs.Serving.{Serves, Refuses}
@@ -10,7 +9,7 @@ use Rattle.fluidd.specs.declared.task.Task.{Task as Taken}
 use Rattle.fluidd.specs.declared.task.Task.TheVariants as taken
 use Rattle.fluidd.specs.Output.{code_of}
 use Rattle.fluidd.specs.Served.{ServesConnections, served_status}
-use Rattle.fluidd.specs.Tasks.{Task, Doing, Showing, Usage, IsTask, IsServing, scripting, IsScripting, IsReading, IsWorking, UsesDesk}
+use Rattle.fluidd.specs.Tasks.{Task, Doing, Showing, Usage, IsTask, scripting, IsScripting, IsReading, IsWorking, UsesDesk}
 
 -- ---- statuses
 

@@ -1,6 +1,6 @@
 -- How many entries the documents of a script come to: of those that count no more than may be entered, and of the others a bound for
 -- each line.
-use Rattle.std.proofs.Common.{◌≡◌, ℕ, ◌+◌, ◌*◌, ◌≤◌, ◌==◌, Bool, true, false, cond, if◌then◌else◌, List, [], ◌∷◌, ◌++◌, length, map, Option, Some, None, is_some, Result, Ok, Err, bytes_eq, not, arith, refl, sym, ap, subst, ◌∙◌}
+use Rattle.std.proofs.Common.{◌≡◌, ℕ, ◌+◌, ◌≤◌, ◌==◌, Bool, true, false, cond, if◌then◌else◌, List, [], ◌∷◌, ◌++◌, length, map, Option, Some, None, is_some, Result, Ok, Err, bytes_eq, not, arith, refl, sym, subst, ◌∙◌}
 use Rattle.std.specs.Prelude.{unwrap_or, option_map, is_ok}
 use Rattle.std.specs.Option.{option_to_list}
 use Rattle.std.specs.FinMap.{FinMap, get, insert}
@@ -12,10 +12,10 @@ use Rattle.fluid_json.specs.Tree.{Tree, null}
 use Rattle.fluid_json.specs.declared.fault.JsonFault.{JsonFault}
 use Rattle.fluid_table.specs.Table.{byte_order}
 use Rattle.fluid_types.specs.Forms.{Read}
-use Rattle.fluid_types.specs.Ledger.{Ledger, order}
+use Rattle.fluid_types.specs.Ledger.{order}
 use Rattle.fluid_types.specs.Names.{entry_name}
 use Rattle.fluid_types.specs.declared.entries.Raw.{Raw}
-use Rattle.fluid_types.specs.declared.entries.Raw.TheVariants.{Join, Leave, Submit, Report}
+use Rattle.fluid_types.specs.declared.entries.Raw.TheVariants.{Leave, Report}
 use Rattle.fluid_types.specs.declared.entries.Scopes.{Scopes}
 use Rattle.fluid_types.specs.declared.entries.Submission.{Submission}
 use Rattle.fluid_types.specs.declared.entries.Offered.TheVariants.{Op, Noop, Summarize}
@@ -30,7 +30,6 @@ use Rattle.fluid_rules.specs.Rules.{verdict, ledger, joined}
 use Rattle.fluid_rules.specs.Counted.{is_counted, counted, is_full, has_too_many_clients}
 use Rattle.fluid_rules.specs.declared.limits.Limits.{Limits}
 use Rattle.fluid_edits.specs.declared.edit.Edit.{Edit as AnEdit}
-use Rattle.fluid_runtime.specs.Refused.{answer}
 use Rattle.fluid_runtime.specs.declared.fault.EditFault.{EditFault}
 use Rattle.fluid_scribe.specs.Jobs.{job}
 use Rattle.fluid_scribe.specs.declared.job.Job.{Job}
@@ -42,10 +41,9 @@ use Rattle.fluid_codec.specs.Events.{event_spelled}
 use Rattle.fluid_codec.specs.declared.events.Event.{Event}
 use Rattle.fluid_codec.specs.declared.events.Event.TheVariants as event
 use Rattle.fluid_codec.specs.declared.replies.Reply.TheVariants.{Stored}
-use Rattle.fluid_loader.specs.declared.link.Pick.{Pick}
 use Rattle.fluid_steps.specs.Grammar.{step_spelled}
 use Rattle.fluid_steps.specs.declared.steps.Step.{Step}
-use Rattle.fluid_steps.specs.declared.steps.Step.TheVariants.{Send, Collect, Close, Scribe, Checkpoint, Restart, Reopen, Sweep, Count, Load, Pump, Edit, Beat, Show}
+use Rattle.fluid_steps.specs.declared.steps.Step.TheVariants.{Send, Collect, Close, Scribe, Checkpoint, Restart, Reopen, Sweep, Count, Tasks, Load, Pump, Edit, Beat, Show}
 use Rattle.fluid_steps.specs.declared.steps.Step.TheVariants as step
 use Rattle.fluid_steps.specs.declared.refusal.LineWhy.{LineWhy}
 use Rattle.fluid_voice.specs.declared.states.VoiceState.{VoiceState}
@@ -57,7 +55,7 @@ use Rattle.fluid_voice.specs.declared.refusals.ConnectRefusal.TheVariants.{Alrea
 use Rattle.fluid_voice.specs.Refusals.{refused}
 use Rattle.fluid_voice.specs.States as states
 use Rattle.fluid_voice.specs.Heard.{acts_of, read_acts, event_acts, submission_acts, submit_acts, nacks, refuses}
-use Rattle.fluid_voice.specs.Ends.{Found, join_of, joined_by, connect_end, put_under, is_beyond}
+use Rattle.fluid_voice.specs.Ends.{join_of, joined_by, connect_end, put_under, is_beyond}
 use Rattle.fluid_voice.specs.Ends.Outcome.{ends, clashes}
 use Rattle.fluid_transcript.specs.World.{Document, Container, World, new_document, document, is_open, ledger_of, raws_added, with_entries, farewells, Effect, grown, changed, says, does}
 use Rattle.fluid_transcript.specs.Connections.{Hearing, found_by, behind_act, hear_act, hear, hearing, acts_for, voice_of}
@@ -66,7 +64,7 @@ use Rattle.fluid_transcript.specs.Containers.{channels, entry_of, join_for, join
 use Rattle.fluid_loader.specs.Submitting.{summarize_tree}
 use Rattle.fluid_transcript.specs.Lines.{turned_away_line, full_line, large_line, stored_line}
 use Rattle.fluid_transcript.specs.Steps.{container_of, about, on_container, edit_effect, effect, beyond}
-use Rattle.fluid_transcript.specs.Transcript.{readied, done_in, done_on, done, at_line, done_as, taken, behind, end_effect, loaded_last}
+use Rattle.fluid_transcript.specs.Transcript.{readied, done_in, done_on, at_line, done_as, taken, behind, end_effect, loaded_last}
 use Rattle.fluid_transcript.proofs.Sounds.{document_inserted}
 use Rattle.fluidd.proofs.Few.{joined_few, counts, counted_is}
 
@@ -352,6 +350,7 @@ module _ (limits : Limits) (w : World) (d : Document) (few : counts d.raws ≤ l
   step_adds (Reopen name) = leave limits.entries w.moment d few
   step_adds (Sweep name silence) = sweep_adds name (first_silent_in w.moment silence (ledger d.raws))
   step_adds (Count name) = none
+  step_adds (Tasks name) = none
   step_adds (Load p name pick) = join_adds
   step_adds (Pump p) = contained (container_of w p) _ (λ k. none)
   step_adds (Edit p op) = contained (container_of w p) _ (λ k. edits_add p op k)

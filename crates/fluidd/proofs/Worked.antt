@@ -1,15 +1,13 @@
 -- What the status of a workload says, read off its end.
-use Rattle.std.proofs.Common.{◌≡◌, ◌⊎◌, inl, inr, ℕ, ◌≤◌, Bool, true, false, List, [], ◌∷◌, Option, Some, None, Result, Ok, Err, bytes_eq, codes, refl, sym, ap, subst, ◌∙◌, arith}
-use Rattle.std.specs.Prelude.{IfSome, if◌then◌else◌, option_and_then, option_map}
+use Rattle.std.proofs.Common.{◌≡◌, ◌⊎◌, inl, inr, ℕ, ◌≤◌, Option, Some, None, refl, subst, arith}
+use Rattle.std.specs.Prelude.{IfSome}
 use Rattle.fluid_io.specs.Causes.{Rose}
 use Rattle.fluid_log.specs.Shelving.{AreWhole}
 use Rattle.fluid_store.specs.Keeping.{IsNoted}
 use Rattle.fluid_store.specs.Storing.{Storing}
 use Rattle.fluid_io.specs.declared.faults.FaultNote.{FaultNote}
-use Rattle.fluid_lane.specs.declared.fault.LaneFault.TheVariants.{Worn}
 use Rattle.fluid_transcript.specs.World.{World}
 use Rattle.fluid_desk.specs.declared.stop.StoredFault.{StoredFault}
-use Rattle.fluid_desk.specs.declared.stop.StoredFault.TheVariants.{Lane}
 use Rattle.fluid_world.specs.Ending.{full, Outside, IsQuiet, IsRefusedBy}
 use Rattle.fluid_world.specs.declared.ends.ScriptEnd.{ScriptEnd}
 use Rattle.fluid_world.specs.declared.ends.ScriptEnd.TheVariants as end

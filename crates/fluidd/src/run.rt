@@ -134,7 +134,8 @@ where
 }
 
 /// The same over a desk on which nothing is kept yet, which tells the first world: what `main` calls. Nothing that is stored is
-/// refused then, and no document comes to the end of its numbers: no command that uses the desk ends with 11.
+/// refused then: no command that uses the desk ends with 11, and in `script`, `load` and `workload` no document comes to the end of
+/// its numbers.
 pub fn run_first<R, S, K, B, O, C, F, P>(
     rt: &R,
     alloc: Global,

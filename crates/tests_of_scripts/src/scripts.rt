@@ -267,6 +267,55 @@ send w ["submitOp","c0",[{"clientSequenceNumber":1,"contents":{"handle":"20f87b5
 scribe d
 "#;
 
+// Two clients join, and each adds an item to a queue and is given one. The first item is given back, and the holder of the second
+// leaves; then the first is given again and done.
+const ITEMS: &str = r#"send a ["connect_document",{"id":"d","scopes":["doc:read","doc:write"]}]
+send b ["connect_document",{"id":"d","scopes":["doc:read","doc:write"]}]
+send a ["submitOp","c0",[{"clientSequenceNumber":1,"contents":{"type":"queue","name":"q","op":"add","value":"x"},"referenceSequenceNumber":2,"type":"op"}]]
+send b ["submitOp","c1",[{"clientSequenceNumber":1,"contents":{"type":"queue","name":"q","op":"add","value":"y"},"referenceSequenceNumber":2,"type":"op"}]]
+send b ["submitOp","c1",[{"clientSequenceNumber":2,"contents":{"type":"queue","name":"q","op":"acquire"},"referenceSequenceNumber":2,"type":"op"}]]
+send a ["submitOp","c0",[{"clientSequenceNumber":2,"contents":{"type":"queue","name":"q","op":"acquire"},"referenceSequenceNumber":2,"type":"op"}]]
+tasks d
+send b ["submitOp","c1",[{"clientSequenceNumber":3,"contents":{"type":"queue","name":"q","op":"release","item":3},"referenceSequenceNumber":2,"type":"op"}]]
+close a
+tasks d
+send b ["submitOp","c1",[{"clientSequenceNumber":4,"contents":{"type":"queue","name":"q","op":"acquire"},"referenceSequenceNumber":2,"type":"op"},{"clientSequenceNumber":5,"contents":{"type":"queue","name":"q","op":"complete","item":3},"referenceSequenceNumber":2,"type":"op"}]]
+tasks d
+"#;
+
+const ITEMS_SAY: &str =
+    r#"a < ["connect_document_success",{"checkpointSequenceNumber":0,"clientId":"c0","maxMessageSize":1048576,"mode":"write","version":"1"}]
+b < ["connect_document_success",{"checkpointSequenceNumber":1,"clientId":"c1","maxMessageSize":1048576,"mode":"write","version":"1"}]
+d tasks at 6: {"queues":{"q":{"free":[],"held":[{"by":"c1","item":3},{"by":"c0","item":4}]}},"tasks":{}}
+a closed
+d tasks at 8: {"queues":{"q":{"free":[3,4],"held":[]}},"tasks":{}}
+d tasks at 10: {"queues":{"q":{"free":[4],"held":[]}},"tasks":{}}
+"#;
+
+// Two clients volunteer for a task. The second says that it is done, which counts for nothing, and the first leaves.
+const VOLUNTEERS: &str = r#"tasks d
+send a ["connect_document",{"id":"d","scopes":["doc:read","doc:write"]}]
+send b ["connect_document",{"id":"d","scopes":["doc:read","doc:write"]}]
+send a ["submitOp","c0",[{"clientSequenceNumber":1,"contents":{"type":"task","name":"t","op":"volunteer"},"referenceSequenceNumber":2,"type":"op"}]]
+send b ["submitOp","c1",[{"clientSequenceNumber":1,"contents":{"type":"task","name":"t","op":"volunteer"},"referenceSequenceNumber":2,"type":"op"}]]
+tasks d
+send b ["submitOp","c1",[{"clientSequenceNumber":2,"contents":{"type":"task","name":"t","op":"complete"},"referenceSequenceNumber":2,"type":"op"}]]
+tasks d
+close a
+tasks d
+tasks D
+"#;
+
+const VOLUNTEERS_SAY: &str = r#"d tasks at 0: {"queues":{},"tasks":{}}
+a < ["connect_document_success",{"checkpointSequenceNumber":0,"clientId":"c0","maxMessageSize":1048576,"mode":"write","version":"1"}]
+b < ["connect_document_success",{"checkpointSequenceNumber":1,"clientId":"c1","maxMessageSize":1048576,"mode":"write","version":"1"}]
+d tasks at 4: {"queues":{},"tasks":{"t":["c0","c1"]}}
+d tasks at 5: {"queues":{},"tasks":{"t":["c0","c1"]}}
+a closed
+d tasks at 6: {"queues":{},"tasks":{"t":["c1"]}}
+D tasks at 0: {"queues":{},"tasks":{}}
+"#;
+
 const SCRIPTS: &[(&str, &str, &str)] = &[
     (TWO_CONTAINERS, "done", TWO_CONTAINERS_SAY),
     (THREE_CHECKPOINTS, "done", THREE_CHECKPOINTS_SAY),
@@ -276,6 +325,8 @@ const SCRIPTS: &[(&str, &str, &str)] = &[
     (SWEEPS, "done", SWEEPS_SAY),
     (WRITES, "bad line", WRITES_SAY),
     (BAD_SUMMARIES, "bad line", BAD_SUMMARIES_SAY),
+    (ITEMS, "done", ITEMS_SAY),
+    (VOLUNTEERS, "done", VOLUNTEERS_SAY),
     ("", "done", ""),
 ];
 
@@ -315,11 +366,11 @@ fn too_many(rt: &impl Abort, alloc: Global) {
         output.push_str(line.as_str()).expect(rt, "memory");
     }
     input
-        .push_str("count e\ncount d7\nload p e none\n")
+        .push_str("count e\ncount d7\ntasks e\nload p e none\n")
         .expect(rt, "memory");
     output
         .push_str(
-            "e refused 429: too many documents\nd7 0 entries, number 0, minimum 0\np refused 429: too many documents\n",
+            "e refused 429: too many documents\nd7 0 entries, number 0, minimum 0\ne refused 429: too many documents\np refused 429: too many documents\n",
         )
         .expect(rt, "memory");
     is_done_as(

@@ -1,5 +1,6 @@
-use Rattle.std.proofs.Common.{arith}
-use Rattle.fluid_callers.proofs.Collected.{fetched_none, range_reads, range_honest, range_fetched}
+use Rattle.std.proofs.Common.{arith, subst, sym}
+use Rattle.fluid_types.specs.Order.{AreNumberedFrom}
+use Rattle.fluid_callers.proofs.Collected.{fetched_none, range_reads, range_honest, range_fetched, range_numbered}
 use Rattle.fluid_callers.proofs.Ends.{delta_aside}
 use Rattle.fluid_callers.proofs.collecting.messages_from.Goals as goal
 
@@ -30,3 +31,10 @@ returns-in-Ok-clause-runs g c = record { later = c.in-Ok.ensures.goes.later; sid
 
 pub returns-then-behind-from-clause-runs : goal.returns-then-behind-from-clause-runs
 returns-then-behind-from-clause-runs g c = record { later = omega arith; sides = omega arith; ends = tt }
+
+pub returns-in-Ok-clause-numbered : goal.returns-in-Ok-clause-numbered
+returns-in-Ok-clause-numbered g c =
+    let e = c.in-Ok.ensures in range_numbered (λ v. v.items) c.args.from c.args.behind c.args.lane.now c.range.new.self c.in-Ok.messages e.worn e.ranges
+
+pub returns-then-behind-from-clause-numbered : goal.returns-then-behind-from-clause-numbered
+returns-then-behind-from-clause-numbered g c = subst (AreNumberedFrom c.args.from) (sym c.new.ensures.items) tt

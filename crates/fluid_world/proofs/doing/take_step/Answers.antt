@@ -6,7 +6,7 @@ use Rattle.fluid_transcript.specs.Transcript.{done}
 use Rattle.fluid_containers.specs.Stepping.{IsShort}
 use Rattle.fluid_world.specs.Naming.{IsShortStep, container_refusal, refusal_by}
 use Rattle.fluid_world.specs.Standing.{StepTakes}
-use Rattle.fluid_world.proofs.Linked.{on_links, with_links, one_links}
+use Rattle.fluid_world.proofs.Linked.{on_links, with_links, reading_links, one_links}
 use Rattle.fluid_world.proofs.Stepped.{document_takes, scribe_takes, counted_ok, same_counted, edit_name, edit_reads}
 use Rattle.fluid_world.proofs.doing.take_step.Goals as goal
 
@@ -93,6 +93,20 @@ returns-in-Count-clause-runs g c = λ first steps run.
 
 pub returns-in-Count-clause-numbers : goal.returns-in-Count-clause-numbers
 returns-in-Count-clause-numbers g c = counted_ok c.one-in-Count.result (same_counted c.args.names.now.table.values)
+
+pub returns-in-Tasks-clause-does : goal.returns-in-Tasks-clause-does
+returns-in-Tasks-clause-does g c = λ w good stands own at.
+    subst (λ s. StepTakes (done c.args.lanes.now.limits w s) c.tasks.new.lanes c.args.objects.now c.args.names.now.table.values c.one-in-Tasks.result) (sym c.in-Tasks.is)
+    (document_takes c.args.lanes.now.limits w (step.Tasks c.in-Tasks.name) c.args.lanes.now c.args.objects.now c.args.names.now.table.values stands refl c.steps_leave_others.ensures.others c.others_leave_containers.ensures c.containers_stay_based.ensures c.tasks.new.lanes c.tasks.result c.one-in-Tasks.result refl tt
+    c.steps_leave_others.ensures.store (c.tasks.ensures.does w stands.desk at) c.one-in-Tasks.ensures)
+
+pub returns-in-Tasks-clause-runs : goal.returns-in-Tasks-clause-runs
+returns-in-Tasks-clause-runs g c = λ first steps run.
+    one_links first (steps + 1) c.args.objects.now c.args.objects.now c.tasks.new.lanes c.tasks.result c.one-in-Tasks.result
+    (reading_links first (steps + 1) c.args.objects.now c.args.objects.now c.tasks.new.lanes c.tasks.result (c.tasks.ensures.runs first steps run)) c.one-in-Tasks.ensures
+
+pub returns-in-Tasks-clause-numbers : goal.returns-in-Tasks-clause-numbers
+returns-in-Tasks-clause-numbers g c = counted_ok c.one-in-Tasks.result (same_counted c.args.names.now.table.values)
 
 pub returns-in-Send-clause-does : goal.returns-in-Send-clause-does
 returns-in-Send-clause-does g c = λ w good stands own at.

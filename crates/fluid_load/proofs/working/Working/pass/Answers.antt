@@ -1,4 +1,4 @@
-use Rattle.std.proofs.Common.{rules, ◌+◌, ◌<◌, ℕ, refl, sym, subst}
+use Rattle.std.proofs.Common.{rules, ◌<◌, ℕ, refl, sym, subst}
 use Rattle.fluid_types.specs.Forms.{largest}
 use Rattle.fluid_containers.specs.Stepping.{MayStand}
 use Rattle.fluid_world.specs.Naming.{AreCounted, IsShortStep}
