@@ -28,7 +28,7 @@ use Rattle.fluid_doors.specs.declared.bench.Terms.{Terms}
 use Rattle.fluid_doors.specs.Terms.{terms_of}
 use Rattle.fluid_doors.specs.Passing.{Continues}
 use Rattle.fluid_doors.specs.Answers.{is_worn_behind}
-use Rattle.fluid_doors.specs.Collecting.{gathered, IsEventUnder, IsReadFault, IsWornDelta, IsFaultIn, Collects}
+use Rattle.fluid_doors.specs.Collecting.{gathered, IsEventUnder, IsReadCause, IsReadFault, IsWornDelta, IsFaultIn, Collects}
 use Rattle.fluid_doors.specs.Tailed.{IsIn, IsTailOf, BenchStands, Begins}
 use Rattle.fluid_doors.proofs.Answering.{told_is}
 use Rattle.fluid_doors.proofs.Reading.{seq_is, fault_worn, sliced_right, sliced_faults, fault_in}
@@ -229,6 +229,12 @@ fault_later next atmost from to NoMemory low high is = tt
 fault_later next atmost from to (BadDelta number) low high is = (omega (arith, low, is.0), omega (arith, high, is.1))
 fault_later next atmost from to Worn low high is = tt
 
+caused : (before now : ℕ) (f : DeltaFault) → IsFaultOf before now f → IsReadCause before now f
+caused before now (DeltaFailed note) is = is
+caused before now NoMemory is = tt
+caused before now (BadDelta number) is = tt
+caused before now Worn is = tt
+
 module _ {V : Type 0} (messages : V → List Message) where
   abbrev fault_of : Result V DeltaFault → DeltaFault
   fault_of (Ok v) = NoMemory
@@ -265,6 +271,19 @@ module _ {V : Type 0} (messages : V → List Message) where
       read : is_some s.keeping.content ≡ true → (b : Bool) → is_worn s ≡ b → IsReadFault fault
       read is true w = subst IsReadFault (sym (is_worn_fault (worn w).0)) tt
       read is false w = subst (λ r. IfErr r IsReadFault) failed (sliced_faults messages (slice (order (ledger l)) from to) result (told_is s.keeping.content _ is (sliced w l stands)))
+
+  err_caused : (before now : ℕ) (result : Result V DeltaFault) → IfErr result (IsFaultOf before now) → IfErr result (IsReadCause before now)
+  err_caused before now (Ok v) is = tt
+  err_caused before now (Err fault) is = caused before now fault is
+
+  -- a fault of the keeper is one of this call
+  pub read_caused : (s t : Standing) (from to : ℕ) (result : Result V DeltaFault) → (is_worn s ≡ true → (result ≡ Err Worn) × (t ≡ s)) → (is_worn s ≡ false → Ranges messages from to s t result)
+      → IfErr result (IsReadCause s.keeping.faults t.keeping.faults)
+  read_caused s t from to result worn ranges = by (is_worn s) refl
+    where
+      by : (b : Bool) → is_worn s ≡ b → IfErr result (IsReadCause s.keeping.faults t.keeping.faults)
+      by true w = subst (λ r. IfErr r (IsReadCause s.keeping.faults t.keeping.faults)) (sym (worn w).0) tt
+      by false w = err_caused s.keeping.faults t.keeping.faults result (ranges w).reads.cause
 
   -- or gave what a tail lacks
   pub range_numbers : (s t : Standing) (from to : ℕ) (result : Result V DeltaFault) (v : V) → result ≡ Ok v → (is_worn s ≡ true → (result ≡ Err Worn) × (t ≡ s)) → (is_worn s ≡ false → Ranges messages from to s t result)

@@ -6,6 +6,7 @@ use Rattle.fluid_types.specs.Order.{AreNumberedFrom}
 use Rattle.fluid_types.specs.declared.messages.Message.{Message}
 use Rattle.fluid_rules.specs.Rules.{IsLegal}
 use Rattle.fluid_deltas.specs.Pushed.{slice}
+use Rattle.fluid_deltas.specs.Ranges.{IsNoted}
 use Rattle.fluid_deltas.specs.declared.fault.DeltaFault.{DeltaFault}
 use Rattle.fluid_deltas.specs.declared.fault.DeltaFault.TheVariants.{DeltaFailed, NoMemory, BadDelta, Worn}
 use Rattle.fluid_codec.specs.declared.replies.Reply.{Reply}
@@ -55,7 +56,12 @@ pub record AreNext (next atmost : ℕ) (messages : List Message) : Type 0 where
   pub few : length messages ≤ atmost
   pub last : 0 < length messages → next + length messages ≤ most + 1
 
--- the keeper failed, and its count of faults rose in this call, or a bad delta is one of the numbers from the first to before the end
+-- a fault of the keeper has its counts of faults that were read in this call, and they rose
+abbrev pub IsReadCause : (before now : ℕ) → DeltaFault → Type 0
+IsReadCause before now (DeltaFailed note) = IsNoted before now note
+IsReadCause before now other = ⊤
+
+-- the keeper failed, and its count of faults rose, or a bad delta is one of the numbers from the first to before the end
 abbrev pub IsFaultIn : (first end : ℕ) → DeltaFault → Type 0
 IsFaultIn first end (DeltaFailed note) = Rose note.before note.after
 IsFaultIn first end (BadDelta number) = (first ≤ number) × (number < end)

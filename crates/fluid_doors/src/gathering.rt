@@ -1,11 +1,11 @@
 // How an event is put together, out of the tail of an order and what the lane has behind it.
-ghost use Rattle.std.specs.Prelude.{◌≡◌, ◌<◌, ◌≤◌, ◌+◌, ◌-◌, ℕ, List, min, length, IfOk};
+ghost use Rattle.std.specs.Prelude.{◌≡◌, ◌<◌, ◌≤◌, ◌+◌, ◌-◌, ℕ, List, min, length, IfOk, IfErr};
 ghost use Rattle.fluid_lane.specs.declared.steps.Step.{Step as AStep};
 ghost use Rattle.fluid_lane.specs.Standing.{LaneStands};
 ghost use Rattle.fluid_lane.specs.Steps.{range_steps};
 ghost use Rattle.fluid_doors.specs.Terms.{terms_of};
 ghost use Rattle.fluid_doors.specs.Passing.{Continues};
-ghost use Rattle.fluid_doors.specs.Collecting.{Collects, IsEventUnder, gathered};
+ghost use Rattle.fluid_doors.specs.Collecting.{Collects, IsEventUnder, IsReadCause, gathered};
 ghost use Rattle.fluid_doors.specs.Tailed.{IsTailOf, Begins, IsNoLonger, ReachesTo, ReadsUpTo};
 ghost use Rattle.fluid_feed.specs.Tails.{too_many};
 
@@ -30,6 +30,7 @@ pub(crate) fn gather<K: Keeper>(
     requires some { from < to }
     requires last { to ≤ lane.old.entries.state.sequencer.sequence + 1 }
     ensures goes { Continues lane.old lane.new (range_steps result) }
+    ensures cause { IfErr result (IsReadCause lane.old.keeping.faults lane.new.keeping.faults) }
     ensures tail { (l : List AStep) → LaneStands lane.old l → IsTailOf (terms_of lane.old).told tail.old l → IsTailOf (terms_of lane.old).told tail.new l }
     ensures short { length tail.old.messages < too_many → length tail.new.messages < too_many }
     ensures event { IfOk result (IsEventUnder name.now) }
@@ -61,6 +62,7 @@ fn read_up_to<K: Keeper>(
     requires some { from < to }
     requires last { to ≤ lane.old.entries.state.sequencer.sequence + 1 }
     ensures goes { Continues lane.old lane.new (range_steps result) }
+    ensures cause { IfErr result (IsReadCause lane.old.keeping.faults lane.new.keeping.faults) }
     ensures short { IsNoLonger tail.old tail.new result }
     ensures reached { IfOk result (λ _. ReachesTo tail.new from to) }
     ensures reads { (l : List AStep) → LaneStands lane.old l → IsTailOf (terms_of lane.old).told tail.old l → ReadsUpTo (terms_of lane.old) from to tail.new result l }

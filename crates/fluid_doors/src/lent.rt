@@ -16,7 +16,7 @@ ghost use Rattle.fluid_doors.specs.Terms.{terms_of};
 ghost use Rattle.fluid_doors.specs.Passing.{Continues};
 ghost use Rattle.fluid_doors.specs.Entering.{Submits, Joins, Reports, Sweeps, IsJoinOf, IsLeaveAt, with_id, with_left, verdict_left};
 ghost use Rattle.fluid_doors.specs.Storing.{Checkpoints, Restarts};
-ghost use Rattle.fluid_doors.specs.Collecting.{Collects, IsEventUnder, gathered};
+ghost use Rattle.fluid_doors.specs.Collecting.{Collects, IsEventUnder, IsReadCause, gathered};
 ghost use Rattle.fluid_doors.specs.Tailed.{BenchStands, IsTailOf};
 ghost use Rattle.fluid_doors.specs.Looking.{IsLook, Looks};
 ghost use Rattle.fluid_doors.specs.Scribing.{IsJobOf};
@@ -133,6 +133,7 @@ impl<K: Keeper> Bench<K> {
         ensures goes { Continues self.old.lane self.new.lane (range_steps result) }
         ensures tail { (l : List AStep) → BenchStands self.old.lane self.old.tail l → IsTailOf (terms_of self.old.lane).told self.new.tail l }
         ensures short { length self.old.tail.messages < too_many → length self.new.tail.messages < too_many }
+        ensures cause { IfErr result (IsReadCause self.old.lane.keeping.faults self.new.lane.keeping.faults) }
         ensures event { IfOk result (IsEventUnder name.now) }
         ensures says { (l : List AStep) → BenchStands self.old.lane self.old.tail l → Collects gathered (terms_of self.old.lane) cursor.now.next most result l }
     {
@@ -167,6 +168,7 @@ impl<K: Keeper> Bench<K> {
         requires { IsLook act.now }
         ensures goes { Continues self.old.lane self.new.lane (range_steps result) }
         ensures tail { self.new.tail ≡ self.old.tail }
+        ensures cause { IfErr result (IsReadCause self.old.lane.keeping.faults self.new.lane.keeping.faults) }
         ensures says { (l : List AStep) → LaneStands self.old.lane l → Looks (terms_of self.old.lane) act.now result l }
     {
         match act {

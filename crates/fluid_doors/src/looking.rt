@@ -9,6 +9,7 @@ ghost use Rattle.fluid_voice.specs.declared.actions.Act.TheVariants as act;
 ghost use Rattle.fluid_voice.specs.Ends.{range_asked, summary_asked};
 ghost use Rattle.fluid_doors.specs.Terms.{terms_of};
 ghost use Rattle.fluid_doors.specs.Passing.{Continues};
+ghost use Rattle.fluid_doors.specs.Collecting.{IsReadCause};
 ghost use Rattle.fluid_doors.specs.Looking.{Looks, under};
 
 use fluid_deltas::DeltaFault;
@@ -27,6 +28,7 @@ pub(crate) fn messages_asked<K: Keeper>(
     to: i64,
 ) -> Result<ActEnd, DeltaFault>
     ensures goes { Continues lane.old lane.new (range_steps result) }
+    ensures cause { IfErr result (IsReadCause lane.old.keeping.faults lane.new.keeping.faults) }
     ensures says { (l : List AStep) → LaneStands lane.old l → Looks (terms_of lane.old) (act.Deltas from to) result l }
 {
     // (a law, and no work: its clause is for the proof)
@@ -47,6 +49,7 @@ fn messages<K: Keeper>(
     requires ordered { first ≤ end }
     requires last { end ≤ lane.old.entries.state.sequencer.sequence + 1 }
     ensures goes { Continues lane.old lane.new (range_steps result) }
+    ensures cause { IfErr result (IsReadCause lane.old.keeping.faults lane.new.keeping.faults) }
     ensures says { (from to : ℤ) → range_asked lane.old.entries.state.sequencer.sequence from to ≡ Ok (first, end) →
         (l : List AStep) → LaneStands lane.old l → Looks (terms_of lane.old) (act.Deltas from to) result l }
 {

@@ -112,6 +112,7 @@ at_last visits rest old new h = record { out = h.only; kept = h.out.kept; told =
 pub closes_by : (service : Serving) (s : Shelved) (l : List ShelfStep) (new : Shelving) → ShelfStands s l → terms_of s ≡ service.fixed → ComesBackFrom s.visits s.shelving new → Closes service new
 closes_by service s l new stands fixed back = record {
   steps = l;
+  few = stands.few;
   out = λ name out. sym (open_is s l name stands) ∙ back.out name out;
   kept = back.kept;
   told = back.told ∙ ap (λ (t : ShelfTerms). t.told) fixed;

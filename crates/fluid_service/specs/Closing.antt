@@ -1,12 +1,13 @@
--- Closing a service: the keeper of each door that nobody else has is back on its shelf.
-use Rattle.std.specs.Prelude.{◌≡◌, ◌⊎◌, ◌≤◌, ℕ, true, List, [], ◌++◌, ◌∷◌, map, is_some}
+-- Closing a service: what the shelves are like that come back.
+use Rattle.std.specs.Prelude.{◌≡◌, ◌⊎◌, ◌≤◌, ℕ, true, List, [], ◌++◌, ◌∷◌, length, map, is_some}
 use Rattle.std.specs.FinMap.{get}
 use Rattle.fluid_log.specs.Keeping.{Keeping}
 use Rattle.fluid_log.specs.Shelving.{Shelving, PutsBack}
 use Rattle.fluid_rules.specs.declared.limits.Limits.{Limits}
 use Rattle.fluid_opening.specs.declared.shelf.ShelfStep.{ShelfStep}
 use Rattle.fluid_service.specs.Visiting.{Visiting, name_of, is_among}
-use Rattle.fluid_opening.specs.Steps.{is_opened}
+use Rattle.fluid_opening.specs.Steps.{is_opened, opened}
+use Rattle.fluid_opening.specs.declared.opening.TheConstants.{MOST_DOCUMENTS}
 use Rattle.fluid_service.specs.Shelved.{Shelved, IsKeeperKept, AreKept, AreDistinct, AllServed, shelf_terms}
 use Rattle.fluid_service.specs.Keys.{Serving}
 
@@ -21,9 +22,10 @@ pub record ComesBackFrom (visits : List Visiting) (old new : Shelving) : Type 0 
 abbrev pub ComesBack : Shelved → Shelving → Type 0
 ComesBack s new = ComesBackFrom s.visits s.shelving new
 
--- the same of a service: what is still out was opened
+-- the same of a service: what is still out was opened, and no more documents were than may be
 pub record Closes (service : Serving) (new : Shelving) : Type 0 where
   pub steps : List ShelfStep
+  pub few : length (opened steps) ≤ MOST_DOCUMENTS
   pub out : (name : List ℕ) → is_some (get new.out name) ≡ true → is_opened name steps ≡ true
   pub kept : AreKept new
   pub told : is_some new.held ≡ service.fixed.told

@@ -6,6 +6,11 @@ use Rattle.fluid_feed.proofs.Stretches.{stretch-length}
 use Rattle.fluid_doors.proofs.Tails.{trimmed, collects_event}
 use Rattle.fluid_doors.proofs.gathering.gather.Goals as goal
 
+pub returns-in_err-read_up_to-clause-cause : goal.returns-in_err-read_up_to-clause-cause
+returns-in_err-read_up_to-clause-cause g c =
+    let e = err_from_is_err_and c.from_residual.result c.from_residual.ensures.1 in
+    rw (e.1, e.2) c.in_err-read_up_to.ensures.cause
+
 pub returns-in_err-read_up_to-clause-says : goal.returns-in_err-read_up_to-clause-says
 returns-in_err-read_up_to-clause-says g c = λ l lane was atmost is.
     let e = err_from_is_err_and c.from_residual.result c.from_residual.ensures.1 in

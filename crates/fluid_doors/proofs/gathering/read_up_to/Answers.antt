@@ -1,12 +1,19 @@
 use Rattle.std.proofs.Common.{◌≡◌, ◌≤◌, subst, arith}
+use Rattle.std.specs.Prelude.{IfErr}
 use Rattle.std.proofs.lemmas.Result.{err_from_is_err_and}
 use Rattle.fluid_document.specs.Entries.{most}
 use Rattle.fluid_deltas.specs.Pushed.{slice}
 use Rattle.fluid_deltas.specs.Ranges.{AreNumbersOf}
 use Rattle.fluid_types.specs.Ledger.{order}
 use Rattle.fluid_lane.specs.Steps.{ledger}
-use Rattle.fluid_doors.proofs.Tails.{begun, begun_high, extended, collects_fault, range_numbers, range_slice, reaches_to}
+use Rattle.fluid_doors.specs.Collecting.{IsReadCause}
+use Rattle.fluid_doors.proofs.Tails.{begun, begun_high, extended, collects_fault, read_caused, range_numbers, range_slice, reaches_to}
 use Rattle.fluid_doors.proofs.gathering.read_up_to.Goals as goal
+
+pub returns-in_err-messages-clause-cause : goal.returns-in_err-messages-clause-cause
+returns-in_err-messages-clause-cause g c =
+    let e = err_from_is_err_and c.from_residual.result c.from_residual.ensures.1 in
+    rw (e.1, e.2) (subst (λ r. IfErr r (IsReadCause c.args.lane.now.keeping.faults c.range.new.self.keeping.faults)) c.in_err-messages.was (read_caused (λ v. v.items) c.args.lane.now c.range.new.self _ _ _ c.range.ensures.worn c.range.ensures.ranges))
 
 pub returns-in_err-messages-clause-reads : goal.returns-in_err-messages-clause-reads
 returns-in_err-messages-clause-reads g c = λ l lane was.
