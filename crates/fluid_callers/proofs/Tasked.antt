@@ -2,7 +2,6 @@
 use Rattle.std.proofs.Common.{◌≡◌, ℕ, ◌+◌, ◌<◌, ◌≤◌, arith, List, [], ◌∷◌, ◌++◌, length, take, get_or, Result, Ok, Err, refl, sym, ap, subst, ◌∙◌}
 use Rattle.std.specs.Prelude.{IfOk}
 use Rattle.std.proofs.lemmas.List.{length-reverse, length-take-le, take_all, take_more}
-use Rattle.fluid_json.specs.declared.fault.NoMemory.{NoMemory}
 use Rattle.fluid_types.specs.Ledger.{seq}
 use Rattle.fluid_types.specs.Order.{AreFirst}
 use Rattle.fluid_types.specs.declared.messages.Message.{Message}
@@ -47,7 +46,7 @@ pub all_heard : (tasks : Tasks) (messages : List Message) (i : ℕ) → length m
 all_heard tasks messages i all stands = subst (StandsFor tasks) (take_all i messages all) stands
 
 -- the line of their number and of their text
-pub line_so : (name : List ℕ) (messages : List Message) (number : ℕ) (shown : List ℕ) (result : Result (List ℕ) NoMemory) → number ≡ length messages → shown ≡ print (past_of messages)
+pub line_so : {E : Type 0} (name : List ℕ) (messages : List Message) (number : ℕ) (shown : List ℕ) (result : Result (List ℕ) E) → number ≡ length messages → shown ≡ print (past_of messages)
     → IfOk result (λ line. line ≡ line_at name number shown) → IfOk result (λ line. line ≡ line_behind name messages)
 line_so name messages number shown result count text said =
     subst (λ s. IfOk result (λ line. line ≡ line_at name (length messages) s)) text (subst (λ n. IfOk result (λ line. line ≡ line_at name n shown)) count said)
