@@ -11,6 +11,10 @@ const require = createRequire(import.meta.url);
 const load = (...places) => { try { return require(places[0]); } catch { return require(places[1]); } };
 const Socket = globalThis.WebSocket ?? load("ws", "/usr/share/nodejs/ws");
 const [name, place = "7070"] = process.argv.slice(2);
+if (name === undefined || !/^\d+$|:\/\//.test(place)) {
+  console.error("usage: examples/client.mjs DOCUMENT [PORT or URL]");
+  process.exit(2);
+}
 const url = place.includes("://") ? place : `ws://127.0.0.1:${place}`;
 const CHANNELS = [{ type: "attach", address: "board", kind: "map" }, { type: "attach", address: "count", kind: "counter" }];
 
@@ -56,6 +60,10 @@ function hear([event, ...rest]) {
     isOther = event === "deltas" && rest[0] === number && !isDeepStrictEqual(messages[0], newest);
   } else { // an error or a nack: the line is of no more use
     console.log("--", JSON.stringify(rest));
+    if (event === "nack" && id === null) { // the connect itself isn't taken, and never will be
+      console.error("a document's name has 1 to 64 of A-Z a-z 0-9 _ -");
+      process.exit(1);
+    }
     return end();
   }
   if (isOther) {

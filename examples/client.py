@@ -25,6 +25,8 @@ class Client:
             messages, is_other = rest[1], event == "deltas" and rest[0] == self.number and rest[1][0] != self.newest
         else:  # an error or a nack: the line is of no more use
             print("--", json.dumps(rest), flush=True)
+            if event == "nack" and not self.id:  # the connect itself isn't taken, and never will be
+                sys.exit("a document's name has 1 to 64 of A-Z a-z 0-9 _ -")
             self.id = None
             return
         if is_other:
@@ -95,4 +97,7 @@ async def main(document, place="7070"):
             await client.submit("noop", None)
 
 
-asyncio.run(main(*sys.argv[1:]))
+words = sys.argv[1:]
+if len(words) not in (1, 2) or not all("://" in place or place.isdecimal() for place in words[1:]):
+    sys.exit("usage: examples/client.py DOCUMENT [PORT or URL]")
+asyncio.run(main(*words))
