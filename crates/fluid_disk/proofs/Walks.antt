@@ -10,7 +10,7 @@ use Rattle.fluid_disk.specs.Disk.{Stored}
 use Rattle.fluid_disk.specs.Records.{IsShort, framed, spelled, gates_from, IsEnd, IsWhole, Finds, IsHeadless, HasHead, IsHead}
 use Rattle.fluid_disk.specs.Files.{OnlyReads, IsWalked, IsAhead}
 use Rattle.fluid_disk.proofs.Kept.{ordered}
-use Rattle.fluid_disk.proofs.Pieces.{take_add}
+use Rattle.fluid_disk.proofs.Pieces.{take_add, reads_none, reads_both}
 use Rattle.fluid_disk.proofs.Resting.{short_push}
 use Rattle.fluid_disk.proofs.Rows.{gates_push, length_push, spelled_push}
 use Rattle.fluid_disk.proofs.Standing.{tells_from, tells_at}
@@ -163,3 +163,29 @@ pub record IsWalkingOn {D : Type 0} (seen : D → Stored) (may_leave : D → Lis
   pub faults : (seen old).faults ≤ (seen new).faults
   pub ahead : IsAhead start bytes (seen new)
   pub behind : start ≤ place
+
+module _ {D : Type 0} (seen : D → Stored) (may_leave : D → List ℕ → Type 0) (moment : D → ℕ) (left_since : D → ℕ → List ℕ → Type 0) where
+  pub walking_on_first : (disk : D) → ((image : List ℕ) → left_since disk (moment disk) image → may_leave disk image)
+      → IsWalkingOn seen may_leave moment left_since disk disk (0 ∷ []) 0 0 []
+  walking_on_first disk here = record {
+    records = [];
+    walking = walking_first (seen disk);
+    reads = reads_none seen may_leave moment left_since disk here;
+    faults = omega arith;
+    ahead = record { within = omega arith; told = tells_from (seen disk).bytes (λ held. [] ≡ take 0 (drop 0 held)) (λ held told. refl) };
+    behind = omega arith;
+  }
+
+  pub walking_on_more : (old mid new : D) (gates : List ℕ) (place start count next_start : ℕ) (bytes next_bytes : List ℕ) → IsWalkingOn seen may_leave moment left_since old mid gates place start bytes
+      → Tells (seen old).bytes (λ held. (seen old).size ≡ length held) → OnlyReads seen may_leave moment left_since mid new → (seen mid).faults ≤ (seen new).faults
+      → IsAhead next_start next_bytes (seen new) → next_start ≤ place
+      → ((held : List ℕ) → (seen mid).bytes ≡ Some held → HasHead (drop place held) count) → count < 2 ^ 32 → place + 5 + count ≤ (seen old).size
+      → IsWalkingOn seen may_leave moment left_since old new (gates ++ (place + 5 + count) ∷ []) (place + 5 + count) next_start next_bytes
+  walking_on_more old mid new gates place start count next_start bytes next_bytes so_far sized reads later ahead behind head short fits = record {
+    records = so_far.records ++ record_at (seen old).bytes (place + 5) count ∷ [];
+    walking = walking_more so_far.records gates place count (seen old) so_far.walking sized (λ held told. head held (so_far.reads.same.bytes ∙ told)) short fits;
+    reads = reads_both seen may_leave moment left_since old mid new so_far.reads reads;
+    faults = omega (arith, so_far.faults, later);
+    ahead = ahead;
+    behind = omega (arith, behind);
+  }
