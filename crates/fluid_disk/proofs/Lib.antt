@@ -1,0 +1,16 @@
+mod Adding
+mod Debts
+mod Endings
+mod Filling
+mod History
+mod Kept
+mod Mending
+mod Moments
+mod Pieces
+mod Promise
+mod Resting
+mod Rows
+mod Runs
+mod Standing
+mod Tears
+mod Walks
