@@ -106,3 +106,9 @@ finds_once (x ∷ one) (y ∷ two) bytes end other_end a b ends others is also =
 
 pub found_once : (one two : List (List ℕ)) (bytes : List ℕ) → Finds one bytes → Finds two bytes → one ≡ two
 found_once one two bytes a b = finds_once one two bytes a.end b.end a.short b.short a.ends b.ends a.splits b.splits
+
+pub finds_same : (held now : List ℕ) → held ≡ now → (records : List (List ℕ)) → Finds records held → Finds records now
+finds_same held now is records finds = subst (Finds records) is finds
+
+pub finds_other : (records : List (List ℕ)) (held now : List ℕ) → Finds records held → Finds records now → (other : List (List ℕ)) → Finds other held → Finds other now
+finds_other records held now one then other two = subst (λ (l : List (List ℕ)). Finds l now) (found_once records other held one two) then

@@ -1,5 +1,5 @@
 -- What the calls of a disk in memory leave in its history.
-use Rattle.std.proofs.Common.{◌≡◌, ◌⊎◌, inl, inr, ℕ, ◌+◌, ◌-◌, ◌≤◌, min, List, [], ◌∷◌, ◌++◌, length, take, drop, reverse, refl, sym, ◌∙◌, ap, subst, arith, append_assoc, length-append, take-append-drop, length-take}
+use Rattle.std.proofs.Common.{◌≡◌, ◌⊎◌, inl, inr, ℕ, ◌+◌, ◌-◌, ◌≤◌, min, List, [], ◌∷◌, ◌++◌, length, take, drop, reverse, refl, sym, ◌∙◌, ap, subst, arith, append_assoc, length-append, length-drop, take-append-drop, length-take}
 use Rattle.std.proofs.lemmas.List.{take_at, drop_at, take_all, drop_all, drop-drop, take-append-le, append-nil, length-take-le, reverse-append}
 use Rattle.fluid_disk.specs.declared.call.Call.{Call}
 use Rattle.fluid_disk.specs.declared.call.Call.TheVariants.{Wrote, CutOff, Synced}
@@ -22,6 +22,13 @@ undone_written at bytes held le =
     ap (λ (l : List ℕ). (l ++ take n (drop at held)) ++ drop (at + n) (overwritten at bytes held)) before
     ∙ ap (λ (l : List ℕ). (take at held ++ take n (drop at held)) ++ l) after
     ∙ ap (λ (l : List ℕ). l ++ back) (sym (take_add at n held)) ∙ take-append-drop (at + n) held
+
+-- what there was of it up to the end
+pub taken : (n at w k : ℕ) (held : List ℕ) → w ≡ min n (length held - at) → k ≡ w → take k (drop at held) ≡ take n (drop at held)
+taken n at w k held is same = elim (ordered n (length held - at)) [
+  | inl inside ↦ let all : k ≡ n = omega (arith, is, same, inside) in ap (λ (i : ℕ). take i (drop at held)) all
+  | inr past ↦ take_all k (drop at held) (omega (arith, is, same, past, length-drop at held)) ∙ sym (take_all n (drop at held) (omega (arith, past, length-drop at held)))
+]
 
 -- ---- one call more
 

@@ -69,7 +69,7 @@ there_push : (n : ℕ) (records : List (List ℕ)) (last held : List ℕ) → n 
 there_push n records last held lt rest =
     let same : get_or (records ++ last ∷ []) n [] ≡ get_or records n [] = get_or_append_left records (last ∷ []) [] n lt in
     let place : gate_before n (records ++ last ∷ []) ≡ gate_before n records = ap (λ (l : List (List ℕ)). length (spelled l)) (take-append-le n records (last ∷ []) (omega (arith, lt))) in
-    rw (same, place) at there n (records ++ last ∷ []) held (omega (arith, lt, length-append records (last ∷ []))) rest
+    rw (same, place) at (there n (records ++ last ∷ []) held (omega (arith, lt, length-append records (last ∷ []))) rest)
 
 there_but : (n m : ℕ) (records : List (List ℕ)) (held : List ℕ) → n < length records → IsAtRestBut m records held
     → take (length (get_or records n [])) (drop (gate_before n records + 5) held) ≡ get_or records n []

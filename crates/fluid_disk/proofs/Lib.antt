@@ -13,4 +13,5 @@ mod Rows
 mod Runs
 mod Standing
 mod Tears
+mod Undoing
 mod Walks

@@ -1,12 +1,12 @@
 -- The walk over the records of a disk.
-use Rattle.std.proofs.Common.{◌≡◌, ◌≢◌, ◌⊎◌, inl, inr, ℕ, zero, suc, ◌+◌, ◌-◌, ◌<◌, ◌≤◌, min, List, [], ◌∷◌, ◌++◌, length, take, drop, replicate, refl, sym, ◌∙◌, ap, subst, arith, append_assoc, length-append, length-drop, length-take, take-append-drop}
+use Rattle.std.proofs.Common.{◌≡◌, ◌≢◌, ◌⊎◌, inl, inr, ℕ, zero, suc, ◌+◌, ◌-◌, ◌<◌, ◌≤◌, min, List, [], ◌∷◌, ◌++◌, length, get_or, take, drop, replicate, refl, sym, ◌∙◌, ap, subst, arith, append_assoc, length-append, length-drop, length-take, take-append-drop}
 use Rattle.std.specs.Prelude.{Option, None, Some, IfSome, ◌^◌}
 use Rattle.std.specs.Int.{w32, to_be_bytes, from_be_bytes}
 use Rattle.std.specs.List.{AllByRecursion}
 use Rattle.std.proofs.lemmas.List.{take_at, drop_at, drop_all, drop-take, drop-drop, length-replicate, length-take-le}
-use Rattle.std.proofs.lemmas.Nat.{from_be_bytes-to_be_bytes_4}
+use Rattle.std.proofs.lemmas.Nat.{be_bytes_4, from_be_bytes-to_be_bytes_4}
 use Rattle.fluid_io.specs.Causes.{Tells}
-use Rattle.fluid_disk.specs.Disk.{Stored}
+use Rattle.fluid_disk.specs.Disk.{Stored, StaysAsRead}
 use Rattle.fluid_disk.specs.Records.{IsShort, framed, spelled, gates_from, IsEnd, IsWhole, Finds, IsHeadless, HasHead, IsHead}
 use Rattle.fluid_disk.specs.Files.{OnlyReads, IsWalked, IsAhead}
 use Rattle.fluid_disk.proofs.Kept.{ordered}
@@ -16,6 +16,36 @@ use Rattle.fluid_disk.proofs.Rows.{gates_push, length_push, spelled_push}
 use Rattle.fluid_disk.proofs.Standing.{tells_from, tells_at}
 
 -- ---- heads
+
+-- the length that was read behind an open gate
+four_fit : (a b c d : ℕ) → a < 256 → b < 256 → c < 256 → d < 256 → (i : ℕ) → get_or (a ∷ b ∷ c ∷ d ∷ []) i 0 < 256
+four_fit a b c d one two three four zero = one
+four_fit a b c d one two three four (suc zero) = two
+four_fit a b c d one two three four (suc (suc zero)) = three
+four_fit a b c d one two three four (suc (suc (suc zero))) = four
+four_fit a b c d one two three four (suc (suc (suc (suc i)))) = omega arith
+
+pub head_read : (bytes : List ℕ) (n : ℕ) → 5 ≤ length bytes → get_or bytes 0 0 ≡ 1 → ((i : ℕ) → get_or bytes i 0 < 256)
+    → n ≡ from_be_bytes w32 (get_or bytes 1 0 ∷ get_or bytes 2 0 ∷ get_or bytes 3 0 ∷ get_or bytes 4 0 ∷ []) → HasHead bytes n
+head_read [] n long is_open fits is = absurd (omega (arith, long))
+head_read (g ∷ []) n long is_open fits is = absurd (omega (arith, long))
+head_read (g ∷ a ∷ []) n long is_open fits is = absurd (omega (arith, long))
+head_read (g ∷ a ∷ b ∷ []) n long is_open fits is = absurd (omega (arith, long))
+head_read (g ∷ a ∷ b ∷ c ∷ []) n long is_open fits is = absurd (omega (arith, long))
+head_read (g ∷ a ∷ b ∷ c ∷ d ∷ behind) n long is_open fits is = record {
+  short = omega (arith, is, fits 1, fits 2, fits 3, fits 4);
+  behind = behind;
+  splits = ap (λ (gate : ℕ). gate ∷ (a ∷ b ∷ c ∷ d ∷ behind)) is_open
+    ∙ ap (λ (l : List ℕ). 1 ∷ (l ++ behind)) (sym (be_bytes_4 (a ∷ b ∷ c ∷ d ∷ []) n refl (four_fit a b c d (fits 1) (fits 2) (fits 3) (fits 4)) is));
+}
+
+pub headless_short : (bytes : List ℕ) → length bytes < 5 → IsHeadless bytes
+headless_short [] short = tt
+headless_short (gate ∷ behind) short = λ is_open four. omega (arith, short, four)
+
+pub headless_shut : (bytes : List ℕ) → get_or bytes 0 0 ≢ 1 → IsHeadless bytes
+headless_shut [] shut = tt
+headless_shut (gate ∷ behind) shut = λ is_open four. shut is_open
 
 -- a piece that is long enough shows the head that stands there
 headless_more : (m : ℕ) (all : List ℕ) → min 5 (length all) ≤ m → IsHeadless (take m all) → IsHeadless all
@@ -53,6 +83,14 @@ later_piece start place bytes held is behind within =
     ap (λ (l : List ℕ). drop a l) (is ∙ ap (λ (n : ℕ). take n (drop start held)) both) ∙ drop-take a m (drop start held)
     ∙ ap (λ (l : List ℕ). take m l) (drop-drop a start held ∙ ap (λ (n : ℕ). drop n held) there)
 
+-- as much of it as a head needs
+pub rest_there : (start place : ℕ) (bytes held : List ℕ) → bytes ≡ take (length bytes) (drop start held) → start ≤ place → place ≤ length held
+    → min 5 (length held - place) ≤ length bytes - (place - start) → (m : ℕ) × (drop (place - start) bytes ≡ take m (drop place held)) × (min 5 (length (drop place held)) ≤ m)
+rest_there start place bytes held is behind within long = elim (ordered place (start + length bytes)) [
+  | inl inside ↦ (start + length bytes - place, later_piece start place bytes held is behind inside, omega (arith, long, length-drop place held, inside, behind))
+  | inr past ↦ (0, drop_all (place - start) bytes (omega (arith, past)), omega (arith, long, length-drop place held, past, behind))
+]
+
 -- what was read ahead, and one piece more
 pub ahead_more : (start place count : ℕ) (bytes rest next : List ℕ) (disk : Stored) → IsAhead start bytes disk → start ≤ place → rest ≡ drop (place - start) bytes
     → length next ≡ count → place + length rest + count ≤ disk.size → ((held : List ℕ) → disk.bytes ≡ Some held → next ≡ take count (drop (place + length rest) held))
@@ -73,6 +111,13 @@ ahead_more start place count bytes rest next disk ahead behind is size fits read
     let whole : length (rest ++ next) ≡ length rest + count = omega (arith, length-append rest next, size) in
     ap (λ (l : List ℕ). l ++ next) first ∙ ap (λ (l : List ℕ). take (length rest) (drop place held) ++ l) second ∙ sym (take_add (length rest) count (drop place held))
     ∙ ap (λ (k : ℕ). take k (drop place held)) (sym whole));
+}
+
+-- nothing changed but the count of faults
+pub ahead_quiet : (start : ℕ) (bytes : List ℕ) (old new : Stored) → StaysAsRead old new → IsAhead start bytes old → IsAhead start bytes new
+ahead_quiet start bytes old new same ahead = record {
+  within = omega (arith, ahead.within, same.size);
+  told = subst (λ (o : Option (List ℕ)). Tells o (λ held. bytes ≡ take (length bytes) (drop start held))) (sym same.bytes) ahead.told;
 }
 
 -- ---- the loop

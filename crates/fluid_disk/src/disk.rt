@@ -1,16 +1,19 @@
 //! What a disk is.
-ghost use Rattle.std.specs.Prelude.{◌≡◌, ◌≤◌, ℕ, List, length, OnOk};
+ghost use Rattle.std.specs.Prelude.{◌≡◌, ◌≤◌, ℕ, Bool, is_some, List, length, OnOk};
 ghost use Rattle.fluid_io.specs.Causes.{HasCause, Tells};
 ghost use Rattle.fluid_disk.specs.Disk.{Stored, IsSized, IsDurable, StaysAsRead, ReadDoes, WriteDoes, CutDoes, Torn, Cut, Follows, Elapses};
 
 use fluid_io::Failed;
 
-/// One file of bytes on a disk. Whether a disk tells its bytes never changes, and its count of faults never falls.
+/// One file of bytes on a disk. Whether a disk tells its bytes is a matter of its kind, and its count of faults never falls.
 /// Between two syncs a crash may leave any bytes in a range that was written, and in what was written past the old end;
 /// a cut has happened or it hasn't; all other bytes stay.
 pub trait Disk {
     /// What a read gives, where the disk tells it, its length and its count of faults.
     ghost seen: { Self → Stored };
+
+    /// Whether disks of this kind tell their bytes.
+    ghost tells: { Bool };
 
     /// What a crash now may leave.
     ghost may_leave: { Self → List ℕ → Type 0 };
@@ -55,6 +58,9 @@ pub trait Disk {
         ensures durable { OnOk result (IsDurable (seen self.new) (may_leave self.new)) }
         ensures crash { (image : List ℕ) → may_leave self.new image → may_leave self.old image }
         ensures time { Elapses (moment self.old) (moment self.new) (left_since self.old) (left_since self.new) (may_leave self.new) };
+
+    /// Each disk of the kind tells its bytes, or none does.
+    ghost told: { (disk : Self) → is_some (seen disk).bytes ≡ tells };
 
     /// The length is that of the bytes.
     ghost sized: { (disk : Self) → IsSized (seen disk) };

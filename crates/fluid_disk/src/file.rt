@@ -43,6 +43,7 @@ impl<D: Disk> RecordFile<D> {
     pub fn open(alloc: Global, disk: D) -> Result<RecordFile<D>, (D, KeeperFault)>
         ensures opened { IfOk result (IsOpened D.seen D.may_leave (D.seen disk)) }
         ensures cause { IfErr result (λ back. RoseAt (D.seen disk).faults (D.seen back.0).faults back.1) }
+        ensures finds_err { IfErr result (λ back. (held now : List ℕ) → (D.seen disk).bytes ≡ Some held → (D.seen back.0).bytes ≡ Some now → FindsSame held now) }
         ensures crash { IfOk result (λ file. Tells (D.seen disk).bytes (λ held.
             LeavesOnly D.moment D.left_since disk file.disk (λ image. D.may_leave disk image ⊎ FindsSame held image))) }
         ensures crash_err { IfErr result (λ back. Tells (D.seen disk).bytes (λ held.
@@ -62,6 +63,7 @@ impl<D: Disk> RecordFile<D> {
     /// How many records there are.
     pub fn len(&self) -> u64
         ensures count { result + 1 ≡ length self.now.gates }
+        ensures stands { (row : Row) × StandsFor D.seen D.may_leave row self.now }
         ensures records { (row : Row) → StandsFor D.seen D.may_leave row self.now → result ≡ length row.records }
         ensures crash { (row : Row) → StandsFor D.seen D.may_leave row self.now → Tells (D.seen self.now.disk).bytes (λ _.
             (image : List ℕ) → D.may_leave self.now.disk image → Opens row image) }

@@ -122,15 +122,19 @@ impl MemoryDisk {
 
 impl Disk for MemoryDisk {
     ghost use Rattle.fluid_disk.specs.Memory.{memory_seen, LeftSince, leaves_held, left_now, now_alone};
-    ghost use Rattle.std.specs.Prelude.{refl};
+    ghost use Rattle.std.specs.Prelude.{refl, true};
 
     ghost seen = { memory_seen };
+
+    ghost tells = { true };
 
     ghost may_leave = { λ d. MayLeave d.calls d.held };
 
     ghost moment = { λ d. length d.calls };
 
     ghost left_since = { λ d. LeftSince d.calls d.held };
+
+    ghost told = { λ d. refl };
 
     ghost sized = { λ d. refl };
 
@@ -225,9 +229,20 @@ fn overwrite(
     let within = bytes.len().min(held.len() - at);
     let replaced = Bytes::copied(alloc, &held[at..at + within])?;
     calls.reserve(1)?;
+    put_over(held, at, bytes)?;
+    calls.push_reserved(Call::Wrote(at, bytes.len(), replaced));
+    Ok(())
+}
+
+// Puts bytes in place of what stands there, and behind the end. After `NoMemory` nothing has changed.
+fn put_over(held: &mut Vec<u8>, at: usize, bytes: &[u8]) -> Result<(), NoMemory>
+    requires { at ≤ length held.old.items }
+    ensures written { OnOk result (held.new.items ≡ overwritten at bytes.now held.old.items) }
+    ensures same { OnErr result (held.new.items ≡ held.old.items) }
+{
+    let within = bytes.len().min(held.len() - at);
     held.extend_from_slice(&bytes[within..])?;
     held[at..at + within].copy_from_slice(&bytes[..within]);
-    calls.push_reserved(Call::Wrote(at, bytes.len(), replaced));
     Ok(())
 }
 

@@ -10,7 +10,7 @@ ghost use Rattle.fluid_disk.specs.declared.owed.Owed.TheVariants as debts;
 
 use crate::Disk;
 use crate::reading::{byte_at, piece};
-use crate::writing::{last_gate, put, shorten};
+use crate::writing::{CLOSED, OPEN, last_gate, put, shorten};
 use fluid_io::Failed;
 use fluid_log::KeeperFault;
 use std::alloc::Global;
@@ -26,6 +26,7 @@ pub fn find<D: Disk>(alloc: Global, disk: &mut D) -> Result<Vec<u64>, KeeperFaul
     ensures cause { IsCaused (D.seen disk.old).faults (D.seen disk.new).faults result }
     ensures stands { IfOk result (λ gates. (records : List (List ℕ)) × Stands D.seen D.may_leave (settled records) disk.new gates.items debts.Nothing
         × ((held : List ℕ) → (D.seen disk.old).bytes ≡ Some held → Finds records held × ((D.seen disk.new).bytes ≡ Some (spelled records ++ 0 ∷ [])))) }
+    ensures finds { (held now : List ℕ) → (D.seen disk.old).bytes ≡ Some held → (D.seen disk.new).bytes ≡ Some now → FindsSame held now }
     ensures crash { (held : List ℕ) → (D.seen disk.old).bytes ≡ Some held →
         LeavesOnly D.moment D.left_since disk.old disk.new (λ image. D.may_leave disk.old image ⊎ FindsSame held image) }
 {
@@ -50,15 +51,17 @@ fn walk<D: Disk>(alloc: Global, disk: &mut D) -> Result<Vec<u64>, KeeperFault>
     let mut place = 0;
     loop {
         let head = ahead.head(alloc, disk, place)?;
-        let Some(count) = head else {
-            return Ok(gates);
-        };
-        let behind = place + HEAD;
-        if count as u64 > size - behind {
-            return Ok(gates);
+        match head {
+            None => return Ok(gates),
+            Some(count) => {
+                let behind = place + HEAD;
+                if count as u64 > size - behind {
+                    return Ok(gates);
+                }
+                place = behind + count as u64;
+                gates.push(place)?;
+            }
         }
-        place = behind + count as u64;
-        gates.push(place)?;
     }
 }
 
@@ -105,7 +108,7 @@ impl Ahead {
         ensures cause { IsCaused (D.seen disk.old).faults (D.seen disk.new).faults result }
         ensures reads { OnlyReads D.seen D.may_leave D.moment D.left_since disk.old disk.new }
         ensures ahead { OnOk result (IsAhead self.new.start self.new.bytes.items (D.seen disk.new)) }
-        ensures place { OnOk result ((self.new.start ≤ place) × (min (place + 5) (D.seen disk.old).size ≤ self.new.start + length self.new.bytes.items)) }
+        ensures place { OnOk result ((self.new.start ≤ place) × (min 5 ((D.seen disk.old).size - place) ≤ length self.new.bytes.items - (place - self.new.start))) }
     {
         let size = disk.len();
         let wanted = (size - place).min(HEAD);
@@ -142,7 +145,7 @@ impl Ahead {
         ensures cause { IsCaused (D.seen disk.old).faults (D.seen disk.new).faults result }
         ensures reads { OnlyReads D.seen D.may_leave D.moment D.left_since disk.old disk.new }
         ensures ahead { OnOk result (IsAhead self.new.start self.new.bytes.items (D.seen disk.new)) }
-        ensures place { OnOk result ((self.new.start ≡ place) × (min (place + 5) (D.seen disk.old).size ≤ self.new.start + length self.new.bytes.items)) }
+        ensures place { OnOk result ((self.new.start ≡ place) × (min 5 ((D.seen disk.old).size - place) ≤ length self.new.bytes.items)) }
     {
         let size = disk.len();
         let mut bytes = Vec::from_slice(alloc, self.rest(place))?;
@@ -160,10 +163,13 @@ impl Ahead {
 fn head_of(bytes: &[u8]) -> Option<u32>
     ensures { IsHead bytes.now result }
 {
-    match bytes {
-        [1, a, b, c, d, ..] => Some(u32::from_be_bytes([*a, *b, *c, *d])),
-        _ => None,
+    if bytes.len() < 5 {
+        return None;
     }
+    if bytes[0] != OPEN {
+        return None;
+    }
+    Some(u32::from_be_bytes([bytes[1], bytes[2], bytes[3], bytes[4]]))
 }
 
 // Leaves a closed gate at this place, where no record begins, and nothing behind it. What a read gives is on the disk before.
@@ -181,7 +187,7 @@ fn settle<D: Disk>(disk: &mut D, end: u64) -> Result<(), Failed>
         clear(disk, end)?;
         return Ok(());
     }
-    put(disk, end, &[0])?;
+    put(disk, end, &[CLOSED])?;
     Ok(())
 }
 
@@ -216,9 +222,9 @@ fn shut<D: Disk>(disk: &mut D, gate: u64) -> Result<(), Failed>
         gate ≡ length (spelled records) → LeavesOnly D.moment D.left_since disk.old disk.new (Finds records) }
 {
     let value = byte_at(disk, gate)?;
-    if value == 0 {
+    if value == CLOSED {
         return Ok(());
     }
-    put(disk, gate, &[0])?;
+    put(disk, gate, &[CLOSED])?;
     Ok(())
 }

@@ -16,8 +16,8 @@ use fluid_log::{KeeperFault, LONGEST_KEPT};
 use std::alloc::Global;
 
 // A gate behind which a record stands, and one behind which none does.
-const OPEN: u8 = 1;
-const CLOSED: u8 = 0;
+pub const OPEN: u8 = 1;
+pub const CLOSED: u8 = 0;
 
 // The place of the gate before record `count`, or behind the last one.
 pub fn gate_of(gates: &[u64], count: usize) -> u64

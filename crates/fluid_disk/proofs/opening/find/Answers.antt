@@ -3,10 +3,10 @@ use Rattle.std.specs.Prelude.{Some, ◌⊎◌}
 use Rattle.fluid_disk.specs.Disk.{Only, LeavesOnly}
 use Rattle.fluid_disk.specs.Records.{spelled, Finds, IsAtRest}
 use Rattle.fluid_disk.specs.Files.{FindsSame}
-use Rattle.fluid_disk.proofs.Moments.{weaker, chained}
+use Rattle.fluid_disk.proofs.Moments.{weaker, chained, left_behind}
 use Rattle.fluid_disk.proofs.Runs.{quiet_run}
 use Rattle.fluid_disk.proofs.Standing.{tells_at, told_before, same_told, settles}
-use Rattle.fluid_disk.proofs.Endings.{found_once}
+use Rattle.fluid_disk.proofs.Endings.{found_once, finds_same, finds_other}
 use Rattle.fluid_disk.proofs.Rows.{length_gates}
 use Rattle.fluid_disk.proofs.opening.find.Goals as goal
 
@@ -83,3 +83,34 @@ returns-clause-stands g c =
     let durable = c.in_ok-settle.ensures.durable in
     let room : length (spelled w.0) < (g.D.Disk.seen c.settle.new.disk).size = omega (arith, place, durable.1) in
     (w.0, settles g.D.Disk.seen g.D.Disk.may_leave w.0 c.settle.new.disk c.in_ok-gates.gates.items w.1.gates_are w.1.short room durable.0 rest, closed)
+
+pub returns-in_err-sync-clause-finds : goal.returns-in_err-sync-clause-finds
+returns-in_err-sync-clause-finds g c held now told then = finds_same held now (same_told (g.D.Disk.seen c.sync.new.self).bytes held now (c.sync.ensures.same.bytes ∙ told) then)
+
+pub returns-in_err-gates-clause-finds : goal.returns-in_err-gates-clause-finds
+returns-in_err-gates-clause-finds g c held now told then =
+    finds_same held now (same_told (g.D.Disk.seen c.walk.new.disk).bytes held now (c.walk.ensures.reads.same.bytes ∙ c.sync.ensures.same.bytes ∙ told) then)
+
+pub returns-in_err-settle-clause-finds : goal.returns-in_err-settle-clause-finds
+returns-in_err-settle-clause-finds g c held now told then =
+    let w = c.in_ok-gates.ensures.found in
+    let place = c.last_gate.ensures w.0 (c.deref.ensures.value ∙ w.1.gates_are) in
+    let told_then = c.walk.ensures.reads.same.bytes ∙ c.sync.ensures.same.bytes ∙ told in
+    let finds = tells_at (g.D.Disk.seen c.sync.new.self).bytes (Finds w.0) held (c.sync.ensures.same.bytes ∙ told) w.1.finds in
+    let only : Only held (g.D.Disk.may_leave c.walk.new.disk) = λ image now.
+      tells_at (g.D.Disk.seen c.sync.new.self).bytes (λ b. Only b (g.D.Disk.may_leave c.sync.new.self)) held (c.sync.ensures.same.bytes ∙ told) c.in_ok-sync.ensures.durable image (c.walk.ensures.reads.fewer image now) in
+    finds_other w.0 held now finds
+    (left_behind g.D.Disk.moment g.D.Disk.left_since c.walk.new.disk c.settle.new.disk (Finds w.0) (g.D.Disk.may_leave c.settle.new.disk) (c.settle.ensures.crash w.0 held told_then only finds place)
+      (g.met.D.Disk.counts_now c.settle.new.disk) now (tells_at (g.D.Disk.seen c.settle.new.disk).bytes (g.D.Disk.may_leave c.settle.new.disk) now then (g.met.D.Disk.leaves_read c.settle.new.disk)))
+
+pub returns-clause-finds : goal.returns-clause-finds
+returns-clause-finds g c held now told then =
+    let w = c.in_ok-gates.ensures.found in
+    let place = c.last_gate.ensures w.0 (c.deref.ensures.value ∙ w.1.gates_are) in
+    let told_then = c.walk.ensures.reads.same.bytes ∙ c.sync.ensures.same.bytes ∙ told in
+    let finds = tells_at (g.D.Disk.seen c.sync.new.self).bytes (Finds w.0) held (c.sync.ensures.same.bytes ∙ told) w.1.finds in
+    let only : Only held (g.D.Disk.may_leave c.walk.new.disk) = λ image now.
+      tells_at (g.D.Disk.seen c.sync.new.self).bytes (λ b. Only b (g.D.Disk.may_leave c.sync.new.self)) held (c.sync.ensures.same.bytes ∙ told) c.in_ok-sync.ensures.durable image (c.walk.ensures.reads.fewer image now) in
+    finds_other w.0 held now finds
+    (left_behind g.D.Disk.moment g.D.Disk.left_since c.walk.new.disk c.settle.new.disk (Finds w.0) (g.D.Disk.may_leave c.settle.new.disk) (c.settle.ensures.crash w.0 held told_then only finds place)
+      (g.met.D.Disk.counts_now c.settle.new.disk) now (tells_at (g.D.Disk.seen c.settle.new.disk).bytes (g.D.Disk.may_leave c.settle.new.disk) now then (g.met.D.Disk.leaves_read c.settle.new.disk)))

@@ -16,8 +16,8 @@ returns-in_err-value-clause-crash g c records value told short place =
       (λ image now. finds_short records image (value ∷ []) short (alone image now) (omega arith)) c.byte_at.ensures.reads.since in
     one
 
-pub returns-then-value-eq0-clause-crash : goal.returns-then-value-eq0-clause-crash
-returns-then-value-eq0-clause-crash g c records value told short place =
+pub returns-then-value-eq-CLOSED-clause-crash : goal.returns-then-value-eq-CLOSED-clause-crash
+returns-then-value-eq-CLOSED-clause-crash g c records value told short place =
     let alone = tells_at (g.D.Disk.seen c.args.disk.now).bytes (λ b. Only b (g.D.Disk.may_leave c.args.disk.now)) (spelled records ++ value ∷ []) told c.requires.durable in
     let one = weaker g.D.Disk.moment g.D.Disk.left_since c.args.disk.now c.byte_at.new.disk (g.D.Disk.may_leave c.args.disk.now) (Finds records)
       (λ image now. finds_short records image (value ∷ []) short (alone image now) (omega arith)) c.byte_at.ensures.reads.since in
@@ -47,9 +47,9 @@ returns-clause-crash g c records value told short place =
       (λ image torn. end_torn records (value ∷ []) image short (omega arith) (subst (λ (n : ℕ). Torn n 1 (spelled records ++ value ∷ []) image) place torn))
       (c.put.ensures.crash (spelled records ++ value ∷ []) mid_told kept))
 
-pub returns-then-value-eq0-clause-closed : goal.returns-then-value-eq0-clause-closed
-returns-then-value-eq0-clause-closed g c front value told place =
-    let zero : value ≡ 0 = sym (get_or_at front value [] 0 c.args.gate (sym place)) ∙ sym (c.in_ok-value.ensures.byte (front ++ value ∷ []) told) ∙ c.if-value-eq0.true in
+pub returns-then-value-eq-CLOSED-clause-closed : goal.returns-then-value-eq-CLOSED-clause-closed
+returns-then-value-eq-CLOSED-clause-closed g c front value told place =
+    let zero : value ≡ 0 = sym (get_or_at front value [] 0 c.args.gate (sym place)) ∙ sym (c.in_ok-value.ensures.byte (front ++ value ∷ []) told) ∙ c.if-value-eq-CLOSED.true in
     c.byte_at.ensures.reads.same.bytes ∙ told ∙ ap (λ (v : ℕ). Some (front ++ v ∷ [])) zero
 
 pub returns-clause-closed : goal.returns-clause-closed

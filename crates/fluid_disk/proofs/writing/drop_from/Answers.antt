@@ -2,6 +2,8 @@ use Rattle.std.proofs.Common.{◌∙◌, ◌≡◌, ◌<◌, ◌+◌, [], ◌∷
 use Rattle.std.proofs.lemmas.Result.{err_from_is_err_and}
 use Rattle.fluid_disk.specs.Disk.{Torn, LeavesOnly, Overwrites}
 use Rattle.fluid_disk.specs.Records.{gate_before}
+use Rattle.fluid_disk.specs.Files.{settled, Stands}
+use Rattle.fluid_disk.specs.declared.owed.Owed.TheVariants as debts
 use Rattle.fluid_disk.proofs.Standing.{at_rest, only}
 use Rattle.fluid_disk.proofs.Mending.{drop_failed, drop_run, dropped, front_shorter}
 use Rattle.fluid_disk.proofs.Rows.{length_gates}
@@ -31,9 +33,12 @@ pub returns-clause-does : goal.returns-clause-does
 returns-clause-does g c records s =
     let gate = c.gate_of-gate.ensures records (c.deref.ensures.value ∙ s.gates_are) in
     let below : c.args.count < length records = omega (arith, c.requires.below, ap length s.gates_are, length_gates 0 records) in
-    rw (c.truncate.ensures.items) (dropped g.D.Disk.seen g.D.Disk.may_leave g.D.Disk.moment g.D.Disk.left_since records c.args.count c.args.disk.now c.put.new.disk c.args.gates.now.items c.args.owed.now s (g.met.D.Disk.leaves_read c.args.disk.now) below
+    let more : suc c.args.count ≡ c.args.count + 1 = omega arith in
+    rw (c.truncate.ensures.items)
+    (subst (λ (n : ℕ). Stands g.D.Disk.seen g.D.Disk.may_leave (settled (take c.args.count records)) c.put.new.disk (take n c.args.gates.now.items) debts.Nothing) more
+    (dropped g.D.Disk.seen g.D.Disk.may_leave g.D.Disk.moment g.D.Disk.left_since records c.args.count c.args.disk.now c.put.new.disk c.args.gates.now.items c.args.owed.now s (g.met.D.Disk.leaves_read c.args.disk.now) below
     (omega (arith, c.in_ok-put.ensures.does.size))
-    (subst (λ (n : ℕ). Overwrites n (0 ∷ []) (g.D.Disk.seen c.args.disk.now) (g.D.Disk.seen c.put.new.disk)) gate c.in_ok-put.ensures.does) c.in_ok-put.ensures.durable)
+    (subst (λ (n : ℕ). Overwrites n (0 ∷ []) (g.D.Disk.seen c.args.disk.now) (g.D.Disk.seen c.put.new.disk)) gate c.in_ok-put.ensures.does) c.in_ok-put.ensures.durable))
 
 pub returns-clause-crash : goal.returns-clause-crash
 returns-clause-crash g c records held s told =

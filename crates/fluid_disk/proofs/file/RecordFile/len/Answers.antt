@@ -1,6 +1,6 @@
 use Rattle.std.proofs.Common.{rules, ◌≡◌, ℕ, List, length, ap, sym, subst, ◌∙◌, arith}
 use Rattle.std.specs.Prelude.{vec_len}
-use Rattle.fluid_disk.specs.Files.{Recording, StandsFor}
+use Rattle.fluid_disk.specs.Files.{Recording, Row, StandsFor}
 use Rattle.fluid_disk.proofs.Promise.{opens_now}
 use Rattle.fluid_disk.proofs.Rows.{length_gates}
 use Rattle.fluid_disk.proofs.file.RecordFile.len.Goals as goal
@@ -24,3 +24,6 @@ returns-clause-records g c row s =
 
 pub returns-clause-crash : goal.returns-clause-crash
 returns-clause-crash g c row s = opens_now g.D.Disk.seen g.D.Disk.may_leave row c.args.self.now.disk c.args.self.now.gates c.args.self.now.owed s
+
+pub returns-clause-stands : goal.returns-clause-stands
+returns-clause-stands g c = subst (λ (f : Recording g.row.D.Denot). (row : Row) × StandsFor g.D.Disk.seen g.D.Disk.may_leave row f) c.self.view_is c.self.invariant

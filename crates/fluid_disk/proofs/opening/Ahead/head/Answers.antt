@@ -1,7 +1,7 @@
 use Rattle.std.proofs.Common.{◌≡◌, ◌+◌, ◌-◌, ◌≤◌, ℕ, List, length, drop, ap, sym, subst, ◌∙◌, arith, length-drop}
 use Rattle.fluid_disk.specs.Records.{IsHead}
 use Rattle.fluid_disk.proofs.Standing.{tells_at}
-use Rattle.fluid_disk.proofs.Walks.{is_head_more, later_piece}
+use Rattle.fluid_disk.proofs.Walks.{is_head_more, rest_there}
 use Rattle.fluid_disk.proofs.opening.Ahead.head.Goals as goal
 
 pub returns-clause-head : goal.returns-clause-head
@@ -10,8 +10,7 @@ returns-clause-head g c held told =
     let now = c.reach.ensures.reads.same.bytes ∙ told in
     let size = tells_at (g.D.Disk.seen c.reach.new.disk).bytes (λ b. (g.D.Disk.seen c.reach.new.disk).size ≡ length b) held now (g.met.D.Disk.sized c.reach.new.disk) in
     let is = tells_at (g.D.Disk.seen c.reach.new.disk).bytes _ held now a.ahead.told in
-    let within : c.args.place ≤ c.reach.new.self.start + length c.reach.new.self.bytes.items = omega (arith, a.place.1, c.requires.within) in
-    let piece = later_piece c.reach.new.self.start c.args.place c.reach.new.self.bytes.items held is a.place.0 within in
-    let left = c.reach.new.self.start + length c.reach.new.self.bytes.items - c.args.place in
-    is_head_more left (drop c.args.place held) c.head_of.result (omega (arith, length-drop c.args.place held, size, a.place.1, c.reach.ensures.reads.same.size))
-    (subst (λ (l : List ℕ). IsHead l c.head_of.result) (c.rest.ensures ∙ piece) c.head_of.ensures)
+    let rest = rest_there c.reach.new.self.start c.args.place c.reach.new.self.bytes.items held is a.place.0 (omega (arith, c.requires.within, size, c.reach.ensures.reads.same.size))
+      (omega (arith, a.place.1, size, c.reach.ensures.reads.same.size)) in
+    is_head_more rest.0 (drop c.args.place held) c.head_of.result rest.2
+    (subst (λ (l : List ℕ). IsHead l c.head_of.result) (c.rest.ensures ∙ rest.1) c.head_of.ensures)
