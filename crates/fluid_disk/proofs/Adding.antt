@@ -1,17 +1,16 @@
 -- What a file stands for while a record is added.
-use Rattle.std.proofs.Common.{◌≡◌, ◌≢◌, ◌⊎◌, inl, inr, ℕ, ◌+◌, ◌<◌, ◌≤◌, List, [], ◌∷◌, ◌++◌, length, refl, sym, ◌∙◌, ap, subst, arith}
-use Rattle.std.specs.Prelude.{Option, Some, is_some}
-use Rattle.std.specs.Option.{option_map}
+use Rattle.std.proofs.Common.{◌≡◌, ◌≢◌, inl, ℕ, ◌+◌, ◌<◌, ◌≤◌, List, [], ◌∷◌, ◌++◌, length, refl, sym, ◌∙◌, ap, subst, arith}
+use Rattle.std.specs.Prelude.{Some}
 use Rattle.fluid_io.specs.Causes.{Tells}
 use Rattle.fluid_disk.specs.declared.owed.Owed.{Owed}
 use Rattle.fluid_disk.specs.declared.owed.Owed.TheVariants as debts
 use Rattle.fluid_disk.specs.Disk.{Stored, Torn, Only, IsDurable, LeavesOnly, StaysAtLeast, Overwrites, overwritten}
 use Rattle.fluid_disk.specs.Records.{IsShort, framed, spelled, gates_from, IsAtRest}
-use Rattle.fluid_disk.specs.Files.{Owing, Nothing, Appending, Row, settled, appending, Keeps, Stands}
+use Rattle.fluid_disk.specs.Files.{Owing, Nothing, Appending, settled, appending, Keeps, Stands}
 use Rattle.fluid_disk.proofs.Moments.{weaker, chained, left_behind}
-use Rattle.fluid_disk.proofs.Standing.{at_rest, only, settles, owes, told_before, mapped, mapped_from, tells_at}
+use Rattle.fluid_disk.proofs.Standing.{at_rest, only, settles, owes, told_before, mapped_from, tells_at}
 use Rattle.fluid_disk.proofs.Resting.{IsStaged, staged, behind_torn, gate_torn, gate_opened, short_push}
-use Rattle.fluid_disk.proofs.Rows.{gates_push, length_push, length_framed}
+use Rattle.fluid_disk.proofs.Rows.{gates_push, length_push}
 
 abbrev pub owing_is : Owing → ℕ
 owing_is Nothing = 0
@@ -30,10 +29,10 @@ module _ {D : Type 0} (seen : D → Stored) (may_leave : D → List ℕ → Type
   first_failed records bytes old new gates owed at n s leaves counts short place stays run =
       owes seen may_leave (appending records bytes) new gates debts.Append s.gates_are s.short short refl (omega (arith, s.room, stays.no_shorter)) (appending_some bytes)
       (λ now_held told image now.
-        let h = told_before (seen old).bytes (seen new).bytes now_held stays.told told in
-        let rest = at_rest seen may_leave records old gates owed h.0 s leaves h.1 in
-        let torn = left_behind moment left_since old new (Torn at n h.0) (may_leave new) (run h.0 h.1 (only seen may_leave records old gates owed h.0 s h.1)) counts image now in
-        inl (behind_torn records h.0 image at n place rest torn))
+      let h = told_before (seen old).bytes (seen new).bytes now_held stays.told told in
+      let rest = at_rest seen may_leave records old gates owed h.0 s leaves h.1 in
+      let torn = left_behind moment left_since old new (Torn at n h.0) (may_leave new) (run h.0 h.1 (only seen may_leave records old gates owed h.0 s h.1)) counts image now in
+      inl (behind_torn records h.0 image at n place rest torn))
 
   pub first_run : (records : List (List ℕ)) (bytes held : List ℕ) (old new : D) (at n : ℕ) → IsAtRest records held → at ≡ length (spelled records) + 1
       → LeavesOnly moment left_since old new (Torn at n held) → LeavesOnly moment left_since old new (Keeps records (Appending bytes))
@@ -60,10 +59,10 @@ module _ {D : Type 0} (seen : D → Stored) (may_leave : D → List ℕ → Type
   second_failed records bytes old mid new gates owed s counts short longer stays whole durable run =
       owes seen may_leave (appending records bytes) new gates debts.Append s.gates_are s.short short refl (omega (arith, s.room, stays.no_shorter, longer)) (appending_some bytes)
       (λ now_held told image now.
-        let h = told_before (seen mid).bytes (seen new).bytes now_held stays.told told in
-        let alone = tells_at (seen mid).bytes (λ b. Only b (may_leave mid)) h.0 h.1 durable in
-        let torn = left_behind moment left_since mid new (Torn (length (spelled records)) 1 h.0) (may_leave new) (run h.0 h.1 alone) counts image now in
-        gate_torn records bytes h.0 image (whole h.0 h.1) torn)
+      let h = told_before (seen mid).bytes (seen new).bytes now_held stays.told told in
+      let alone = tells_at (seen mid).bytes (λ b. Only b (may_leave mid)) h.0 h.1 durable in
+      let torn = left_behind moment left_since mid new (Torn (length (spelled records)) 1 h.0) (may_leave new) (run h.0 h.1 alone) counts image now in
+      gate_torn records bytes h.0 image (whole h.0 h.1) torn)
 
   pub second_run : (records : List (List ℕ)) (bytes held : List ℕ) (old mid new : D) → IsStaged records bytes held → LeavesOnly moment left_since old mid (Keeps records (Appending bytes))
       → LeavesOnly moment left_since mid new (Torn (length (spelled records)) 1 held) → LeavesOnly moment left_since old new (Keeps records (Appending bytes))
@@ -80,8 +79,8 @@ module _ {D : Type 0} (seen : D → Stored) (may_leave : D → List ℕ → Type
   added records bytes old mid new gates owed next s short place room whole writes durable =
       let from_zero : next ≡ 0 + length (spelled records) + 5 + length bytes = omega (arith, place) in
       let gates_are : gates ++ next ∷ [] ≡ gates_from 0 (records ++ bytes ∷ []) =
-        ap (λ (l : List ℕ). l ++ next ∷ []) s.gates_are ∙ ap (λ (n : ℕ). gates_from 0 records ++ n ∷ []) from_zero ∙ sym (gates_push 0 records bytes) in
+      ap (λ (l : List ℕ). l ++ next ∷ []) s.gates_are ∙ ap (λ (n : ℕ). gates_from 0 records ++ n ∷ []) from_zero ∙ sym (gates_push 0 records bytes) in
       settles seen may_leave (records ++ bytes ∷ []) new (gates ++ next ∷ []) gates_are (short_push records bytes s.short short) (omega (arith, room, place, length_push records bytes)) durable
       (λ held told.
-        let h = mapped_from (overwritten (length (spelled records)) (1 ∷ [])) (seen mid).bytes (seen new).bytes held writes.bytes told in
-        subst (IsAtRest (records ++ bytes ∷ [])) (sym h.2) (gate_opened records bytes h.0 (whole h.0 h.1)))
+      let h = mapped_from (overwritten (length (spelled records)) (1 ∷ [])) (seen mid).bytes (seen new).bytes held writes.bytes told in
+      subst (IsAtRest (records ++ bytes ∷ [])) (sym h.2) (gate_opened records bytes h.0 (whole h.0 h.1)))

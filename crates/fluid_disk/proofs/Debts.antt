@@ -1,10 +1,9 @@
 -- What is noted as owed, and what is.
 use Rattle.std.proofs.Common.{◌≡◌, ◌≢◌, ℕ, List, refl, sym, ◌∙◌, ap, subst, arith}
-use Rattle.fluid_io.specs.Causes.{Tells}
 use Rattle.fluid_disk.specs.declared.owed.Owed.{Owed}
 use Rattle.fluid_disk.specs.declared.owed.Owed.TheVariants as debts
 use Rattle.fluid_disk.specs.Disk.{Stored}
-use Rattle.fluid_disk.specs.Files.{Owing, Nothing, Appending, Cutting, Row, Keeps, MayOwe, IsNoted, Stands}
+use Rattle.fluid_disk.specs.Files.{Owing, Nothing, Appending, Cutting, IsNoted, Stands}
 
 abbrev kind_of : Owed → ℕ
 kind_of debts.Nothing = 0

@@ -1,11 +1,11 @@
 -- What opening finds, and what a crash leaves while the end of a file is repaired.
-use Rattle.std.proofs.Common.{◌≡◌, ◌≢◌, ◌⊎◌, inl, inr, ℕ, zero, suc, ◌+◌, ◌-◌, ◌<◌, ◌≤◌, min, List, [], ◌∷◌, ◌++◌, length, take, drop, refl, sym, ◌∙◌, ap, subst, arith, append_assoc, length-append, length-drop, length-take}
-use Rattle.std.proofs.lemmas.List.{take_at, drop_at, drop_all, append-nil, append_cancel_left}
+use Rattle.std.proofs.Common.{◌≡◌, inl, inr, ℕ, ◌+◌, ◌<◌, ◌≤◌, List, [], ◌∷◌, ◌++◌, length, take, drop, refl, sym, ◌∙◌, ap, subst, arith, append_assoc, length-append, length-drop}
+use Rattle.std.proofs.lemmas.List.{take_at, drop_all, append_cancel_left}
 use Rattle.std.proofs.lemmas.Nat.{from_be_bytes-to_be_bytes_4}
 use Rattle.std.specs.Int.{w32, to_be_bytes, from_be_bytes}
 use Rattle.std.specs.List.{AllByRecursion}
 use Rattle.fluid_disk.specs.Disk.{Torn, Cut, overwritten}
-use Rattle.fluid_disk.specs.Records.{IsShort, framed, spelled, IsEnd, IsWhole, Finds, IsHeadless, HasHead}
+use Rattle.fluid_disk.specs.Records.{IsShort, framed, spelled, IsEnd, IsWhole, Finds}
 use Rattle.fluid_disk.proofs.Tears.{torn_behind, written_behind}
 use Rattle.fluid_disk.proofs.Rows.{length_framed}
 
@@ -91,17 +91,17 @@ finds_once (x ∷ one) [] bytes end other_end a b ends others is also =
     absurd (begins refl (whole_first x (spelled one ++ end) a.0))
 finds_once (x ∷ one) (y ∷ two) bytes end other_end a b ends others is also =
     let both : 1 ∷ (framed x ++ (spelled one ++ end)) ≡ 1 ∷ (framed y ++ (spelled two ++ other_end)) =
-      sym (append_assoc (1 ∷ framed x) (spelled one) end) ∙ sym is ∙ also ∙ append_assoc (1 ∷ framed y) (spelled two) other_end in
+    sym (append_assoc (1 ∷ framed x) (spelled one) end) ∙ sym is ∙ also ∙ append_assoc (1 ∷ framed y) (spelled two) other_end in
     let behind : framed x ++ (spelled one ++ end) ≡ framed y ++ (spelled two ++ other_end) = tail_same _ _ _ _ both in
     let sizes : length x ≡ length y =
-      sym (first_length x (spelled one ++ end) a.0) ∙ ap (λ (l : List ℕ). from_be_bytes w32 (take 4 l)) behind ∙ first_length y (spelled two ++ other_end) b.0 in
+    sym (first_length x (spelled one ++ end) a.0) ∙ ap (λ (l : List ℕ). from_be_bytes w32 (take 4 l)) behind ∙ first_length y (spelled two ++ other_end) b.0 in
     let bodies : x ++ (spelled one ++ end) ≡ y ++ (spelled two ++ other_end) =
-      append_cancel_left (to_be_bytes w32 (length x)) _ _
-      (sym (append_assoc (to_be_bytes w32 (length x)) x (spelled one ++ end)) ∙ behind ∙ append_assoc (to_be_bytes w32 (length y)) y (spelled two ++ other_end)
-        ∙ ap (λ (n : ℕ). to_be_bytes w32 n ++ (y ++ (spelled two ++ other_end))) (sym sizes)) in
+    append_cancel_left (to_be_bytes w32 (length x)) _ _
+    (sym (append_assoc (to_be_bytes w32 (length x)) x (spelled one ++ end)) ∙ behind ∙ append_assoc (to_be_bytes w32 (length y)) y (spelled two ++ other_end)
+    ∙ ap (λ (n : ℕ). to_be_bytes w32 n ++ (y ++ (spelled two ++ other_end))) (sym sizes)) in
     let firsts : x ≡ y = sym (take_at x (spelled one ++ end) (length x) refl) ∙ ap (λ (l : List ℕ). take (length x) l) bodies ∙ take_at y (spelled two ++ other_end) (length x) (sym sizes) in
     let rests : spelled one ++ end ≡ spelled two ++ other_end =
-      append_cancel_left x _ _ (bodies ∙ ap (λ (l : List ℕ). l ++ (spelled two ++ other_end)) (sym firsts)) in
+    append_cancel_left x _ _ (bodies ∙ ap (λ (l : List ℕ). l ++ (spelled two ++ other_end)) (sym firsts)) in
     ap (λ (l : List ℕ). l ∷ one) firsts ∙ ap (λ (l : List (List ℕ)). y ∷ l) (finds_once one two (spelled one ++ end) end other_end a.1 b.1 ends others refl rests)
 
 pub found_once : (one two : List (List ℕ)) (bytes : List ℕ) → Finds one bytes → Finds two bytes → one ≡ two

@@ -1,13 +1,12 @@
 -- What the calls of a disk in memory leave in its history.
-use Rattle.std.proofs.Common.{◌≡◌, ◌⊎◌, inl, inr, ℕ, ◌+◌, ◌-◌, ◌≤◌, min, List, [], ◌∷◌, ◌++◌, length, take, drop, reverse, refl, sym, ◌∙◌, ap, subst, arith, append_assoc, length-append, length-drop, take-append-drop, length-take}
+use Rattle.std.proofs.Common.{◌≡◌, inl, inr, ℕ, ◌+◌, ◌-◌, ◌≤◌, min, List, [], ◌∷◌, ◌++◌, length, take, drop, reverse, sym, ◌∙◌, ap, subst, arith, append_assoc, length-append, length-drop, take-append-drop}
 use Rattle.std.proofs.lemmas.List.{take_at, drop_at, take_all, drop_all, drop-drop, take-append-le, append-nil, length-take-le, reverse-append}
 use Rattle.fluid_disk.specs.declared.call.Call.{Call}
-use Rattle.fluid_disk.specs.declared.call.Call.TheVariants.{Wrote, CutOff, Synced}
+use Rattle.fluid_disk.specs.declared.call.Call.TheVariants.{Wrote, CutOff}
 use Rattle.fluid_disk.specs.Disk.{Torn, Cut, Follows, Elapses, overwritten}
 use Rattle.fluid_disk.specs.Memory.{MayLeave, LeftSince, undone, leaves_held}
 use Rattle.fluid_disk.proofs.Kept.{ordered}
 use Rattle.fluid_disk.proofs.Pieces.{take_add}
-use Rattle.fluid_disk.proofs.Tears.{torn_same, torn_done}
 
 -- ---- taking back
 

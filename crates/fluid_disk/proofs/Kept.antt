@@ -1,11 +1,10 @@
 -- Where the bytes of a record stand.
-use Rattle.std.proofs.Common.{◌≡◌, ◌⊎◌, inl, inr, ℕ, zero, suc, ◌+◌, ◌-◌, ◌<◌, ◌≤◌, List, [], ◌∷◌, ◌++◌, length, get_or, take, drop, refl, sym, ◌∙◌, ap, subst, arith, append_assoc, length-append}
+use Rattle.std.proofs.Common.{◌≡◌, ◌⊎◌, inl, inr, ℕ, zero, suc, ◌+◌, ◌-◌, ◌<◌, ◌≤◌, List, [], ◌∷◌, ◌++◌, length, get_or, take, drop, refl, sym, ◌∙◌, ap, arith, append_assoc, length-append}
 use Rattle.std.proofs.lemmas.List.{take_at, drop_at, drop-drop, drop-take, take-take, get_or_append_left, take-append-le}
 use Rattle.std.specs.Int.{w32, to_be_bytes}
-use Rattle.fluid_disk.specs.Disk.{Torn}
 use Rattle.fluid_disk.specs.Records.{framed, spelled, gate_before, IsAtRest}
-use Rattle.fluid_disk.specs.Files.{Owing, Nothing, Appending, Cutting, IsAtRestBut, Keeps, MayOwe}
-use Rattle.fluid_disk.proofs.Rows.{opened_at, length_first, length_framed, spelled_split}
+use Rattle.fluid_disk.specs.Files.{Owing, Nothing, Appending, Cutting, IsAtRestBut, Keeps}
+use Rattle.fluid_disk.proofs.Rows.{opened_at, length_first}
 
 -- the gate behind a record
 pub gate_next : (n : ℕ) (records : List (List ℕ)) → n < length records → gate_before (suc n) records ≡ gate_before n records + 5 + length (get_or records n [])
@@ -60,8 +59,8 @@ there n records held lt rest =
     let front = spelled (take n records) in
     let back = spelled (drop (n + 1) records) in
     let is : held ≡ front ++ 1 ∷ (framed one ++ (back ++ rest.gate ∷ rest.behind)) =
-      rest.splits ∙ ap (λ (l : List ℕ). l ++ rest.gate ∷ rest.behind) (opened_at n records lt) ∙ append_assoc front (1 ∷ (framed one ++ back)) (rest.gate ∷ rest.behind)
-      ∙ ap (λ (l : List ℕ). front ++ 1 ∷ l) (append_assoc (framed one) back (rest.gate ∷ rest.behind)) in
+    rest.splits ∙ ap (λ (l : List ℕ). l ++ rest.gate ∷ rest.behind) (opened_at n records lt) ∙ append_assoc front (1 ∷ (framed one ++ back)) (rest.gate ∷ rest.behind)
+    ∙ ap (λ (l : List ℕ). front ++ 1 ∷ l) (append_assoc (framed one) back (rest.gate ∷ rest.behind)) in
     ap (λ (l : List ℕ). take (length one) (drop (length front + 5) l)) is ∙ record_in front one (back ++ rest.gate ∷ rest.behind) 1
 
 there_push : (n : ℕ) (records : List (List ℕ)) (last held : List ℕ) → n < length records → IsAtRest (records ++ last ∷ []) held
@@ -84,7 +83,7 @@ there_but n m records held lt but =
           let k = at - (gate + 1) in
           let sum : gate + 1 + k ≡ at = omega (arith, le) in
           let same : drop at held ≡ drop at but.whole =
-            ap (λ (i : ℕ). drop i held) (sym sum) ∙ sym (drop-drop k (gate + 1) held) ∙ ap (λ (l : List ℕ). drop k l) but.torn.after ∙ drop-drop k (gate + 1) but.whole ∙ ap (λ (i : ℕ). drop i but.whole) sum in
+          ap (λ (i : ℕ). drop i held) (sym sum) ∙ sym (drop-drop k (gate + 1) held) ∙ ap (λ (l : List ℕ). drop k l) but.torn.after ∙ drop-drop k (gate + 1) but.whole ∙ ap (λ (i : ℕ). drop i but.whole) sum in
           ap (λ (l : List ℕ). take (length one) l) same ∙ whole
       | inr before ↦
           let le : at + length one ≤ gate = gate_order n m records before lt in

@@ -1,14 +1,14 @@
 -- What a file stands for while it is cut and repaired.
-use Rattle.std.proofs.Common.{◌≡◌, ◌≢◌, ◌⊎◌, inl, inr, ℕ, suc, ◌+◌, ◌<◌, ◌≤◌, min, List, [], ◌∷◌, ◌++◌, length, get_or, take, drop, refl, sym, ◌∙◌, ap, subst, arith, length-append}
-use Rattle.std.specs.Prelude.{Option, Some, is_some}
+use Rattle.std.proofs.Common.{◌≡◌, ◌≢◌, inl, inr, ℕ, suc, ◌+◌, ◌<◌, ◌≤◌, min, List, [], ◌∷◌, length, get_or, take, drop, refl, sym, ◌∙◌, ap, subst, arith, length-append}
+use Rattle.std.specs.Prelude.{Some}
 use Rattle.fluid_io.specs.Causes.{Tells}
 use Rattle.fluid_disk.specs.declared.owed.Owed.{Owed}
 use Rattle.fluid_disk.specs.declared.owed.Owed.TheVariants as debts
 use Rattle.fluid_disk.specs.Disk.{Stored, Torn, Cut, Only, IsDurable, LeavesOnly, StaysAsRead, StaysAtLeast, Overwrites, CutsOff, overwritten}
-use Rattle.fluid_disk.specs.Records.{IsShort, spelled, gate_before, gates_from, IsAtRest}
-use Rattle.fluid_disk.specs.Files.{Owing, Nothing, Appending, Cutting, Row, settled, appending, cutting, Keeps, MayOwe, IsNoted, Stands, IsAtRestBut, OnlyReads}
+use Rattle.fluid_disk.specs.Records.{IsShort, spelled, gate_before, IsAtRest}
+use Rattle.fluid_disk.specs.Files.{Nothing, Appending, Cutting, Row, settled, appending, cutting, Keeps, Stands, IsAtRestBut}
 use Rattle.fluid_disk.proofs.Adding.{owing_is, appending_some}
-use Rattle.fluid_disk.proofs.Moments.{weaker, chained, left_behind}
+use Rattle.fluid_disk.proofs.Moments.{weaker, left_behind}
 use Rattle.fluid_disk.proofs.Standing.{at_rest, only, settles, owes, told_before, mapped_from, tells_from, tells_at}
 use Rattle.fluid_disk.proofs.Resting.{IsStaged, staged_last, gate_of_rest, gate_of_staged, gate_torn, gate_closed, cut_behind, reopened, but_torn, cut_off, short_take}
 use Rattle.fluid_disk.proofs.Rows.{take_gates, spelled_split}
@@ -43,7 +43,7 @@ module _ {D : Type 0} (seen : D → Stored) (may_leave : D → List ℕ → Type
     room = subst (λ n. length (spelled row.records) < n) (sym same.size) s.room;
     keeps = tells_from (seen new).bytes _ (λ held told image now. tells_at (seen old).bytes _ held (sym same.bytes ∙ told) s.keeps image (fewer image now));
     durable = λ nothing. tells_from (seen new).bytes (λ b. Only b (may_leave new)) (λ held told image now.
-      tells_at (seen old).bytes (λ b. Only b (may_leave old)) held (sym same.bytes ∙ told) (s.durable nothing) image (fewer image now));
+        tells_at (seen old).bytes (λ b. Only b (may_leave old)) held (sym same.bytes ∙ told) (s.durable nothing) image (fewer image now));
   }
 
   pub reads_run : (row : Row) (old new : D) (gates : List ℕ) (owed : Owed) (held : List ℕ) → (seen old).bytes ≡ Some held → Stands seen may_leave row old gates owed
@@ -73,10 +73,10 @@ module _ {D : Type 0} (seen : D → Stored) (may_leave : D → List ℕ → Type
   drop_failed records count old new gates owed s leaves counts below stays run =
       owes seen may_leave (cutting records count) new gates (debts.Cut count) s.gates_are s.short below refl (omega (arith, s.room, stays.no_shorter)) (cutting_some count)
       (λ now_held told image now.
-        let h = told_before (seen old).bytes (seen new).bytes now_held stays.told told in
-        let rest = at_rest seen may_leave records old gates owed h.0 s leaves h.1 in
-        let torn = left_behind moment left_since old new (Torn (gate_before count records) 1 h.0) (may_leave new) (run h.0 h.1 (only seen may_leave records old gates owed h.0 s h.1)) counts image now in
-        record { whole = h.0; rest = rest; torn = torn })
+      let h = told_before (seen old).bytes (seen new).bytes now_held stays.told told in
+      let rest = at_rest seen may_leave records old gates owed h.0 s leaves h.1 in
+      let torn = left_behind moment left_since old new (Torn (gate_before count records) 1 h.0) (may_leave new) (run h.0 h.1 (only seen may_leave records old gates owed h.0 s h.1)) counts image now in
+      record { whole = h.0; rest = rest; torn = torn })
 
   pub drop_run : (records : List (List ℕ)) (count : ℕ) (held : List ℕ) (old new : D) → IsAtRest records held
       → LeavesOnly moment left_since old new (Torn (gate_before count records) 1 held) → LeavesOnly moment left_since old new (Keeps records (Cutting count))
@@ -92,8 +92,8 @@ module _ {D : Type 0} (seen : D → Stored) (may_leave : D → List ℕ → Type
       (ap (λ (l : List ℕ). take (suc count) l) s.gates_are ∙ take_gates 0 count records (omega (arith, below))) (short_take count records s.short)
       (omega (arith, front_shorter count records, s.room, longer)) durable
       (λ held told.
-        let h = mapped_from (overwritten (gate_before count records) (0 ∷ [])) (seen old).bytes (seen new).bytes held writes.bytes told in
-        subst (IsAtRest (take count records)) (sym h.2) (cut_off count records h.0 below (at_rest seen may_leave records old gates owed h.0 s leaves h.1)))
+      let h = mapped_from (overwritten (gate_before count records) (0 ∷ [])) (seen old).bytes (seen new).bytes held writes.bytes told in
+      subst (IsAtRest (take count records)) (sym h.2) (cut_off count records h.0 below (at_rest seen may_leave records old gates owed h.0 s leaves h.1)))
 
   -- ---- the repair of a cut
 
@@ -105,9 +105,9 @@ module _ {D : Type 0} (seen : D → Stored) (may_leave : D → List ℕ → Type
   reopen_failed records count old new gates s leaves counts stays durable run =
       owes seen may_leave (cutting records count) new gates (debts.Cut count) s.gates_are s.short s.fits refl (omega (arith, s.room, stays.no_shorter)) (cutting_some count)
       (λ now_held told image now.
-        let h = told_before (seen old).bytes (seen new).bytes now_held stays.told told in
-        let but = reads_kept (cutting records count) old gates (debts.Cut count) h.0 h.1 leaves s in
-        but_torn count records h.0 image but (left_behind moment left_since old new (Torn (gate_before count records) 1 h.0) (may_leave new) (run h.0 h.1 (alone old h.0 h.1 durable)) counts image now))
+      let h = told_before (seen old).bytes (seen new).bytes now_held stays.told told in
+      let but = reads_kept (cutting records count) old gates (debts.Cut count) h.0 h.1 leaves s in
+      but_torn count records h.0 image but (left_behind moment left_since old new (Torn (gate_before count records) 1 h.0) (may_leave new) (run h.0 h.1 (alone old h.0 h.1 durable)) counts image now))
 
   pub reopen_run : (records : List (List ℕ)) (count : ℕ) (held : List ℕ) (old new : D) → IsAtRestBut count records held
       → LeavesOnly moment left_since old new (Torn (gate_before count records) 1 held) → LeavesOnly moment left_since old new (Keeps records (Cutting count))
@@ -121,8 +121,8 @@ module _ {D : Type 0} (seen : D → Stored) (may_leave : D → List ℕ → Type
   reopened_whole records count old new gates s leaves longer writes durable =
       settles seen may_leave records new gates s.gates_are s.short (omega (arith, s.room, longer)) durable
       (λ held told.
-        let h = mapped_from (overwritten (gate_before count records) (1 ∷ [])) (seen old).bytes (seen new).bytes held writes.bytes told in
-        subst (IsAtRest records) (sym h.2) (reopened count records h.0 s.fits (reads_kept (cutting records count) old gates (debts.Cut count) h.0 h.1 leaves s)))
+      let h = mapped_from (overwritten (gate_before count records) (1 ∷ [])) (seen old).bytes (seen new).bytes held writes.bytes told in
+      subst (IsAtRest records) (sym h.2) (reopened count records h.0 s.fits (reads_kept (cutting records count) old gates (debts.Cut count) h.0 h.1 leaves s)))
 
   -- ---- the repair of an append
 
@@ -135,8 +135,8 @@ module _ {D : Type 0} (seen : D → Stored) (may_leave : D → List ℕ → Type
   close_failed records bytes old new gates s counts stays durable whole run =
       owes seen may_leave (appending records bytes) new gates debts.Append s.gates_are s.short s.fits refl (omega (arith, s.room, stays.no_shorter)) (appending_some bytes)
       (λ now_held told image now.
-        let h = told_before (seen old).bytes (seen new).bytes now_held stays.told told in
-        gate_torn records bytes h.0 image (whole h.0 h.1) (left_behind moment left_since old new (Torn (length (spelled records)) 1 h.0) (may_leave new) (run h.0 h.1 (alone old h.0 h.1 durable)) counts image now))
+      let h = told_before (seen old).bytes (seen new).bytes now_held stays.told told in
+      gate_torn records bytes h.0 image (whole h.0 h.1) (left_behind moment left_since old new (Torn (length (spelled records)) 1 h.0) (may_leave new) (run h.0 h.1 (alone old h.0 h.1 durable)) counts image now))
 
   pub close_run : (records : List (List ℕ)) (bytes held : List ℕ) (old new : D) → IsStaged records bytes held
       → LeavesOnly moment left_since old new (Torn (length (spelled records)) 1 held) → LeavesOnly moment left_since old new (Keeps records (Appending bytes))
@@ -150,8 +150,8 @@ module _ {D : Type 0} (seen : D → Stored) (may_leave : D → List ℕ → Type
   closed records bytes old new gates s longer whole writes durable =
       settles seen may_leave records new gates s.gates_are s.short (omega (arith, s.room, longer)) durable
       (λ held told.
-        let h = mapped_from (overwritten (length (spelled records)) (0 ∷ [])) (seen old).bytes (seen new).bytes held writes.bytes told in
-        subst (IsAtRest records) (sym h.2) (gate_closed records bytes h.0 (whole h.0 h.1)))
+      let h = mapped_from (overwritten (length (spelled records)) (0 ∷ [])) (seen old).bytes (seen new).bytes held writes.bytes told in
+      subst (IsAtRest records) (sym h.2) (gate_closed records bytes h.0 (whole h.0 h.1)))
 
   pub shut_settled : (records : List (List ℕ)) (bytes : List ℕ) (disk : D) (gates : List ℕ) → Stands seen may_leave (appending records bytes) disk gates debts.Append
       → ((held : List ℕ) → (seen disk).bytes ≡ Some held → IsAtRest records held) → IsDurable (seen disk) (may_leave disk)
@@ -166,10 +166,10 @@ module _ {D : Type 0} (seen : D → Stored) (may_leave : D → List ℕ → Type
   trim_failed records bytes old new gates to s leaves counts short place stays run =
       owes seen may_leave (appending records bytes) new gates debts.Append s.gates_are s.short short refl (omega (arith, s.room, stays.no_shorter, place)) (appending_some bytes)
       (λ now_held told image now.
-        let h = told_before (seen old).bytes (seen new).bytes now_held stays.told told in
-        let rest = at_rest seen may_leave records old gates debts.Nothing h.0 s leaves h.1 in
-        inl (cut_behind records h.0 image to place rest
-          (left_behind moment left_since old new (Cut to h.0) (may_leave new) (run h.0 h.1 (only seen may_leave records old gates debts.Nothing h.0 s h.1)) counts image now)))
+      let h = told_before (seen old).bytes (seen new).bytes now_held stays.told told in
+      let rest = at_rest seen may_leave records old gates debts.Nothing h.0 s leaves h.1 in
+      inl (cut_behind records h.0 image to place rest
+      (left_behind moment left_since old new (Cut to h.0) (may_leave new) (run h.0 h.1 (only seen may_leave records old gates debts.Nothing h.0 s h.1)) counts image now)))
 
   pub trim_run : (records : List (List ℕ)) (held : List ℕ) (old new : D) (to : ℕ) → IsAtRest records held → to ≡ length (spelled records) + 1
       → LeavesOnly moment left_since old new (Cut to held) → LeavesOnly moment left_since old new (IsAtRest records)
@@ -182,5 +182,5 @@ module _ {D : Type 0} (seen : D → Stored) (may_leave : D → List ℕ → Type
   trimmed records old new gates to s leaves place cuts durable =
       settles seen may_leave records new gates s.gates_are s.short (omega (arith, s.room, cuts.size, place)) durable
       (λ held told.
-        let h = mapped_from (take to) (seen old).bytes (seen new).bytes held cuts.bytes told in
-        subst (IsAtRest records) (sym h.2) (cut_behind records h.0 (take to h.0) to place (at_rest seen may_leave records old gates debts.Nothing h.0 s leaves h.1) (inr refl)))
+      let h = mapped_from (take to) (seen old).bytes (seen new).bytes held cuts.bytes told in
+      subst (IsAtRest records) (sym h.2) (cut_behind records h.0 (take to h.0) to place (at_rest seen may_leave records old gates debts.Nothing h.0 s leaves h.1) (inr refl)))

@@ -1,7 +1,7 @@
 -- Reading a disk piece by piece.
-use Rattle.std.proofs.Common.{◌≡◌, ℕ, ◌+◌, ◌≤◌, List, [], ◌∷◌, ◌++◌, length, take, drop, refl, sym, ◌∙◌, ap, arith, append_assoc, length-append, take-append-drop, length-take}
+use Rattle.std.proofs.Common.{◌≡◌, ℕ, ◌+◌, ◌≤◌, List, ◌++◌, length, take, drop, refl, sym, ◌∙◌, ap, arith, append_assoc, length-append, take-append-drop}
 use Rattle.std.proofs.lemmas.List.{take_at, take-take, drop-take, drop-drop, length-take-le}
-use Rattle.fluid_disk.specs.Disk.{Stored, StaysAsRead, Elapses, LeavesOnly}
+use Rattle.fluid_disk.specs.Disk.{Stored, StaysAsRead, Elapses}
 use Rattle.fluid_disk.specs.Files.{OnlyReads}
 use Rattle.fluid_disk.proofs.Moments.{started, goes_on, chained, weaker}
 

@@ -7,7 +7,7 @@ use Rattle.fluid_log.specs.declared.fault.KeeperFault.{KeeperFault}
 use Rattle.fluid_disk.specs.declared.owed.Owed.{Owed}
 use Rattle.fluid_disk.specs.Disk.{Stored, LeavesOnly}
 use Rattle.fluid_disk.specs.Records.{IsShort}
-use Rattle.fluid_disk.specs.Files.{Row, Owing, Nothing, Appending, Cutting, settled, appending, cutting, Keeps, Opens, OpensAppending, OpensCutting, Stands, AppendDoes, DropDoes, CutRow}
+use Rattle.fluid_disk.specs.Files.{Row, Appending, Cutting, settled, appending, cutting, Keeps, Opens, OpensAppending, OpensCutting, Stands, AppendDoes, DropDoes, CutRow}
 use Rattle.fluid_disk.proofs.Moments.{weaker}
 use Rattle.fluid_disk.proofs.Resting.{keeps_opens}
 use Rattle.fluid_disk.proofs.Standing.{tells_from, tells_at}

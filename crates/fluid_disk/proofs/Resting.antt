@@ -1,11 +1,11 @@
 -- What the steps of writing calls make of a file at rest, and what opening finds then.
-use Rattle.std.proofs.Common.{◌≡◌, ◌≢◌, ◌⊎◌, inl, inr, ⊎_elim, ℕ, zero, suc, ◌+◌, ◌<◌, ◌≤◌, List, [], ◌∷◌, ◌++◌, length, get_or, take, drop, refl, sym, ◌∙◌, ap, subst, arith, append_assoc, length-append, take-append-drop}
+use Rattle.std.proofs.Common.{◌≡◌, ◌≢◌, ◌⊎◌, inl, inr, ℕ, zero, suc, ◌+◌, ◌<◌, List, [], ◌∷◌, ◌++◌, length, get_or, take, drop, refl, sym, ◌∙◌, ap, subst, arith, append_assoc, length-append}
 use Rattle.std.proofs.lemmas.Bool.{cases_eq}
-use Rattle.std.proofs.lemmas.List.{take_at, drop_at, get_or_at, append-nil}
+use Rattle.std.proofs.lemmas.List.{take_at, get_or_at, append-nil}
 use Rattle.std.specs.List.{AllByRecursion}
 use Rattle.fluid_disk.specs.Disk.{Torn, Cut, overwritten}
-use Rattle.fluid_disk.specs.Records.{IsShort, framed, spelled, gate_before, IsEnd, IsWhole, Finds, IsAtRest}
-use Rattle.fluid_disk.specs.Files.{Owing, Nothing, Appending, Cutting, Row, MayFind, Opens, IsAtRestBut, Keeps, MayOwe}
+use Rattle.fluid_disk.specs.Records.{IsShort, framed, spelled, gate_before, Finds, IsAtRest}
+use Rattle.fluid_disk.specs.Files.{Owing, Nothing, Appending, Cutting, Opens, IsAtRestBut, Keeps, MayOwe}
 use Rattle.fluid_disk.proofs.Tears.{torn_same, torn_twice, one_torn, one_written, torn_behind, written_behind}
 use Rattle.fluid_disk.proofs.Rows.{spelled_push, opened_at}
 
@@ -50,7 +50,7 @@ staged records bytes held at place rest =
       last = 0;
       behind = behind;
       splits = is ∙ written_behind front written rest.behind ∙ append_assoc (spelled records) (rest.gate ∷ []) (written ++ behind)
-      ∙ ap (λ (l : List ℕ). spelled records ++ rest.gate ∷ l) (append_assoc (framed bytes) (0 ∷ []) behind);
+          ∙ ap (λ (l : List ℕ). spelled records ++ rest.gate ∷ l) (append_assoc (framed bytes) (0 ∷ []) behind);
       closed = omega arith;
     }
 
@@ -83,7 +83,7 @@ gate_opened records bytes held stands =
       gate = stands.last;
       behind = stands.behind;
       splits = ap (λ (l : List ℕ). overwritten (length (spelled records)) (1 ∷ []) l) stands.splits ∙ one_written (spelled records) stands.gate 1 back
-      ∙ sym (spelled_push records bytes (stands.last ∷ stands.behind));
+          ∙ sym (spelled_push records bytes (stands.last ∷ stands.behind));
       closed = stands.closed;
     }
 

@@ -1,5 +1,5 @@
 -- What a crash may leave behind one step of the only image.
-use Rattle.std.proofs.Common.{◌≡◌, ◌≤◌, ℕ, List, sym, subst}
+use Rattle.std.proofs.Common.{ℕ, List, sym, subst}
 use Rattle.fluid_disk.specs.Disk.{Only, Follows, Elapses, LeavesOnly}
 use Rattle.fluid_disk.proofs.Moments.{started, goes_on}
 

@@ -1,6 +1,6 @@
 -- What a file stands for behind a step of a writing call.
-use Rattle.std.proofs.Common.{◌≡◌, ◌≢◌, ◌<◌, ℕ, List, [], ◌∷◌, ◌++◌, length, refl, sym, ◌∙◌, ap, subst}
-use Rattle.std.specs.Prelude.{Option, Some, None, is_some, true}
+use Rattle.std.proofs.Common.{◌≡◌, ◌≢◌, ◌<◌, ℕ, List, [], length, refl, sym, ◌∙◌, ap, subst}
+use Rattle.std.specs.Prelude.{Option, Some, None, is_some}
 use Rattle.std.specs.Option.{option_map}
 use Rattle.std.specs.List.{AllByRecursion}
 use Rattle.std.proofs.lemmas.Bool.{false≢true}
@@ -9,7 +9,7 @@ use Rattle.fluid_disk.specs.declared.owed.Owed.{Owed}
 use Rattle.fluid_disk.specs.declared.owed.Owed.TheVariants as debts
 use Rattle.fluid_disk.specs.Disk.{Stored, Only, IsDurable}
 use Rattle.fluid_disk.specs.Records.{IsShort, spelled, gates_from, IsAtRest}
-use Rattle.fluid_disk.specs.Files.{Owing, Nothing, Row, settled, Keeps, MayOwe, IsNoted, Stands}
+use Rattle.fluid_disk.specs.Files.{Nothing, Row, settled, Keeps, MayOwe, IsNoted, Stands}
 
 -- ---- told bytes
 
@@ -68,7 +68,7 @@ module _ {D : Type 0} (seen : D → Stored) (may_leave : D → List ℕ → Type
     noted = refl;
     room = room;
     keeps = tells_from (seen disk).bytes _ (λ held told image now.
-      subst (IsAtRest records) (sym (tells_at (seen disk).bytes (λ bytes. Only bytes (may_leave disk)) held told durable image now)) (rest held told));
+        subst (IsAtRest records) (sym (tells_at (seen disk).bytes (λ bytes. Only bytes (may_leave disk)) held told durable image now)) (rest held told));
     durable = λ _. durable;
   }
 

@@ -1,9 +1,9 @@
 -- What a crash of a disk in memory makes of the newest call.
-use Rattle.std.proofs.Common.{◌≡◌, ◌⊎◌, inl, inr, Bool, true, false, cond, ℕ, ◌+◌, ◌-◌, ◌<◌, ◌≤◌, min, List, [], ◌∷◌, ◌++◌, length, take, drop, refl, sym, ◌∙◌, ap, subst, arith, append_assoc, length-append, length-drop, take-append-drop}
+use Rattle.std.proofs.Common.{◌≡◌, ◌⊎◌, inl, inr, Bool, true, false, cond, ℕ, ◌+◌, ◌-◌, ◌<◌, ◌≤◌, List, ◌∷◌, ◌++◌, length, take, drop, sym, ◌∙◌, ap, subst, arith, append_assoc, length-append, length-drop}
 use Rattle.std.proofs.lemmas.List.{take_at, drop_at, drop_all, drop-drop, append-nil, length-take-le}
 use Rattle.fluid_disk.specs.declared.call.Call.{Call}
 use Rattle.fluid_disk.specs.declared.call.Call.TheVariants.{Wrote, CutOff}
-use Rattle.fluid_disk.specs.Disk.{Torn, Cut}
+use Rattle.fluid_disk.specs.Disk.{Torn}
 use Rattle.fluid_disk.specs.Memory.{MayLeave, undone, Fits, leaves_held}
 use Rattle.fluid_disk.proofs.Tears.{torn_same}
 
@@ -42,12 +42,12 @@ torn_ones at n t k replaced ones held fits size within same =
     let left : length rest ≡ length held - at - k = omega (arith, length-drop k (drop at held), length-drop at held) in
     let length_new : length new ≡ length held = omega (arith, length-append (take at held) (ones ++ rest), length-append ones rest, front, left, size, same, within, fits.within) in
     let length_old : length old ≡ at + length replaced + (length held - (at + n)) =
-      omega (arith, length-append (take at held ++ replaced) back, length-append (take at held) replaced, front, length-drop (at + n) held) in
+    omega (arith, length-append (take at held ++ replaced) back, length-append (take at held) replaced, front, length-drop (at + n) held) in
     let more : n ≡ t + (n - t) = omega (arith, within) in
     let after_new : drop (at + n) new ≡ back =
-      ap (λ (m : ℕ). drop (at + m) new) more ∙ sym (drop-drop (t + (n - t)) at new) ∙ ap (λ (l : List ℕ). drop (t + (n - t)) l) (drop_at (take at held) (ones ++ rest) at front)
-      ∙ sym (drop-drop (n - t) t (ones ++ rest)) ∙ ap (λ (l : List ℕ). drop (n - t) l) (drop_at ones rest t size)
-      ∙ drop-drop (n - t) k (drop at held) ∙ drop-drop (k + (n - t)) at held ∙ ap (λ (i : ℕ). drop i held) (let is : at + (k + (n - t)) ≡ at + n = omega (arith, same, within) in is) in
+    ap (λ (m : ℕ). drop (at + m) new) more ∙ sym (drop-drop (t + (n - t)) at new) ∙ ap (λ (l : List ℕ). drop (t + (n - t)) l) (drop_at (take at held) (ones ++ rest) at front)
+    ∙ sym (drop-drop (n - t) t (ones ++ rest)) ∙ ap (λ (l : List ℕ). drop (n - t) l) (drop_at ones rest t size)
+    ∙ drop-drop (n - t) k (drop at held) ∙ drop-drop (k + (n - t)) at held ∙ ap (λ (i : ℕ). drop i held) (let is : at + (k + (n - t)) ≡ at + n = omega (arith, same, within) in is) in
     let after_old : drop (at + n) old ≡ back = elim fits.last [
       | inl all ↦ drop_at (take at held ++ replaced) back (at + n) (omega (arith, length-append (take at held) replaced, front, all))
       | inr whole ↦
@@ -55,7 +55,7 @@ torn_ones at n t k replaced ones held fits size within same =
     ] in
     record {
       before = take_at (take at held) (ones ++ rest) at front
-        ∙ sym (ap (λ (l : List ℕ). take at l) (append_assoc (take at held) replaced back) ∙ take_at (take at held) (replaced ++ back) at front);
+          ∙ sym (ap (λ (l : List ℕ). take at l) (append_assoc (take at held) replaced back) ∙ take_at (take at held) (replaced ++ back) at front);
       after = after_new ∙ sym after_old;
       no_shorter = omega (arith, length_new, length_old, fits.within, fits.no_more);
       no_longer = elim fits.last [

@@ -1,5 +1,5 @@
 -- The walk over the records of a disk.
-use Rattle.std.proofs.Common.{◌≡◌, ◌≢◌, ◌⊎◌, inl, inr, ℕ, zero, suc, ◌+◌, ◌-◌, ◌<◌, ◌≤◌, min, List, [], ◌∷◌, ◌++◌, length, get_or, take, drop, replicate, refl, sym, ◌∙◌, ap, subst, arith, append_assoc, length-append, length-drop, length-take, take-append-drop}
+use Rattle.std.proofs.Common.{◌≡◌, ◌≢◌, inl, inr, ℕ, zero, suc, ◌+◌, ◌-◌, ◌<◌, ◌≤◌, min, List, [], ◌∷◌, ◌++◌, length, get_or, take, drop, replicate, refl, sym, ◌∙◌, ap, subst, arith, append_assoc, length-append, length-drop, length-take, take-append-drop}
 use Rattle.std.specs.Prelude.{Option, None, Some, IfSome, ◌^◌}
 use Rattle.std.specs.Int.{w32, to_be_bytes, from_be_bytes}
 use Rattle.std.specs.List.{AllByRecursion}
@@ -7,7 +7,7 @@ use Rattle.std.proofs.lemmas.List.{take_at, drop_at, drop_all, drop-take, drop-d
 use Rattle.std.proofs.lemmas.Nat.{be_bytes_4, from_be_bytes-to_be_bytes_4}
 use Rattle.fluid_io.specs.Causes.{Tells}
 use Rattle.fluid_disk.specs.Disk.{Stored, StaysAsRead}
-use Rattle.fluid_disk.specs.Records.{IsShort, framed, spelled, gates_from, IsEnd, IsWhole, Finds, IsHeadless, HasHead, IsHead}
+use Rattle.fluid_disk.specs.Records.{IsShort, framed, spelled, gates_from, IsEnd, Finds, IsHeadless, HasHead, IsHead}
 use Rattle.fluid_disk.specs.Files.{OnlyReads, IsWalked, IsAhead}
 use Rattle.fluid_disk.proofs.Kept.{ordered}
 use Rattle.fluid_disk.proofs.Pieces.{take_add, reads_none, reads_both}
@@ -36,7 +36,7 @@ head_read (g ∷ a ∷ b ∷ c ∷ d ∷ behind) n long is_open fits is = record
   short = omega (arith, is, fits 1, fits 2, fits 3, fits 4);
   behind = behind;
   splits = ap (λ (gate : ℕ). gate ∷ (a ∷ b ∷ c ∷ d ∷ behind)) is_open
-    ∙ ap (λ (l : List ℕ). 1 ∷ (l ++ behind)) (sym (be_bytes_4 (a ∷ b ∷ c ∷ d ∷ []) n refl (four_fit a b c d (fits 1) (fits 2) (fits 3) (fits 4)) is));
+      ∙ ap (λ (l : List ℕ). 1 ∷ (l ++ behind)) (sym (be_bytes_4 (a ∷ b ∷ c ∷ d ∷ []) n refl (four_fit a b c d (fits 1) (fits 2) (fits 3) (fits 4)) is));
 }
 
 pub headless_short : (bytes : List ℕ) → length bytes < 5 → IsHeadless bytes
@@ -98,19 +98,19 @@ pub ahead_more : (start place count : ℕ) (bytes rest next : List ℕ) (disk : 
 ahead_more start place count bytes rest next disk ahead behind is size fits reads = record {
   within = omega (arith, length-append rest next, size, fits);
   told = tells_from disk.bytes (λ held. rest ++ next ≡ take (length (rest ++ next)) (drop place held)) (λ held told.
-    let before = tells_at disk.bytes (λ held. bytes ≡ take (length bytes) (drop start held)) held told ahead.told in
-    let first : rest ≡ take (length rest) (drop place held) = elim (ordered place (start + length bytes)) [
-      | inl within ↦
-          let n : length rest ≡ start + length bytes - place = omega (arith, ap length is, length-drop (place - start) bytes, behind) in
-          is ∙ later_piece start place bytes held before behind within ∙ ap (λ (k : ℕ). take k (drop place held)) (sym n)
-      | inr past ↦
-          let none : rest ≡ [] = is ∙ drop_all (place - start) bytes (omega (arith, past)) in
-          none ∙ ap (λ (l : List ℕ). take (length l) (drop place held)) (sym none)
-    ] in
-    let second : next ≡ take count (drop (length rest) (drop place held)) = reads held told ∙ ap (λ (l : List ℕ). take count l) (sym (drop-drop (length rest) place held)) in
-    let whole : length (rest ++ next) ≡ length rest + count = omega (arith, length-append rest next, size) in
-    ap (λ (l : List ℕ). l ++ next) first ∙ ap (λ (l : List ℕ). take (length rest) (drop place held) ++ l) second ∙ sym (take_add (length rest) count (drop place held))
-    ∙ ap (λ (k : ℕ). take k (drop place held)) (sym whole));
+      let before = tells_at disk.bytes (λ held. bytes ≡ take (length bytes) (drop start held)) held told ahead.told in
+      let first : rest ≡ take (length rest) (drop place held) = elim (ordered place (start + length bytes)) [
+        | inl within ↦
+            let n : length rest ≡ start + length bytes - place = omega (arith, ap length is, length-drop (place - start) bytes, behind) in
+            is ∙ later_piece start place bytes held before behind within ∙ ap (λ (k : ℕ). take k (drop place held)) (sym n)
+        | inr past ↦
+            let none : rest ≡ [] = is ∙ drop_all (place - start) bytes (omega (arith, past)) in
+            none ∙ ap (λ (l : List ℕ). take (length l) (drop place held)) (sym none)
+      ] in
+      let second : next ≡ take count (drop (length rest) (drop place held)) = reads held told ∙ ap (λ (l : List ℕ). take count l) (sym (drop-drop (length rest) place held)) in
+      let whole : length (rest ++ next) ≡ length rest + count = omega (arith, length-append rest next, size) in
+      ap (λ (l : List ℕ). l ++ next) first ∙ ap (λ (l : List ℕ). take (length rest) (drop place held) ++ l) second ∙ sym (take_add (length rest) count (drop place held))
+      ∙ ap (λ (k : ℕ). take k (drop place held)) (sym whole));
 }
 
 -- nothing changed but the count of faults
@@ -155,17 +155,17 @@ walking_more records gates place count disk so_far sized head short fits =
       place_is = omega (arith, so_far.place_is, size, length_push records one);
       within = fits;
       splits = λ held told.
-        let has = head held told in
-        let is : one ≡ take count (drop (place + 5) held) = ap (λ (o : Option (List ℕ)). record_at o (place + 5) count) told in
-        let four : drop (place + 5) held ≡ has.behind =
+          let has = head held told in
+          let is : one ≡ take count (drop (place + 5) held) = ap (λ (o : Option (List ℕ)). record_at o (place + 5) count) told in
+          let four : drop (place + 5) held ≡ has.behind =
           sym (drop-drop 5 place held) ∙ ap (λ (l : List ℕ). drop 5 l) has.splits ∙ drop_at (to_be_bytes w32 count) has.behind 4 refl in
-        let behind : has.behind ≡ one ++ drop (place + 5 + count) held =
+          let behind : has.behind ≡ one ++ drop (place + 5 + count) held =
           sym four ∙ sym (take-append-drop count (drop (place + 5) held)) ∙ ap (λ (l : List ℕ). l ++ drop count (drop (place + 5) held)) (sym is)
           ∙ ap (λ (l : List ℕ). one ++ l) (drop-drop count (place + 5) held) in
-        let frame : to_be_bytes w32 count ++ (one ++ drop (place + 5 + count) held) ≡ framed one ++ drop (place + 5 + count) held =
+          let frame : to_be_bytes w32 count ++ (one ++ drop (place + 5 + count) held) ≡ framed one ++ drop (place + 5 + count) held =
           sym (append_assoc (to_be_bytes w32 count) one (drop (place + 5 + count) held)) ∙ ap (λ (n : ℕ). (to_be_bytes w32 n ++ one) ++ drop (place + 5 + count) held) (sym size) in
-        so_far.splits held told ∙ ap (λ (l : List ℕ). spelled records ++ l) (has.splits ∙ ap (λ (l : List ℕ). 1 ∷ (to_be_bytes w32 count ++ l)) behind ∙ ap (λ (l : List ℕ). 1 ∷ l) frame)
-        ∙ sym (spelled_push records one (drop (place + 5 + count) held));
+          so_far.splits held told ∙ ap (λ (l : List ℕ). spelled records ++ l) (has.splits ∙ ap (λ (l : List ℕ). 1 ∷ (to_be_bytes w32 count ++ l)) behind ∙ ap (λ (l : List ℕ). 1 ∷ l) frame)
+          ∙ sym (spelled_push records one (drop (place + 5 + count) held));
     }
 
 -- ---- the end
@@ -177,9 +177,9 @@ headless_end (gate ∷ behind) none = λ is_open whole. none is_open whole.lengt
 long_end : (bytes : List ℕ) (count : ℕ) → HasHead bytes count → length bytes < 5 + count → IsEnd bytes
 long_end bytes count has long =
     let is : IsEnd (1 ∷ (to_be_bytes w32 count ++ has.behind)) = λ is_open whole.
-      let number : from_be_bytes w32 (take 4 (to_be_bytes w32 count ++ has.behind)) ≡ count =
-        ap (λ (l : List ℕ). from_be_bytes w32 l) (take_at (to_be_bytes w32 count) has.behind 4 refl) ∙ from_be_bytes-to_be_bytes_4 count has.short in
-      omega (arith, whole.bytes_stand, number, ap length has.splits, long) in
+    let number : from_be_bytes w32 (take 4 (to_be_bytes w32 count ++ has.behind)) ≡ count =
+    ap (λ (l : List ℕ). from_be_bytes w32 l) (take_at (to_be_bytes w32 count) has.behind 4 refl) ∙ from_be_bytes-to_be_bytes_4 count has.short in
+    omega (arith, whole.bytes_stand, number, ap length has.splits, long) in
     subst IsEnd (sym has.splits) is
 
 walked : (records : List (List ℕ)) (gates : List ℕ) (place : ℕ) (disk : Stored) → IsWalking records gates place disk → ((held : List ℕ) → disk.bytes ≡ Some held → IsEnd (drop place held)) → IsWalked records gates disk
@@ -198,7 +198,7 @@ pub walked_long : (records : List (List ℕ)) (gates : List ℕ) (place count : 
     → ((held : List ℕ) → disk.bytes ≡ Some held → HasHead (drop place held) count) → disk.size < place + 5 + count → IsWalked records gates disk
 walked_long records gates place count disk so_far sized head long =
     walked records gates place disk so_far (λ held told.
-      long_end (drop place held) count (head held told) (omega (arith, length-drop place held, tells_at disk.bytes (λ b. disk.size ≡ length b) held told sized, long)))
+    long_end (drop place held) count (head held told) (omega (arith, length-drop place held, tells_at disk.bytes (λ b. disk.size ≡ length b) held told sized, long)))
 
 -- how far a walk is, with what was read ahead of it
 pub record IsWalkingOn {D : Type 0} (seen : D → Stored) (may_leave : D → List ℕ → Type 0) (moment : D → ℕ) (left_since : D → ℕ → List ℕ → Type 0) (old new : D) (gates : List ℕ) (place start : ℕ) (bytes : List ℕ) : Type 0 where

@@ -80,7 +80,13 @@ impl<D: Disk> RecordFile<D> {
         ensures crash { (row : Row) → StandsFor D.seen D.may_leave row self.old → Tells (D.seen self.old.disk).bytes (λ _.
             LeavesOnly D.moment D.left_since self.old.disk self.new.disk (OpensAppending row bytes.now)) }
     {
-        append_to(alloc, &mut self.disk, &mut self.gates, &mut self.owed, bytes)
+        append_to(
+            alloc,
+            &mut self.disk,
+            &mut self.gates,
+            &mut self.owed,
+            bytes,
+        )
     }
 
     /// The record in this place, counted from 0.
@@ -109,7 +115,12 @@ impl<D: Disk> RecordFile<D> {
         ensures crash { (row : Row) → StandsFor D.seen D.may_leave row self.old → Tells (D.seen self.old.disk).bytes (λ _.
             LeavesOnly D.moment D.left_since self.old.disk self.new.disk (OpensCutting row count)) }
     {
-        cut_to(&mut self.disk, &mut self.gates, &mut self.owed, count as usize)
+        cut_to(
+            &mut self.disk,
+            &mut self.gates,
+            &mut self.owed,
+            count as usize,
+        )
     }
 
     /// Gives the disk back as it is.

@@ -160,7 +160,13 @@ impl Disk for MemoryDisk {
         if self.fails() {
             return Err(Failed);
         }
-        match overwrite(self.alloc, &mut self.held, &mut self.calls, at as usize, bytes) {
+        match overwrite(
+            self.alloc,
+            &mut self.held,
+            &mut self.calls,
+            at as usize,
+            bytes,
+        ) {
             Ok(()) => Ok(()),
             Err(NoMemory) => {
                 self.plan.count_fault();

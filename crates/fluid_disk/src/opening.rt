@@ -96,12 +96,7 @@ impl Ahead {
     }
 
     // Reads on where the bytes from this place on that make a gate and a length weren't read yet.
-    fn reach<D: Disk>(
-        &mut self,
-        alloc: Global,
-        disk: &mut D,
-        place: u64,
-    ) -> Result<(), KeeperFault>
+    fn reach<D: Disk>(&mut self, alloc: Global, disk: &mut D, place: u64) -> Result<(), KeeperFault>
         requires ahead { IsAhead self.old.start self.old.bytes.items (D.seen disk.old) }
         requires behind { self.old.start ≤ place }
         requires within { place ≤ (D.seen disk.old).size }

@@ -37,7 +37,12 @@ pub fn byte_at<D: Disk>(disk: &mut D, at: u64) -> Result<u8, Failed>
 }
 
 // So many bytes from this place on.
-pub fn piece<D: Disk>(alloc: Global, disk: &mut D, at: u64, count: usize) -> Result<Vec<u8>, KeeperFault>
+pub fn piece<D: Disk>(
+    alloc: Global,
+    disk: &mut D,
+    at: u64,
+    count: usize,
+) -> Result<Vec<u8>, KeeperFault>
     requires { at + count ≤ (D.seen disk.old).size }
     ensures cause { IsCaused (D.seen disk.old).faults (D.seen disk.new).faults result }
     ensures reads { OnlyReads D.seen D.may_leave D.moment D.left_since disk.old disk.new }

@@ -17,6 +17,7 @@ use std::alloc::Global;
 
 // A gate behind which a record stands, and one behind which none does.
 pub const OPEN: u8 = 1;
+
 pub const CLOSED: u8 = 0;
 
 // The place of the gate before record `count`, or behind the last one.

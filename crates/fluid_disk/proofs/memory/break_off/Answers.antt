@@ -34,5 +34,5 @@ returns-then-pick-gt1 c = λ earlier.
     let held = c.args.held.now.items in
     let new = c.extend_from_slice.new.self.items in
     let back = subst (λ (r : List ℕ). (new ≡ held) ⊎ (new ≡ held ++ r)) c.as_slice-then-pick-gt1.ensures
-      (one_of _ new (held ++ c.as_slice-then-pick-gt1.result.now) held c.extend_from_slice.ensures.items) in
+    (one_of _ new (held ++ c.as_slice-then-pick-gt1.result.now) held c.extend_from_slice.ensures.items) in
     subst (λ (call : Call). MayLeave (call ∷ earlier) held new) (sym c.in-CutOff.is) (left_uncut earlier c.in-CutOff.field-0 c.in-CutOff.removed held new back)

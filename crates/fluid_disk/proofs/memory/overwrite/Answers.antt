@@ -13,10 +13,12 @@ returns-clause-kept c =
     let within : c.min-within.result ≡ min n (length held - at) = omega (arith, c.min-within.ensures, c.len.ensures, c.deref.ensures.len, ap length c.deref.ensures.value) in
     let same : at + c.min-within.result - at ≡ c.min-within.result = omega arith in
     let is : replaced ≡ take n (drop at held) =
-      c.in_ok-replaced.ensures ∙ ap (λ (l : List ℕ). take (at + c.min-within.result - at) (drop at l)) c.deref.ensures.value
-      ∙ taken n at c.min-within.result (at + c.min-within.result - at) held within same in
-    let calls = c.push_reserved.ensures.items ∙ ap (λ l. l ++ Wrote at n replaced ∷ []) c.in_ok-reserve.ensures.items in
-    (replaced, calls,
-    ap (λ (l : List ℕ). undone (Wrote at n replaced) l) c.in_ok-put_over.ensures.written
-    ∙ ap (λ (l : List ℕ). undone (Wrote at n l) (take at held ++ c.args.bytes.now ++ drop (at + n) held)) is
-    ∙ undone_written at c.args.bytes.now held c.requires)
+    c.in_ok-replaced.ensures ∙ ap (λ (l : List ℕ). take (at + c.min-within.result - at) (drop at l)) c.deref.ensures.value
+    ∙ taken n at c.min-within.result (at + c.min-within.result - at) held within same in
+    let calls = c.push_reserved.ensures.items ∙ ap (λ l. l ++ Wrote at n replaced ∷ []) c.in_ok-reserve.ensures.items in (
+      replaced,
+      calls,
+      ap (λ (l : List ℕ). undone (Wrote at n replaced) l) c.in_ok-put_over.ensures.written
+          ∙ ap (λ (l : List ℕ). undone (Wrote at n l) (take at held ++ c.args.bytes.now ++ drop (at + n) held)) is
+          ∙ undone_written at c.args.bytes.now held c.requires,
+    )

@@ -1,4 +1,4 @@
-use Rattle.std.proofs.Common.{◌≡◌, inr, ◌+◌, ◌-◌, ℕ, length, take, drop, ap, ◌∙◌, arith, rules, length-drop}
+use Rattle.std.proofs.Common.{◌≡◌, inr, ◌+◌, ◌-◌, length, take, drop, ap, ◌∙◌, arith, rules, length-drop}
 use Rattle.std.proofs.lemmas.List.{length-take-le}
 use Rattle.std.proofs.lemmas.Slice.{overwrites}
 use Rattle.fluid_disk.specs.Memory.{Fits}
@@ -13,6 +13,6 @@ returns-then-fits c =
     let sized : c.len.result ≡ length c.args.held.now.items = omega (arith, c.len.ensures, c.deref_mut.ensures.len, ap length c.deref_mut.ensures.value) in
     let same : k ≡ c.args.torn = omega arith in
     let there : length (take k (drop at c.deref_mut.result.now)) ≡ k =
-      length-take-le k (drop at c.deref_mut.result.now) (omega (arith, length-drop at c.deref_mut.result.now, ap length c.deref_mut.ensures.value, sized, fits.within, c.requires)) in
+    length-take-le k (drop at c.deref_mut.result.now) (omega (arith, length-drop at c.deref_mut.result.now, ap length c.deref_mut.ensures.value, sized, fits.within, c.requires)) in
     let count : length c.fill.new.self ≡ c.args.torn = c.fill.ensures.len ∙ there ∙ same in
     inr (torn_by _ at c.args.count c.args.torn k c.len.result c.args.replaced.now c.fill.new.self c.args.held.now.items (search (rules, overwrites)) fits sized count c.requires same)

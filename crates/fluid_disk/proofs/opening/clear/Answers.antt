@@ -1,4 +1,4 @@
-use Rattle.std.proofs.Common.{◌≡◌, ◌+◌, ℕ, List, [], ◌∷◌, ◌++◌, length, take, ap, sym, subst, ◌∙◌, arith}
+use Rattle.std.proofs.Common.{◌≡◌, ◌+◌, ℕ, List, length, take, ap, subst, ◌∙◌, arith}
 use Rattle.std.specs.Prelude.{Some}
 use Rattle.fluid_disk.specs.Disk.{Cut}
 use Rattle.fluid_disk.specs.Records.{spelled, Finds}
@@ -13,8 +13,8 @@ returns-in_err-shorten-clause-crash g c records held told only finds place =
     let gate = has_gate records held finds (omega (arith, c.requires, size, place)) in
     let to : c.args.gate + 1 ≡ length (spelled records) + 1 = ap (λ (n : ℕ). n + 1) place in
     let one = weaker g.D.Disk.moment g.D.Disk.left_since c.args.disk.now c.shorten.new.disk (Cut (c.args.gate + 1) held) (Finds records)
-      (λ image cut. end_cut records gate.gate gate.behind image (c.args.gate + 1) to (subst (Finds records) gate.splits finds) (subst (λ (l : List ℕ). Cut (c.args.gate + 1) l image) gate.splits cut))
-      (c.shorten.ensures.crash held told only) in
+    (λ image cut. end_cut records gate.gate gate.behind image (c.args.gate + 1) to (subst (Finds records) gate.splits finds) (subst (λ (l : List ℕ). Cut (c.args.gate + 1) l image) gate.splits cut))
+    (c.shorten.ensures.crash held told only) in
     one
 
 pub returns-in_err-shut-clause-crash : goal.returns-in_err-shut-clause-crash
@@ -23,10 +23,10 @@ returns-in_err-shut-clause-crash g c records held told only finds place =
     let gate = has_gate records held finds (omega (arith, c.requires, size, place)) in
     let to : c.args.gate + 1 ≡ length (spelled records) + 1 = ap (λ (n : ℕ). n + 1) place in
     let one = weaker g.D.Disk.moment g.D.Disk.left_since c.args.disk.now c.shorten.new.disk (Cut (c.args.gate + 1) held) (Finds records)
-      (λ image cut. end_cut records gate.gate gate.behind image (c.args.gate + 1) to (subst (Finds records) gate.splits finds) (subst (λ (l : List ℕ). Cut (c.args.gate + 1) l image) gate.splits cut))
-      (c.shorten.ensures.crash held told only) in
+    (λ image cut. end_cut records gate.gate gate.behind image (c.args.gate + 1) to (subst (Finds records) gate.splits finds) (subst (λ (l : List ℕ). Cut (c.args.gate + 1) l image) gate.splits cut))
+    (c.shorten.ensures.crash held told only) in
     let left = mapped_at (take (c.args.gate + 1)) (g.D.Disk.seen c.args.disk.now).bytes (g.D.Disk.seen c.shorten.new.disk).bytes held c.in_ok-shorten.ensures.does.bytes told
-      ∙ ap (λ (l : List ℕ). Some (take (c.args.gate + 1) l)) gate.splits ∙ ap (λ (l : List ℕ). Some l) (end_left records gate.gate gate.behind (c.args.gate + 1) to) in
+    ∙ ap (λ (l : List ℕ). Some (take (c.args.gate + 1) l)) gate.splits ∙ ap (λ (l : List ℕ). Some l) (end_left records gate.gate gate.behind (c.args.gate + 1) to) in
     chained g.D.Disk.moment g.D.Disk.left_since c.args.disk.now c.shorten.new.disk c.shut.new.disk (Finds records) one (c.shut.ensures.crash records gate.gate left finds.short place)
 
 pub returns-clause-crash : goal.returns-clause-crash
@@ -35,10 +35,10 @@ returns-clause-crash g c records held told only finds place =
     let gate = has_gate records held finds (omega (arith, c.requires, size, place)) in
     let to : c.args.gate + 1 ≡ length (spelled records) + 1 = ap (λ (n : ℕ). n + 1) place in
     let one = weaker g.D.Disk.moment g.D.Disk.left_since c.args.disk.now c.shorten.new.disk (Cut (c.args.gate + 1) held) (Finds records)
-      (λ image cut. end_cut records gate.gate gate.behind image (c.args.gate + 1) to (subst (Finds records) gate.splits finds) (subst (λ (l : List ℕ). Cut (c.args.gate + 1) l image) gate.splits cut))
-      (c.shorten.ensures.crash held told only) in
+    (λ image cut. end_cut records gate.gate gate.behind image (c.args.gate + 1) to (subst (Finds records) gate.splits finds) (subst (λ (l : List ℕ). Cut (c.args.gate + 1) l image) gate.splits cut))
+    (c.shorten.ensures.crash held told only) in
     let left = mapped_at (take (c.args.gate + 1)) (g.D.Disk.seen c.args.disk.now).bytes (g.D.Disk.seen c.shorten.new.disk).bytes held c.in_ok-shorten.ensures.does.bytes told
-      ∙ ap (λ (l : List ℕ). Some (take (c.args.gate + 1) l)) gate.splits ∙ ap (λ (l : List ℕ). Some l) (end_left records gate.gate gate.behind (c.args.gate + 1) to) in
+    ∙ ap (λ (l : List ℕ). Some (take (c.args.gate + 1) l)) gate.splits ∙ ap (λ (l : List ℕ). Some l) (end_left records gate.gate gate.behind (c.args.gate + 1) to) in
     chained g.D.Disk.moment g.D.Disk.left_since c.args.disk.now c.shorten.new.disk c.shut.new.disk (Finds records) one (c.shut.ensures.crash records gate.gate left finds.short place)
 
 pub returns-clause-closed : goal.returns-clause-closed
@@ -47,5 +47,5 @@ returns-clause-closed g c records held told finds place =
     let gate = has_gate records held finds (omega (arith, c.requires, size, place)) in
     let to : c.args.gate + 1 ≡ length (spelled records) + 1 = ap (λ (n : ℕ). n + 1) place in
     let left = mapped_at (take (c.args.gate + 1)) (g.D.Disk.seen c.args.disk.now).bytes (g.D.Disk.seen c.shorten.new.disk).bytes held c.in_ok-shorten.ensures.does.bytes told
-      ∙ ap (λ (l : List ℕ). Some (take (c.args.gate + 1) l)) gate.splits ∙ ap (λ (l : List ℕ). Some l) (end_left records gate.gate gate.behind (c.args.gate + 1) to) in
+    ∙ ap (λ (l : List ℕ). Some (take (c.args.gate + 1) l)) gate.splits ∙ ap (λ (l : List ℕ). Some l) (end_left records gate.gate gate.behind (c.args.gate + 1) to) in
     c.in_ok-shut.ensures.closed (spelled records) gate.gate left place

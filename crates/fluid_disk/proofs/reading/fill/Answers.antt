@@ -1,4 +1,4 @@
-use Rattle.std.proofs.Common.{◌≡◌, ◌+◌, ◌-◌, ◌≤◌, ℕ, List, length, take, drop, refl, sym, ◌∙◌, ap, arith, length-take, length-drop}
+use Rattle.std.proofs.Common.{◌≡◌, ◌+◌, ◌-◌, ℕ, length, take, drop, refl, sym, ◌∙◌, ap, arith, length-take, length-drop}
 use Rattle.std.proofs.lemmas.List.{take_all}
 use Rattle.fluid_disk.proofs.Pieces.{reads_none, reads_more, put_filled}
 use Rattle.fluid_disk.proofs.Standing.{tells_at}
@@ -22,10 +22,10 @@ loop-done-preserved g c =
       reads = reads_more g.D.Disk.seen g.D.Disk.may_leave g.D.Disk.moment g.D.Disk.left_since c.args.disk.now c.loop-done.disk c.read.new.self so_far.reads c.read.ensures.same c.read.ensures.crash c.read.ensures.time;
       faults = omega (arith, so_far.faults, c.read.ensures.cause.later);
       filled = λ held told.
-        let now = so_far.reads.same.bytes ∙ told in
-        let size = tells_at (g.D.Disk.seen c.loop-done.disk).bytes (λ b. (g.D.Disk.seen c.loop-done.disk).size ≡ length b) held now (g.met.D.Disk.sized c.loop-done.disk) in
-        put_filled c.loop-done.done c.in_ok-done.field-0 c.args.at held c.loop-done.into c.read.new.into _ _ (tells_at (g.D.Disk.seen c.loop-done.disk).bytes _ held now r.given) (so_far.filled held told)
-        (omega (arith, so_far.within, c.loop-done.auto.into)) (omega (arith, r.within, size, length-drop (c.args.at + c.loop-done.done) held));
+          let now = so_far.reads.same.bytes ∙ told in
+          let size = tells_at (g.D.Disk.seen c.loop-done.disk).bytes (λ b. (g.D.Disk.seen c.loop-done.disk).size ≡ length b) held now (g.met.D.Disk.sized c.loop-done.disk) in
+          put_filled c.loop-done.done c.in_ok-done.field-0 c.args.at held c.loop-done.into c.read.new.into _ _ (tells_at (g.D.Disk.seen c.loop-done.disk).bytes _ held now r.given) (so_far.filled held told)
+          (omega (arith, so_far.within, c.loop-done.auto.into)) (omega (arith, r.within, size, length-drop (c.args.at + c.loop-done.done) held));
     }
 
 pub returns-in_err-done-clause-reads : goal.returns-in_err-done-clause-reads

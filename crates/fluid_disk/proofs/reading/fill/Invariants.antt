@@ -1,6 +1,4 @@
-use Rattle.std.proofs.Common.{◌≡◌, ◌-◌, ◌≤◌, ℕ, List, length, take, drop}
-use Rattle.std.specs.Prelude.{Some}
-use Rattle.fluid_disk.specs.Files.{OnlyReads}
+use Rattle.std.proofs.Common.{◌-◌, length}
 use Rattle.fluid_disk.proofs.Filling.{IsFilled}
 use Rattle.fluid_disk.proofs.reading.fill.Given as goal
 

@@ -1,8 +1,7 @@
-use Rattle.std.proofs.Common.{◌≡◌, ◌+◌, [], ◌∷◌, ℕ, List, length, ◌∙◌, ap, subst, arith, length-append}
+use Rattle.std.proofs.Common.{◌≡◌, ◌+◌, [], ◌∷◌, ℕ, length, ◌∙◌, ap, subst, arith, length-append}
 use Rattle.std.proofs.lemmas.Result.{err_from_is_err_and}
 use Rattle.fluid_disk.specs.Disk.{Torn, Only, LeavesOnly, Overwrites, overwritten}
 use Rattle.fluid_disk.specs.Records.{framed, spelled}
-use Rattle.fluid_disk.specs.Files.{Row}
 use Rattle.fluid_disk.proofs.Standing.{at_rest, only, mapped_at, tells_at}
 use Rattle.fluid_disk.proofs.Adding.{first_failed, first_run, is_staged, second_failed, second_run, added}
 use Rattle.fluid_disk.proofs.Rows.{length_framed, length_gates}
@@ -23,7 +22,7 @@ returns-in_err-_longer-clause-does g c records bytes short is s =
     let e = err_from_is_err_and c.from_residual.result c.from_residual.ensures.1 in
     let place : c.last_gate-gate.result + 1 ≡ length (spelled records) + 1 = ap (λ (n : ℕ). n + 1) (c.last_gate-gate.ensures records (c.deref.ensures.value ∙ s.gates_are)) in
     rw (e.1) (first_failed g.D.Disk.seen g.D.Disk.may_leave g.D.Disk.moment g.D.Disk.left_since records bytes c.args.disk.now c.put.new.disk c.args.gates.now.items c.args.owed.now (c.last_gate-gate.result + 1) (length c.args.frame.now) s
-      (g.met.D.Disk.leaves_read c.args.disk.now) (g.met.D.Disk.counts_now c.put.new.disk) short place c.in_err-_longer.ensures.does c.put.ensures.crash)
+    (g.met.D.Disk.leaves_read c.args.disk.now) (g.met.D.Disk.counts_now c.put.new.disk) short place c.in_err-_longer.ensures.does c.put.ensures.crash)
 
 pub returns-in_err-_longer-clause-crash : goal.returns-in_err-_longer-clause-crash
 returns-in_err-_longer-clause-crash g c records bytes held is s told =
@@ -39,10 +38,10 @@ returns-in_err-_opened-clause-does g c records bytes short is s =
     let gate = c.last_gate-gate.ensures records (c.deref.ensures.value ∙ s.gates_are) in
     let place : c.last_gate-gate.result + 1 ≡ length (spelled records) + 1 = ap (λ (n : ℕ). n + 1) gate in
     let whole = is_staged g.D.Disk.seen g.D.Disk.may_leave g.D.Disk.moment g.D.Disk.left_since records bytes c.args.frame.now c.args.disk.now c.put.new.disk c.args.gates.now.items c.args.owed.now (c.last_gate-gate.result + 1) s
-      (g.met.D.Disk.leaves_read c.args.disk.now) place is c.in_ok-_longer.ensures.does in
+    (g.met.D.Disk.leaves_read c.args.disk.now) place is c.in_ok-_longer.ensures.does in
     rw (e.1) (second_failed g.D.Disk.seen g.D.Disk.may_leave g.D.Disk.moment g.D.Disk.left_since records bytes c.args.disk.now c.put.new.disk c.put-2.new.disk c.args.gates.now.items c.args.owed.now s (g.met.D.Disk.counts_now c.put-2.new.disk)
-      short (omega (arith, c.in_ok-_longer.ensures.does.size)) c.in_err-_opened.ensures.does whole c.in_ok-_longer.ensures.durable
-      (λ held told alone. subst (λ (n : ℕ). LeavesOnly g.D.Disk.moment g.D.Disk.left_since c.put.new.disk c.put-2.new.disk (Torn n 1 held)) gate (c.put-2.ensures.crash held told alone)))
+    short (omega (arith, c.in_ok-_longer.ensures.does.size)) c.in_err-_opened.ensures.does whole c.in_ok-_longer.ensures.durable
+    (λ held told alone. subst (λ (n : ℕ). LeavesOnly g.D.Disk.moment g.D.Disk.left_since c.put.new.disk c.put-2.new.disk (Torn n 1 held)) gate (c.put-2.ensures.crash held told alone)))
 
 pub returns-in_err-_opened-clause-crash : goal.returns-in_err-_opened-clause-crash
 returns-in_err-_opened-clause-crash g c records bytes held is s told =
@@ -54,7 +53,7 @@ returns-in_err-_opened-clause-crash g c records bytes held is s told =
     let staged_bytes = overwritten (c.last_gate-gate.result + 1) c.args.frame.now held in
     let mid = mapped_at (overwritten (c.last_gate-gate.result + 1) c.args.frame.now) (g.D.Disk.seen c.args.disk.now).bytes (g.D.Disk.seen c.put.new.disk).bytes held c.in_ok-_longer.ensures.does.bytes told in
     let whole = is_staged g.D.Disk.seen g.D.Disk.may_leave g.D.Disk.moment g.D.Disk.left_since records bytes c.args.frame.now c.args.disk.now c.put.new.disk c.args.gates.now.items c.args.owed.now (c.last_gate-gate.result + 1) s
-      (g.met.D.Disk.leaves_read c.args.disk.now) place is c.in_ok-_longer.ensures.does staged_bytes mid in
+    (g.met.D.Disk.leaves_read c.args.disk.now) place is c.in_ok-_longer.ensures.does staged_bytes mid in
     let kept = tells_at (g.D.Disk.seen c.put.new.disk).bytes (λ b. Only b (g.D.Disk.may_leave c.put.new.disk)) staged_bytes mid c.in_ok-_longer.ensures.durable in
     second_run g.D.Disk.seen g.D.Disk.may_leave g.D.Disk.moment g.D.Disk.left_since records bytes staged_bytes c.args.disk.now c.put.new.disk c.put-2.new.disk whole one
     (subst (λ (n : ℕ). LeavesOnly g.D.Disk.moment g.D.Disk.left_since c.put.new.disk c.put-2.new.disk (Torn n 1 staged_bytes)) gate (c.put-2.ensures.crash staged_bytes mid kept))
@@ -65,7 +64,7 @@ returns-clause-does g c records bytes short is s =
     let gate = c.last_gate-gate.ensures records (c.deref.ensures.value ∙ s.gates_are) in
     let place : c.last_gate-gate.result + 1 ≡ length (spelled records) + 1 = ap (λ (n : ℕ). n + 1) gate in
     let whole = is_staged g.D.Disk.seen g.D.Disk.may_leave g.D.Disk.moment g.D.Disk.left_since records bytes c.args.frame.now c.args.disk.now c.put.new.disk c.args.gates.now.items c.args.owed.now (c.last_gate-gate.result + 1) s
-      (g.met.D.Disk.leaves_read c.args.disk.now) place is c.in_ok-_longer.ensures.does in
+    (g.met.D.Disk.leaves_read c.args.disk.now) place is c.in_ok-_longer.ensures.does in
     let writes = subst (λ (n : ℕ). Overwrites n (1 ∷ []) (g.D.Disk.seen c.put.new.disk) (g.D.Disk.seen c.put-2.new.disk)) gate c.in_ok-_opened.ensures.does in
     let size : length c.args.frame.now ≡ 5 + length bytes = omega (arith, ap length is, length-append (framed bytes) (0 ∷ []), length_framed bytes) in
     let next = c.last_gate-gate.result + length c.args.frame.now in
@@ -82,8 +81,7 @@ returns-clause-crash g c records bytes held is s told =
     let staged_bytes = overwritten (c.last_gate-gate.result + 1) c.args.frame.now held in
     let mid = mapped_at (overwritten (c.last_gate-gate.result + 1) c.args.frame.now) (g.D.Disk.seen c.args.disk.now).bytes (g.D.Disk.seen c.put.new.disk).bytes held c.in_ok-_longer.ensures.does.bytes told in
     let whole = is_staged g.D.Disk.seen g.D.Disk.may_leave g.D.Disk.moment g.D.Disk.left_since records bytes c.args.frame.now c.args.disk.now c.put.new.disk c.args.gates.now.items c.args.owed.now (c.last_gate-gate.result + 1) s
-      (g.met.D.Disk.leaves_read c.args.disk.now) place is c.in_ok-_longer.ensures.does staged_bytes mid in
+    (g.met.D.Disk.leaves_read c.args.disk.now) place is c.in_ok-_longer.ensures.does staged_bytes mid in
     let kept = tells_at (g.D.Disk.seen c.put.new.disk).bytes (λ b. Only b (g.D.Disk.may_leave c.put.new.disk)) staged_bytes mid c.in_ok-_longer.ensures.durable in
     second_run g.D.Disk.seen g.D.Disk.may_leave g.D.Disk.moment g.D.Disk.left_since records bytes staged_bytes c.args.disk.now c.put.new.disk c.put-2.new.disk whole one
     (subst (λ (n : ℕ). LeavesOnly g.D.Disk.moment g.D.Disk.left_since c.put.new.disk c.put-2.new.disk (Torn n 1 staged_bytes)) gate (c.put-2.ensures.crash staged_bytes mid kept))
-

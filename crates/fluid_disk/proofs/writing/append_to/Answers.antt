@@ -1,4 +1,4 @@
-use Rattle.std.proofs.Common.{◌≡◌, inl, inr, ℕ, List, ap, sym, ◌∙◌, arith, refl}
+use Rattle.std.proofs.Common.{inl, inr, ℕ, List, sym, ◌∙◌}
 use Rattle.std.specs.Prelude.{◌⊎◌}
 use Rattle.std.proofs.lemmas.Result.{err_from_is_err_and}
 use Rattle.fluid_disk.specs.Files.{settled, Keeps, Appending}
@@ -73,7 +73,7 @@ returns-in_err-add-clause-crash g c row held s told =
     let then = told_before (g.D.Disk.seen c.repair.new.disk).bytes (g.D.Disk.seen c.args.disk.now).bytes held (sym c.repair.ensures.told) told in
     chained g.D.Disk.moment g.D.Disk.left_since c.args.disk.now c.repair.new.disk c.add.new.disk P one
     (weaker g.D.Disk.moment g.D.Disk.left_since c.repair.new.disk c.add.new.disk (Keeps row.records (Appending c.args.bytes.now)) P (λ image k. inr k)
-      (c.add.ensures.crash row.records c.args.bytes.now then.0 (c.deref-2.ensures.value ∙ c.in_ok-frame.ensures.frame) rest then.1))
+    (c.add.ensures.crash row.records c.args.bytes.now then.0 (c.deref-2.ensures.value ∙ c.in_ok-frame.ensures.frame) rest then.1))
 
 pub returns-clause-crash : goal.returns-clause-crash
 returns-clause-crash g c row held s told =
@@ -84,4 +84,4 @@ returns-clause-crash g c row held s told =
     let then = told_before (g.D.Disk.seen c.repair.new.disk).bytes (g.D.Disk.seen c.args.disk.now).bytes held (sym c.repair.ensures.told) told in
     chained g.D.Disk.moment g.D.Disk.left_since c.args.disk.now c.repair.new.disk c.add.new.disk P one
     (weaker g.D.Disk.moment g.D.Disk.left_since c.repair.new.disk c.add.new.disk (Keeps row.records (Appending c.args.bytes.now)) P (λ image k. inr k)
-      (c.add.ensures.crash row.records c.args.bytes.now then.0 (c.deref-2.ensures.value ∙ c.in_ok-frame.ensures.frame) rest then.1))
+    (c.add.ensures.crash row.records c.args.bytes.now then.0 (c.deref-2.ensures.value ∙ c.in_ok-frame.ensures.frame) rest then.1))

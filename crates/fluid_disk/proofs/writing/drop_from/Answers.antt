@@ -1,7 +1,6 @@
-use Rattle.std.proofs.Common.{◌∙◌, ◌≡◌, ◌<◌, ◌+◌, [], ◌∷◌, ℕ, List, suc, length, take, refl, ap, subst, arith}
+use Rattle.std.proofs.Common.{◌∙◌, ◌≡◌, ◌<◌, ◌+◌, [], ◌∷◌, ℕ, suc, length, take, ap, subst, arith}
 use Rattle.std.proofs.lemmas.Result.{err_from_is_err_and}
 use Rattle.fluid_disk.specs.Disk.{Torn, LeavesOnly, Overwrites}
-use Rattle.fluid_disk.specs.Records.{gate_before}
 use Rattle.fluid_disk.specs.Files.{settled, Stands}
 use Rattle.fluid_disk.specs.declared.owed.Owed.TheVariants as debts
 use Rattle.fluid_disk.proofs.Standing.{at_rest, only}
@@ -18,8 +17,8 @@ returns-in_err-put-clause-does g c records s =
     let gate = c.gate_of-gate.ensures records (c.deref.ensures.value ∙ s.gates_are) in
     let below : c.args.count < length records = omega (arith, c.requires.below, ap length s.gates_are, length_gates 0 records) in
     rw (e.1) (drop_failed g.D.Disk.seen g.D.Disk.may_leave g.D.Disk.moment g.D.Disk.left_since records c.args.count c.args.disk.now c.put.new.disk c.args.gates.now.items c.args.owed.now s (g.met.D.Disk.leaves_read c.args.disk.now)
-      (g.met.D.Disk.counts_now c.put.new.disk) below c.in_err-put.ensures.does
-      (λ held told alone. subst (λ (n : ℕ). LeavesOnly g.D.Disk.moment g.D.Disk.left_since c.args.disk.now c.put.new.disk (Torn n 1 held)) gate (c.put.ensures.crash held told alone)))
+    (g.met.D.Disk.counts_now c.put.new.disk) below c.in_err-put.ensures.does
+    (λ held told alone. subst (λ (n : ℕ). LeavesOnly g.D.Disk.moment g.D.Disk.left_since c.args.disk.now c.put.new.disk (Torn n 1 held)) gate (c.put.ensures.crash held told alone)))
 
 pub returns-in_err-put-clause-crash : goal.returns-in_err-put-clause-crash
 returns-in_err-put-clause-crash g c records held s told =

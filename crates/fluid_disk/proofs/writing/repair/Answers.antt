@@ -1,4 +1,4 @@
-use Rattle.std.proofs.Common.{◌≡◌, ℕ, List, refl, sym, subst}
+use Rattle.std.proofs.Common.{refl, sym, subst}
 use Rattle.std.proofs.lemmas.Result.{err_from_is_err_and}
 use Rattle.fluid_disk.specs.declared.owed.Owed.TheVariants as debts
 use Rattle.fluid_disk.specs.Disk.{LeavesOnly}
@@ -16,7 +16,7 @@ returns-in_err-repair_append-in-Append-clause-does g c row s =
     let o = owing_append row.owing c.args.owed.now s.noted c.in-Append.is in
     let before = restands g.D.Disk.seen g.D.Disk.may_leave row.records row.owing (Appending o.0) c.args.disk.now c.args.gates.now c.args.owed.now debts.Append o.1 c.in-Append.is s in
     rw (e.1) (restands g.D.Disk.seen g.D.Disk.may_leave row.records (Appending o.0) row.owing c.repair_append.new.disk c.args.gates.now debts.Append c.args.owed.now (sym o.1) (sym c.in-Append.is)
-      (c.in_err-repair_append-in-Append.ensures.does row.records o.0 before))
+    (c.in_err-repair_append-in-Append.ensures.does row.records o.0 before))
 
 pub returns-in_ok-repair_append-in-Append-clause-does : goal.returns-in_ok-repair_append-in-Append-clause-does
 returns-in_ok-repair_append-in-Append-clause-does g c row s =
@@ -30,7 +30,7 @@ returns-in_err-repair_cut-in-Cut-clause-does g c row s =
     let o = owing_cut row.owing c.args.owed.now c.in-Cut.count s.noted c.in-Cut.is in
     let before = restands g.D.Disk.seen g.D.Disk.may_leave row.records row.owing (Cutting c.in-Cut.count) c.args.disk.now c.args.gates.now c.args.owed.now (debts.Cut c.in-Cut.count) o c.in-Cut.is s in
     rw (e.1) (restands g.D.Disk.seen g.D.Disk.may_leave row.records (Cutting c.in-Cut.count) row.owing c.repair_cut.new.disk c.args.gates.now (debts.Cut c.in-Cut.count) c.args.owed.now (sym o) (sym c.in-Cut.is)
-      (c.in_err-repair_cut-in-Cut.ensures.does row.records before))
+    (c.in_err-repair_cut-in-Cut.ensures.does row.records before))
 
 pub returns-in_ok-repair_cut-in-Cut-clause-does : goal.returns-in_ok-repair_cut-in-Cut-clause-does
 returns-in_ok-repair_cut-in-Cut-clause-does g c row s =

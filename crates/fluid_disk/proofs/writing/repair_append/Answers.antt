@@ -1,9 +1,8 @@
-use Rattle.std.proofs.Common.{◌≡◌, inl, ℕ, List, ap, sym, ◌∙◌}
-use Rattle.std.specs.Prelude.{is_some}
+use Rattle.std.proofs.Common.{inl, sym, ◌∙◌}
 use Rattle.std.proofs.lemmas.Result.{err_from_is_err_and}
 use Rattle.fluid_disk.specs.declared.owed.Owed.TheVariants as debts
 use Rattle.fluid_disk.specs.Records.{IsAtRest}
-use Rattle.fluid_disk.specs.Files.{appending, settled, Keeps, Appending}
+use Rattle.fluid_disk.specs.Files.{appending, Keeps, Appending}
 use Rattle.fluid_disk.proofs.Moments.{chained, weaker}
 use Rattle.fluid_disk.proofs.Runs.{quiet_run}
 use Rattle.fluid_disk.proofs.Standing.{told_before}
@@ -39,7 +38,7 @@ returns-in_err-close-clause-does g c records bytes s =
 pub returns-in_err-close-clause-crash : goal.returns-in_err-close-clause-crash
 returns-in_err-close-clause-crash g c records bytes held s told =
     let one = reads_run g.D.Disk.seen g.D.Disk.may_leave g.D.Disk.moment g.D.Disk.left_since (appending records bytes) c.args.disk.now c.sync.new.self c.args.gates.now debts.Append held told s
-      (quiet_run g.D.Disk.may_leave g.D.Disk.moment g.D.Disk.left_since c.args.disk.now c.sync.new.self (g.met.D.Disk.only_now c.args.disk.now) c.sync.ensures.crash c.sync.ensures.time) in
+    (quiet_run g.D.Disk.may_leave g.D.Disk.moment g.D.Disk.left_since c.args.disk.now c.sync.new.self (g.met.D.Disk.only_now c.args.disk.now) c.sync.ensures.crash c.sync.ensures.time) in
     let mid = quieter g.D.Disk.seen g.D.Disk.may_leave g.D.Disk.moment g.D.Disk.left_since (appending records bytes) c.args.disk.now c.sync.new.self c.args.gates.now debts.Append c.sync.ensures.same c.sync.ensures.crash s in
     chained g.D.Disk.moment g.D.Disk.left_since c.args.disk.now c.sync.new.self c.close.new.disk (Keeps records (Appending bytes)) one (c.close.ensures.crash records bytes held mid (c.sync.ensures.same.bytes ∙ told))
 
@@ -52,7 +51,7 @@ returns-in_err-trim-clause-does g c records bytes s =
 pub returns-in_err-trim-clause-crash : goal.returns-in_err-trim-clause-crash
 returns-in_err-trim-clause-crash g c records bytes held s told =
     let one = reads_run g.D.Disk.seen g.D.Disk.may_leave g.D.Disk.moment g.D.Disk.left_since (appending records bytes) c.args.disk.now c.sync.new.self c.args.gates.now debts.Append held told s
-      (quiet_run g.D.Disk.may_leave g.D.Disk.moment g.D.Disk.left_since c.args.disk.now c.sync.new.self (g.met.D.Disk.only_now c.args.disk.now) c.sync.ensures.crash c.sync.ensures.time) in
+    (quiet_run g.D.Disk.may_leave g.D.Disk.moment g.D.Disk.left_since c.args.disk.now c.sync.new.self (g.met.D.Disk.only_now c.args.disk.now) c.sync.ensures.crash c.sync.ensures.time) in
     let mid = quieter g.D.Disk.seen g.D.Disk.may_leave g.D.Disk.moment g.D.Disk.left_since (appending records bytes) c.args.disk.now c.sync.new.self c.args.gates.now debts.Append c.sync.ensures.same c.sync.ensures.crash s in
     let mid_told = c.sync.ensures.same.bytes ∙ told in
     let two = chained g.D.Disk.moment g.D.Disk.left_since c.args.disk.now c.sync.new.self c.close.new.disk (Keeps records (Appending bytes)) one (c.close.ensures.crash records bytes held mid mid_told) in
@@ -69,7 +68,7 @@ returns-clause-does g c records bytes s =
 pub returns-clause-crash : goal.returns-clause-crash
 returns-clause-crash g c records bytes held s told =
     let one = reads_run g.D.Disk.seen g.D.Disk.may_leave g.D.Disk.moment g.D.Disk.left_since (appending records bytes) c.args.disk.now c.sync.new.self c.args.gates.now debts.Append held told s
-      (quiet_run g.D.Disk.may_leave g.D.Disk.moment g.D.Disk.left_since c.args.disk.now c.sync.new.self (g.met.D.Disk.only_now c.args.disk.now) c.sync.ensures.crash c.sync.ensures.time) in
+    (quiet_run g.D.Disk.may_leave g.D.Disk.moment g.D.Disk.left_since c.args.disk.now c.sync.new.self (g.met.D.Disk.only_now c.args.disk.now) c.sync.ensures.crash c.sync.ensures.time) in
     let mid = quieter g.D.Disk.seen g.D.Disk.may_leave g.D.Disk.moment g.D.Disk.left_since (appending records bytes) c.args.disk.now c.sync.new.self c.args.gates.now debts.Append c.sync.ensures.same c.sync.ensures.crash s in
     let mid_told = c.sync.ensures.same.bytes ∙ told in
     let two = chained g.D.Disk.moment g.D.Disk.left_since c.args.disk.now c.sync.new.self c.close.new.disk (Keeps records (Appending bytes)) one (c.close.ensures.crash records bytes held mid mid_told) in

@@ -1,9 +1,7 @@
-use Rattle.std.proofs.Common.{◌≡◌, [], ◌∷◌, ◌+◌, ℕ, List, length, ap, subst, sym, arith, ◌∙◌}
-use Rattle.std.specs.Prelude.{is_some}
+use Rattle.std.proofs.Common.{[], ◌∷◌, ℕ, length, ap, subst, arith, ◌∙◌}
 use Rattle.std.proofs.lemmas.Result.{err_from_is_err_and}
 use Rattle.fluid_disk.specs.declared.owed.Owed.TheVariants as debts
 use Rattle.fluid_disk.specs.Disk.{Torn, LeavesOnly, Overwrites}
-use Rattle.fluid_disk.specs.Records.{gate_before}
 use Rattle.fluid_disk.specs.Files.{cutting, Keeps, Cutting}
 use Rattle.fluid_disk.proofs.Moments.{chained}
 use Rattle.fluid_disk.proofs.Runs.{quiet_run}
@@ -33,20 +31,20 @@ returns-in_err-put-clause-does g c records s =
     let gate = c.gate_of-gate.ensures records s.gates_are in
     let mid = quieter g.D.Disk.seen g.D.Disk.may_leave g.D.Disk.moment g.D.Disk.left_since (cutting records c.args.count) c.args.disk.now c.sync.new.self c.args.gates.now (debts.Cut c.args.count) c.sync.ensures.same c.sync.ensures.crash s in
     rw (e.1) (reopen_failed g.D.Disk.seen g.D.Disk.may_leave g.D.Disk.moment g.D.Disk.left_since records c.args.count c.sync.new.self c.put.new.disk c.args.gates.now mid (g.met.D.Disk.leaves_read c.sync.new.self) (g.met.D.Disk.counts_now c.put.new.disk)
-      c.in_err-put.ensures.does c.in_ok-sync.ensures.durable
-      (λ held told alone. subst (λ (n : ℕ). LeavesOnly g.D.Disk.moment g.D.Disk.left_since c.sync.new.self c.put.new.disk (Torn n 1 held)) gate (c.put.ensures.crash held told alone)))
+    c.in_err-put.ensures.does c.in_ok-sync.ensures.durable
+    (λ held told alone. subst (λ (n : ℕ). LeavesOnly g.D.Disk.moment g.D.Disk.left_since c.sync.new.self c.put.new.disk (Torn n 1 held)) gate (c.put.ensures.crash held told alone)))
 
 pub returns-in_err-put-clause-crash : goal.returns-in_err-put-clause-crash
 returns-in_err-put-clause-crash g c records held s told =
     let gate = c.gate_of-gate.ensures records s.gates_are in
     let one = reads_run g.D.Disk.seen g.D.Disk.may_leave g.D.Disk.moment g.D.Disk.left_since (cutting records c.args.count) c.args.disk.now c.sync.new.self c.args.gates.now (debts.Cut c.args.count) held told s
-      (quiet_run g.D.Disk.may_leave g.D.Disk.moment g.D.Disk.left_since c.args.disk.now c.sync.new.self (g.met.D.Disk.only_now c.args.disk.now) c.sync.ensures.crash c.sync.ensures.time) in
+    (quiet_run g.D.Disk.may_leave g.D.Disk.moment g.D.Disk.left_since c.args.disk.now c.sync.new.self (g.met.D.Disk.only_now c.args.disk.now) c.sync.ensures.crash c.sync.ensures.time) in
     let mid = quieter g.D.Disk.seen g.D.Disk.may_leave g.D.Disk.moment g.D.Disk.left_since (cutting records c.args.count) c.args.disk.now c.sync.new.self c.args.gates.now (debts.Cut c.args.count) c.sync.ensures.same c.sync.ensures.crash s in
     let mid_told = c.sync.ensures.same.bytes ∙ told in
     let but = reads_kept g.D.Disk.seen g.D.Disk.may_leave g.D.Disk.moment g.D.Disk.left_since (cutting records c.args.count) c.sync.new.self c.args.gates.now (debts.Cut c.args.count) held mid_told (g.met.D.Disk.leaves_read c.sync.new.self) mid in
     chained g.D.Disk.moment g.D.Disk.left_since c.args.disk.now c.sync.new.self c.put.new.disk (Keeps records (Cutting c.args.count)) one
     (reopen_run g.D.Disk.seen g.D.Disk.may_leave g.D.Disk.moment g.D.Disk.left_since records c.args.count held c.sync.new.self c.put.new.disk but
-      (subst (λ (n : ℕ). LeavesOnly g.D.Disk.moment g.D.Disk.left_since c.sync.new.self c.put.new.disk (Torn n 1 held)) gate (c.put.ensures.crash held mid_told (alone g.D.Disk.seen g.D.Disk.may_leave g.D.Disk.moment g.D.Disk.left_since c.sync.new.self held mid_told c.in_ok-sync.ensures.durable))))
+    (subst (λ (n : ℕ). LeavesOnly g.D.Disk.moment g.D.Disk.left_since c.sync.new.self c.put.new.disk (Torn n 1 held)) gate (c.put.ensures.crash held mid_told (alone g.D.Disk.seen g.D.Disk.may_leave g.D.Disk.moment g.D.Disk.left_since c.sync.new.self held mid_told c.in_ok-sync.ensures.durable))))
 
 pub returns-clause-does : goal.returns-clause-does
 returns-clause-does g c records s =
@@ -59,10 +57,10 @@ pub returns-clause-crash : goal.returns-clause-crash
 returns-clause-crash g c records held s told =
     let gate = c.gate_of-gate.ensures records s.gates_are in
     let one = reads_run g.D.Disk.seen g.D.Disk.may_leave g.D.Disk.moment g.D.Disk.left_since (cutting records c.args.count) c.args.disk.now c.sync.new.self c.args.gates.now (debts.Cut c.args.count) held told s
-      (quiet_run g.D.Disk.may_leave g.D.Disk.moment g.D.Disk.left_since c.args.disk.now c.sync.new.self (g.met.D.Disk.only_now c.args.disk.now) c.sync.ensures.crash c.sync.ensures.time) in
+    (quiet_run g.D.Disk.may_leave g.D.Disk.moment g.D.Disk.left_since c.args.disk.now c.sync.new.self (g.met.D.Disk.only_now c.args.disk.now) c.sync.ensures.crash c.sync.ensures.time) in
     let mid = quieter g.D.Disk.seen g.D.Disk.may_leave g.D.Disk.moment g.D.Disk.left_since (cutting records c.args.count) c.args.disk.now c.sync.new.self c.args.gates.now (debts.Cut c.args.count) c.sync.ensures.same c.sync.ensures.crash s in
     let mid_told = c.sync.ensures.same.bytes ∙ told in
     let but = reads_kept g.D.Disk.seen g.D.Disk.may_leave g.D.Disk.moment g.D.Disk.left_since (cutting records c.args.count) c.sync.new.self c.args.gates.now (debts.Cut c.args.count) held mid_told (g.met.D.Disk.leaves_read c.sync.new.self) mid in
     chained g.D.Disk.moment g.D.Disk.left_since c.args.disk.now c.sync.new.self c.put.new.disk (Keeps records (Cutting c.args.count)) one
     (reopen_run g.D.Disk.seen g.D.Disk.may_leave g.D.Disk.moment g.D.Disk.left_since records c.args.count held c.sync.new.self c.put.new.disk but
-      (subst (λ (n : ℕ). LeavesOnly g.D.Disk.moment g.D.Disk.left_since c.sync.new.self c.put.new.disk (Torn n 1 held)) gate (c.put.ensures.crash held mid_told (alone g.D.Disk.seen g.D.Disk.may_leave g.D.Disk.moment g.D.Disk.left_since c.sync.new.self held mid_told c.in_ok-sync.ensures.durable))))
+    (subst (λ (n : ℕ). LeavesOnly g.D.Disk.moment g.D.Disk.left_since c.sync.new.self c.put.new.disk (Torn n 1 held)) gate (c.put.ensures.crash held mid_told (alone g.D.Disk.seen g.D.Disk.may_leave g.D.Disk.moment g.D.Disk.left_since c.sync.new.self held mid_told c.in_ok-sync.ensures.durable))))

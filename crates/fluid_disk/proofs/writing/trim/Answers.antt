@@ -1,8 +1,7 @@
-use Rattle.std.proofs.Common.{◌≡◌, ◌+◌, ℕ, List, length, ap, arith, ◌∙◌}
-use Rattle.std.specs.Prelude.{is_some, take}
+use Rattle.std.proofs.Common.{◌≡◌, ◌+◌, ℕ, length, ap, arith}
 use Rattle.std.proofs.lemmas.Result.{err_from_is_err_and}
 use Rattle.fluid_disk.specs.Records.{spelled}
-use Rattle.fluid_disk.proofs.Standing.{at_rest, only, mapped}
+use Rattle.fluid_disk.proofs.Standing.{at_rest, only}
 use Rattle.fluid_disk.proofs.Mending.{trim_failed, trim_run, trimmed}
 use Rattle.fluid_disk.proofs.Rows.{length_gates}
 use Rattle.fluid_disk.proofs.writing.trim.Goals as goal
@@ -15,7 +14,7 @@ returns-in_err-shorten-clause-does g c records s =
     let e = err_from_is_err_and c.from_residual.result c.from_residual.ensures.1 in
     let place : c.last_gate-gate.result + 1 ≡ length (spelled records) + 1 = ap (λ (n : ℕ). n + 1) (c.last_gate-gate.ensures records s.gates_are) in
     rw (e.1) (λ bytes short. trim_failed g.D.Disk.seen g.D.Disk.may_leave g.D.Disk.moment g.D.Disk.left_since records bytes c.args.disk.now c.shorten.new.disk c.args.gates.now (c.last_gate-gate.result + 1) s (g.met.D.Disk.leaves_read c.args.disk.now)
-      (g.met.D.Disk.counts_now c.shorten.new.disk) short place c.in_err-shorten.ensures.does c.shorten.ensures.crash)
+    (g.met.D.Disk.counts_now c.shorten.new.disk) short place c.in_err-shorten.ensures.does c.shorten.ensures.crash)
 
 pub returns-in_err-shorten-clause-crash : goal.returns-in_err-shorten-clause-crash
 returns-in_err-shorten-clause-crash g c records held s told =

@@ -1,4 +1,4 @@
-use Rattle.std.proofs.Common.{ℕ, List, sym, subst, arith}
+use Rattle.std.proofs.Common.{sym, subst, arith}
 use Rattle.fluid_io.specs.Causes.{Tells}
 use Rattle.fluid_disk.specs.Disk.{LeavesOnly}
 use Rattle.fluid_disk.specs.Records.{IsShort}
@@ -24,4 +24,4 @@ returns-clause-crash g c row s =
     let short : IsShort c.args.bytes.now = omega (arith, c.requires) in
     subst (λ (f : Recording g.row.D.Denot). Tells (g.D.Disk.seen f.disk).bytes (λ _. LeavesOnly g.D.Disk.moment g.D.Disk.left_since f.disk c.append_to.new.disk (OpensAppending row c.args.bytes.now))) c.self.view_is
     (tells_from (g.D.Disk.seen c.self.inside.disk).bytes (λ _. LeavesOnly g.D.Disk.moment g.D.Disk.left_since c.self.inside.disk c.append_to.new.disk (OpensAppending row c.args.bytes.now))
-      (λ held told. opens_appending g.D.Disk.seen g.D.Disk.may_leave g.D.Disk.moment g.D.Disk.left_since row c.args.bytes.now c.self.inside.disk c.append_to.new.disk c.self.inside.gates.items c.self.inside.owed v short (c.append_to.ensures.crash row held v told)))
+    (λ held told. opens_appending g.D.Disk.seen g.D.Disk.may_leave g.D.Disk.moment g.D.Disk.left_since row c.args.bytes.now c.self.inside.disk c.append_to.new.disk c.self.inside.gates.items c.self.inside.owed v short (c.append_to.ensures.crash row held v told)))

@@ -1,4 +1,4 @@
-use Rattle.std.proofs.Common.{ℕ, List, sym, subst, arith}
+use Rattle.std.proofs.Common.{sym, subst}
 use Rattle.fluid_io.specs.Causes.{Tells}
 use Rattle.fluid_disk.specs.Disk.{LeavesOnly}
 use Rattle.fluid_disk.specs.Files.{Recording, StandsFor, OpensCutting}
@@ -22,4 +22,4 @@ returns-clause-crash g c row s =
     let v = subst (λ (f : Recording g.row.D.Denot). StandsFor g.D.Disk.seen g.D.Disk.may_leave row f) (sym c.self.view_is) s in
     subst (λ (f : Recording g.row.D.Denot). Tells (g.D.Disk.seen f.disk).bytes (λ _. LeavesOnly g.D.Disk.moment g.D.Disk.left_since f.disk c.cut_to.new.disk (OpensCutting row c.args.count))) c.self.view_is
     (tells_from (g.D.Disk.seen c.self.inside.disk).bytes (λ _. LeavesOnly g.D.Disk.moment g.D.Disk.left_since c.self.inside.disk c.cut_to.new.disk (OpensCutting row c.args.count))
-      (λ held told. opens_cutting g.D.Disk.seen g.D.Disk.may_leave g.D.Disk.moment g.D.Disk.left_since row c.args.count c.self.inside.disk c.cut_to.new.disk c.self.inside.gates.items c.self.inside.owed v (c.cut_to.ensures.crash row held v told)))
+    (λ held told. opens_cutting g.D.Disk.seen g.D.Disk.may_leave g.D.Disk.moment g.D.Disk.left_since row c.args.count c.self.inside.disk c.cut_to.new.disk c.self.inside.gates.items c.self.inside.owed v (c.cut_to.ensures.crash row held v told)))

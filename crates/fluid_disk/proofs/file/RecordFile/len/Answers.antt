@@ -1,4 +1,4 @@
-use Rattle.std.proofs.Common.{rules, ◌≡◌, ℕ, List, length, ap, sym, subst, ◌∙◌, arith}
+use Rattle.std.proofs.Common.{rules, ◌≡◌, length, ap, subst, arith}
 use Rattle.std.specs.Prelude.{vec_len}
 use Rattle.fluid_disk.specs.Files.{Recording, Row, StandsFor}
 use Rattle.fluid_disk.proofs.Promise.{opens_now}

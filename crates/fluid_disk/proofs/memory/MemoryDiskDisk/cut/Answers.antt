@@ -1,4 +1,4 @@
-use Rattle.std.proofs.Common.{◌≡◌, ℕ, List, ◌∷◌, reverse, ap, sym, subst, ◌∙◌}
+use Rattle.std.proofs.Common.{◌≡◌, ℕ, List, reverse, ap, subst, ◌∙◌}
 use Rattle.fluid_disk.specs.declared.call.Call.{Call}
 use Rattle.fluid_disk.specs.declared.call.Call.TheVariants.{CutOff}
 use Rattle.fluid_disk.specs.Memory.{MayLeave, MemoryStored}

@@ -1,4 +1,4 @@
-use Rattle.std.proofs.Common.{◌≡◌, ◌≤◌, ℕ, List, ◌∷◌, length, reverse, ap, sym, subst, ◌∙◌, arith}
+use Rattle.std.proofs.Common.{◌≡◌, ◌≤◌, ℕ, List, length, reverse, ap, sym, subst, ◌∙◌, arith}
 use Rattle.fluid_disk.specs.declared.call.Call.{Call}
 use Rattle.fluid_disk.specs.declared.call.Call.TheVariants.{Wrote}
 use Rattle.fluid_disk.specs.Disk.{Torn}
