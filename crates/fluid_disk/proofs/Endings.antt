@@ -63,13 +63,13 @@ has_gate records held finds lt = let g = gate_in (spelled records) finds.end hel
 
 -- ---- a file has one list of records
 
-first_length : (bytes rest : List ℕ) → IsShort bytes → from_be_bytes w32 (take 4 (framed bytes ++ rest)) ≡ length bytes
+pub first_length : (bytes rest : List ℕ) → IsShort bytes → from_be_bytes w32 (take 4 (framed bytes ++ rest)) ≡ length bytes
 first_length bytes rest short =
     ap (λ (l : List ℕ). from_be_bytes w32 (take 4 l)) (append_assoc (to_be_bytes w32 (length bytes)) bytes rest)
     ∙ ap (λ (l : List ℕ). from_be_bytes w32 l) (take_at (to_be_bytes w32 (length bytes)) (bytes ++ rest) 4 refl)
     ∙ from_be_bytes-to_be_bytes_4 (length bytes) short
 
-whole_first : (bytes rest : List ℕ) → IsShort bytes → IsWhole (framed bytes ++ rest)
+pub whole_first : (bytes rest : List ℕ) → IsShort bytes → IsWhole (framed bytes ++ rest)
 whole_first bytes rest short = record {
   length_stands = omega (arith, length-append (framed bytes) rest, length_framed bytes);
   bytes_stand = omega (arith, first_length bytes rest short, length-append (framed bytes) rest, length_framed bytes);

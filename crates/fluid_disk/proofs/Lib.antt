@@ -1,17 +1,17 @@
 mod Adding
 mod Debts
-mod Endings
+pub mod Endings
 mod Filling
 mod History
-mod Kept
+pub mod Kept
 mod Mending
-mod Moments
+pub mod Moments
 mod Pieces
 mod Promise
 mod Resting
-mod Rows
+pub mod Rows
 mod Runs
-mod Standing
+pub mod Standing
 mod Tears
 mod Undoing
 mod Walks
