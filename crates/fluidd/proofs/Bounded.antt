@@ -6,7 +6,7 @@ use Rattle.clap.specs.Walk.{Row, Text, first_of}
 use Rattle.fluid_types.specs.Names.{is_name}
 use Rattle.fluid_words.specs.Numbers.{within, number_in}
 use Rattle.fluid_words.specs.Found.{found}
-use Rattle.fluid_words.specs.Words.{sequence, script, load, workload, serve, number_of, load_of, load_by, workload_by, serve_by, is_flagged, behind, is_word, spelled, or_usage}
+use Rattle.fluid_words.specs.Words.{sequence, script, load, workload, serve, number_of, load_of, load_by, workload_by, serve_by, is_flagged, named, behind, is_word, spelled, or_usage}
 use Rattle.fluid_words.specs.declared.command.Command.{Command}
 use Rattle.fluid_words.specs.declared.command.Command.TheVariants as a
 use Rattle.fluid_words.specs.declared.command.CommandName.{CommandName}
