@@ -1,11 +1,12 @@
 -- What opening finds, and what a crash leaves while the end of a file is repaired.
-use Rattle.std.proofs.Common.{◌≡◌, inl, inr, ℕ, ◌+◌, ◌<◌, ◌≤◌, List, [], ◌∷◌, ◌++◌, length, take, drop, refl, sym, ◌∙◌, ap, subst, arith, append_assoc, length-append, length-drop}
+use Rattle.std.proofs.Common.{◌≡◌, inl, inr, ℕ, ◌+◌, ◌<◌, ◌≤◌, List, [], ◌∷◌, ◌++◌, length, get_or, take, drop, refl, sym, ◌∙◌, ap, subst, arith, append_assoc, length-append, length-drop}
 use Rattle.std.proofs.lemmas.List.{take_at, drop_all, append_cancel_left}
 use Rattle.std.proofs.lemmas.Nat.{from_be_bytes-to_be_bytes_4}
 use Rattle.std.specs.Int.{w32, to_be_bytes, from_be_bytes}
 use Rattle.std.specs.List.{AllByRecursion}
 use Rattle.fluid_disk.specs.Disk.{Torn, Cut, overwritten}
 use Rattle.fluid_disk.specs.Records.{IsShort, framed, spelled, IsEnd, IsWhole, Finds}
+use Rattle.fluid_disk.specs.Files.{ReadsClosed}
 use Rattle.fluid_disk.proofs.Tears.{torn_behind, written_behind}
 use Rattle.fluid_disk.proofs.Rows.{length_framed}
 
@@ -61,6 +62,10 @@ gate_in front (gate ∷ behind) held is lt = (gate, behind, is)
 pub has_gate : (records : List (List ℕ)) (held : List ℕ) → Finds records held → length (spelled records) < length held → HasGate records held
 has_gate records held finds lt = let g = gate_in (spelled records) finds.end held finds.splits lt in record { gate = g.0; behind = g.1; splits = g.2 }
 
+-- a gate that reads 0
+pub gate_closed : (records : List (List ℕ)) (gate : ℕ) (behind held : List ℕ) → held ≡ spelled records ++ gate ∷ behind → ReadsClosed records held → gate ≡ 0
+gate_closed records gate behind held is closed = ap (λ (l : List ℕ). get_or l 0 0) (append_cancel_left (spelled records) _ _ (sym is ∙ closed.splits))
+
 -- ---- a file has one list of records
 
 pub first_length : (bytes rest : List ℕ) → IsShort bytes → from_be_bytes w32 (take 4 (framed bytes ++ rest)) ≡ length bytes
@@ -106,9 +111,3 @@ finds_once (x ∷ one) (y ∷ two) bytes end other_end a b ends others is also =
 
 pub found_once : (one two : List (List ℕ)) (bytes : List ℕ) → Finds one bytes → Finds two bytes → one ≡ two
 found_once one two bytes a b = finds_once one two bytes a.end b.end a.short b.short a.ends b.ends a.splits b.splits
-
-pub finds_same : (held now : List ℕ) → held ≡ now → (records : List (List ℕ)) → Finds records held → Finds records now
-finds_same held now is records finds = subst (Finds records) is finds
-
-pub finds_other : (records : List (List ℕ)) (held now : List ℕ) → Finds records held → Finds records now → (other : List (List ℕ)) → Finds other held → Finds other now
-finds_other records held now one then other two = subst (λ (l : List (List ℕ)). Finds l now) (found_once records other held one two) then

@@ -17,8 +17,7 @@ module _ {D : Type 0} (seen : D → Stored) (may_leave : D → List ℕ → Type
       → (after : Row) × Stands seen may_leave after disk gates owed
   appended_some row bytes disk gates owed (Ok done) s = (settled (row.records ++ bytes ∷ []), s)
   appended_some row bytes disk gates owed (Err fault) (inl s) = (row, s)
-  appended_some row bytes disk gates owed (Err fault) (inr (inl s)) = (settled row.records, s)
-  appended_some row bytes disk gates owed (Err fault) (inr (inr s)) = (appending row.records bytes, s)
+  appended_some row bytes disk gates owed (Err fault) (inr failed) = (appending row.records bytes, failed.1)
 
   pub cut_some : (row : Row) (count : ℕ) (disk : D) (gates : List ℕ) (owed : Owed) (result : Result (Unit {0}) Fault) → CutRow seen may_leave row count disk gates owed result
       → (after : Row) × Stands seen may_leave after disk gates owed

@@ -150,9 +150,6 @@ reopened n records held lt but =
 pub but_torn : (n : ℕ) (records : List (List ℕ)) (held image : List ℕ) → IsAtRestBut n records held → Torn (gate_before n records) 1 held image → IsAtRestBut n records image
 but_torn n records held image but torn = record { whole = but.whole; rest = but.rest; torn = torn_twice (gate_before n records) 1 but.whole held image but.torn torn }
 
-pub rest_but : (n : ℕ) (records : List (List ℕ)) (held : List ℕ) → IsAtRest records held → IsAtRestBut n records held
-rest_but n records held rest = record { whole = held; rest = rest; torn = torn_same (gate_before n records) 1 held }
-
 pub cut_off : (n : ℕ) (records : List (List ℕ)) (held : List ℕ) → n < length records → IsAtRest records held → IsAtRest (take n records) (overwritten (gate_before n records) (0 ∷ []) held)
 cut_off n records held lt rest =
     let at = open_at n records held lt rest in
@@ -198,9 +195,3 @@ keeps_opens records (Cutting n) image short fits but = elim (finds_but n records
   | inl rest ↦ (records, finds_rest records image short rest, inl refl)
   | inr rest ↦ (take n records, finds_rest (take n records) image (short_take n records short) rest, inr refl)
 ]
-
--- what is at rest is what may be in progress, too
-pub keeps_any : (records : List (List ℕ)) (owing : Owing) (image : List ℕ) → IsAtRest records image → Keeps records owing image
-keeps_any records Nothing image rest = rest
-keeps_any records (Appending bytes) image rest = inl rest
-keeps_any records (Cutting n) image rest = rest_but n records image rest

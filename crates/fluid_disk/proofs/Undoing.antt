@@ -15,21 +15,6 @@ put_back at n k replaced held fits same all =
     ap (λ (l : List ℕ). take at held ++ (replaced ++ l)) (drop-drop k at held ∙ ap (λ (i : ℕ). drop i held) there)
     ∙ sym (append_assoc (take at held) replaced (drop (at + n) held))
 
--- and what stands behind it cut off, where the write had gone past the end
-pub put_back_cut : (at n k : ℕ) (replaced held : List ℕ) → Fits (length held) at n (length replaced) → k ≡ length replaced → length replaced < n
-    → take (at + k) (take at held ++ (replaced ++ drop k (drop at held))) ≡ undone (Wrote at n replaced) held
-put_back_cut at n k replaced held fits same fewer =
-    let front : length (take at held) ≡ at = length-take-le at held (omega (arith, fits.within)) in
-    let size : length (take at held ++ replaced) ≡ at + k = omega (arith, length-append (take at held) replaced, front, same) in
-    let whole : at + n ≡ length held = elim fits.last [
-      | inl all ↦ absurd (omega (arith, all, fewer))
-      | inr is ↦ is
-    ] in
-    ap (λ (l : List ℕ). take (at + k) l) (sym (append_assoc (take at held) replaced (drop k (drop at held))))
-    ∙ take_at (take at held ++ replaced) (drop k (drop at held)) (at + k) size
-    ∙ sym (append-nil (take at held ++ replaced))
-    ∙ ap (λ (l : List ℕ). (take at held ++ replaced) ++ l) (sym (drop_all (at + n) held (omega (arith, whole))))
-
 -- ones in the first bytes of a range are what a crash may leave of the write
 pub torn_ones : (at n t k : ℕ) (replaced ones held : List ℕ) → Fits (length held) at n (length replaced) → length ones ≡ t → t ≤ n → k ≡ t
     → Torn at n (undone (Wrote at n replaced) held) (take at held ++ (ones ++ drop k (drop at held)))

@@ -8,7 +8,7 @@ use Rattle.std.proofs.lemmas.Nat.{be_bytes_4, from_be_bytes-to_be_bytes_4}
 use Rattle.fluid_io.specs.Causes.{Tells}
 use Rattle.fluid_disk.specs.Disk.{Stored, StaysAsRead}
 use Rattle.fluid_disk.specs.Records.{IsShort, framed, spelled, gates_from, IsEnd, Finds, IsHeadless, HasHead, IsHead}
-use Rattle.fluid_disk.specs.Files.{OnlyReads, IsWalked, IsAhead}
+use Rattle.fluid_disk.specs.Files.{OnlyReads, IsWalked, IsAhead, ReadsClosed}
 use Rattle.fluid_disk.proofs.Kept.{ordered}
 use Rattle.fluid_disk.proofs.Pieces.{take_add, reads_none, reads_both}
 use Rattle.fluid_disk.proofs.Resting.{short_push}
@@ -39,14 +39,6 @@ head_read (g ∷ a ∷ b ∷ c ∷ d ∷ behind) n long is_open fits is = record
       ∙ ap (λ (l : List ℕ). 1 ∷ (l ++ behind)) (sym (be_bytes_4 (a ∷ b ∷ c ∷ d ∷ []) n refl (four_fit a b c d (fits 1) (fits 2) (fits 3) (fits 4)) is));
 }
 
-pub headless_short : (bytes : List ℕ) → length bytes < 5 → IsHeadless bytes
-headless_short [] short = tt
-headless_short (gate ∷ behind) short = λ is_open four. omega (arith, short, four)
-
-pub headless_shut : (bytes : List ℕ) → get_or bytes 0 0 ≢ 1 → IsHeadless bytes
-headless_shut [] shut = tt
-headless_shut (gate ∷ behind) shut = λ is_open four. shut is_open
-
 -- a piece that is long enough shows the head that stands there
 headless_more : (m : ℕ) (all : List ℕ) → min 5 (length all) ≤ m → IsHeadless (take m all) → IsHeadless all
 headless_more m [] long none = tt
@@ -63,10 +55,6 @@ head_more m all count has = record {
 pub is_head_more : (m : ℕ) (all : List ℕ) (count : Option ℕ) → min 5 (length all) ≤ m → IsHead (take m all) count → IsHead all count
 is_head_more m all None long none = headless_more m all long none
 is_head_more m all (Some count) long has = head_more m all count has
-
-pub head_size : (bytes : List ℕ) (count : Option ℕ) → IsHead bytes count → IfSome count (λ _. 5 ≤ length bytes)
-head_size bytes None none = tt
-head_size bytes (Some count) has = omega (arith, ap length has.splits, length-append (to_be_bytes w32 count) has.behind)
 
 pub head_short : (bytes : List ℕ) (count : Option ℕ) → IsHead bytes count → IfSome count (λ n. n < 2 ^ 32)
 head_short bytes None none = tt
@@ -119,6 +107,18 @@ ahead_quiet start bytes old new same ahead = record {
   within = omega (arith, ahead.within, same.size);
   told = subst (λ (o : Option (List ℕ)). Tells o (λ held. bytes ≡ take (length bytes) (drop start held))) (sym same.bytes) ahead.told;
 }
+
+-- a closed gate that was read
+pub closes : (records : List (List ℕ)) (place start : ℕ) (bytes held rest : List ℕ) → held ≡ spelled records ++ drop place held → bytes ≡ take (length bytes) (drop start held) → start ≤ place
+    → drop (place - start) bytes ≡ 0 ∷ rest → ReadsClosed records held
+closes records place start bytes held rest splits is behind read =
+    let within : place ≤ start + length bytes = omega (arith, ap length read, length-drop (place - start) bytes, behind) in
+    let m = start + length bytes - place in
+    let first : take m (drop place held) ≡ 0 ∷ rest = sym (later_piece start place bytes held is behind within) ∙ read in
+    record {
+      behind = rest ++ drop m (drop place held);
+      splits = splits ∙ ap (λ (l : List ℕ). spelled records ++ l) (sym (take-append-drop m (drop place held)) ∙ ap (λ (l : List ℕ). l ++ drop m (drop place held)) first);
+    }
 
 -- ---- the loop
 

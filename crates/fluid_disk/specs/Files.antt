@@ -1,10 +1,12 @@
 -- What a record file stands for, between two calls and inside one.
-use Rattle.std.specs.Prelude.{◌≡◌, ◌<◌, ◌≤◌, ◌⊎◌, ⊤, ℕ, ◌+◌, List, [], ◌∷◌, ◌++◌, length, take, drop, Some, Result, Ok, Err, refl}
+use Rattle.std.specs.Prelude.{◌≡◌, ◌<◌, ◌≤◌, ◌⊎◌, ⊤, ℕ, ◌+◌, List, [], ◌∷◌, ◌++◌, length, take, drop, Bool, true, Some, Result, Ok, Err, refl}
 use Rattle.std.specs.Coded.{Coded, code_by, coded×, coded_ℕ, coded_list}
 use Rattle.std.specs.List.{AllByRecursion}
 use Rattle.fluid_io.specs.Causes.{Tells}
 use Rattle.fluid_io.specs.declared.faults.Failed.{Failed as Fault}
+use Rattle.fluid_log.specs.Calls.{RoseAt}
 use Rattle.fluid_log.specs.declared.fault.KeeperFault.{KeeperFault}
+use Rattle.fluid_log.specs.declared.fault.KeeperFault.TheVariants.{Failed}
 use Rattle.fluid_disk.specs.contracts.owed.Owed as debt
 use Rattle.fluid_disk.specs.declared.owed.Owed.{Owed}
 use Rattle.fluid_disk.specs.declared.owed.Owed.TheVariants as debts
@@ -99,13 +101,11 @@ abbrev pub AddDoes : {D : Type 0} → (D → Stored) → (D → List ℕ → Typ
 AddDoes seen may_leave records bytes disk gates owed (Ok done) = Stands seen may_leave (settled (records ++ bytes ∷ [])) disk gates owed
 AddDoes seen may_leave records bytes disk gates owed (Err fault) = Stands seen may_leave (appending records bytes) disk gates owed
 
--- a file after an append: one that failed, or found no memory, left the list as it was
+-- a file after an append: one that failed left the list as it was, and one that found no memory changed nothing
 abbrev pub AppendDoes : {D : Type 0} → (D → Stored) → (D → List ℕ → Type 0) → Row → List ℕ → D → List ℕ → Owed → Result (Unit {0}) KeeperFault → Type 0
 AppendDoes seen may_leave row bytes disk gates owed (Ok done) = Stands seen may_leave (settled (row.records ++ bytes ∷ [])) disk gates owed
 AppendDoes seen may_leave row bytes disk gates owed (Err fault) =
-    Stands seen may_leave row disk gates owed
-    ⊎ (Stands seen may_leave (settled row.records) disk gates owed
-    ⊎ Stands seen may_leave (appending row.records bytes) disk gates owed)
+    Stands seen may_leave row disk gates owed ⊎ ((fault ≡ Failed) × Stands seen may_leave (appending row.records bytes) disk gates owed)
 
 -- a settled file after a gate further in front was closed: the records from there on are gone, or aren't and are to be repaired
 abbrev pub DropDoes : {D : Type 0} → (D → Stored) → (D → List ℕ → Type 0) → List (List ℕ) → ℕ → D → List ℕ → Owed → Result (Unit {0}) Fault → Type 0
@@ -147,6 +147,15 @@ pub record IsWalked (records : List (List ℕ)) (gates : List ℕ) (disk : Store
   pub within : length (spelled records) ≤ disk.size
   pub finds : Tells disk.bytes (Finds records)
 
+-- the gate behind the last record reads 0
+pub record ReadsClosed (records : List (List ℕ)) (held : List ℕ) : Type 0 where
+  pub behind : List ℕ
+  pub splits : held ≡ spelled records ++ 0 ∷ behind
+
+-- it does where that is said
+abbrev pub EndsBy : Bool → List (List ℕ) → Stored → Type 0
+EndsBy closed records disk = Tells disk.bytes (λ held. closed ≡ true → ReadsClosed records held)
+
 -- these bytes stand on the disk from this place on
 pub record IsAhead (start : ℕ) (bytes : List ℕ) (disk : Stored) : Type 0 where
   pub within : start + length bytes ≤ disk.size
@@ -155,6 +164,14 @@ pub record IsAhead (start : ℕ) (bytes : List ℕ) (disk : Stored) : Type 0 whe
 -- opening finds in this image what it finds in the bytes that a read gave
 abbrev pub FindsSame : List ℕ → List ℕ → Type 0
 FindsSame held image = (records : List (List ℕ)) → Finds records held → Finds records image
+
+-- the bytes are what they were, or opening finds the same records in both
+abbrev pub FindsAgain : List ℕ → List ℕ → Type 0
+FindsAgain before after = (after ≡ before) ⊎ ((records : List (List ℕ)) × Finds records before × Finds records after)
+
+-- the same of a disk, where it tells its bytes
+abbrev pub StaysFound : Stored → Stored → Type 0
+StaysFound old new = (before after : List ℕ) → old.bytes ≡ Some before → new.bytes ≡ Some after → FindsAgain before after
 
 -- ---- the file itself
 
@@ -183,8 +200,21 @@ CutsRecords seen may_leave row count file result = CutRow seen may_leave row cou
 pub record IsOpened {D : Type 0} (seen : D → Stored) (may_leave : D → List ℕ → Type 0) (old : Stored) (file : Recording D) : Type 0 where
   pub records : List (List ℕ)
   pub stands : StandsFor seen may_leave (settled records) file
+  pub later : old.faults ≤ (seen file.disk).faults
   pub found : (held : List ℕ) → old.bytes ≡ Some held → Finds records held
   pub bytes : (held : List ℕ) → old.bytes ≡ Some held → (seen file.disk).bytes ≡ Some (spelled records ++ 0 ∷ [])
+
+-- A disk came back from an opening that failed: opening finds in it what it would have found, and its count of faults rose, or memory
+-- is wanting.
+pub record IsGivenBack (old new : Stored) (fault : KeeperFault) : Type 0 where
+  pub later : old.faults ≤ new.faults
+  pub cause : RoseAt old.faults new.faults fault
+  pub finds : StaysFound old new
+
+-- a crash at any moment of opening leaves what it might have left before, or an image in which opening finds the same
+abbrev pub LeavesFound : {D : Type 0} → (D → Stored) → (D → List ℕ → Type 0) → (D → ℕ) → (D → ℕ → List ℕ → Type 0) → D → D → Type 0
+LeavesFound seen may_leave moment left_since old new =
+    Tells (seen old).bytes (λ held. LeavesOnly moment left_since old new (λ image. may_leave old image ⊎ FindsSame held image))
 
 -- a crash at any moment of an append leaves the list as it was, or with the record behind it
 abbrev pub OpensAppending : Row → List ℕ → List ℕ → Type 0

@@ -1,9 +1,10 @@
 //! A record file.
-ghost use Rattle.std.specs.Prelude.{◌≡◌, ◌+◌, ◌-◌, ◌*◌, ◌^◌, ◌<◌, ◌≤◌, ◌⊎◌, ℕ, List, length, slice_get, Some, IfOk, IfErr, is_some};
+ghost use Rattle.std.specs.Prelude.{◌≡◌, ◌+◌, ◌-◌, ◌*◌, ◌^◌, ◌<◌, ◌≤◌, ◌⊎◌, ℕ, List, length, slice_get, Some, IfOk, IfErr};
 ghost use Rattle.fluid_io.specs.Causes.{HasCause, Tells};
-ghost use Rattle.fluid_log.specs.Calls.{IsCaused, RoseAt};
+ghost use Rattle.fluid_log.specs.Calls.{IsCaused};
 ghost use Rattle.fluid_disk.specs.Disk.{LeavesOnly};
-ghost use Rattle.fluid_disk.specs.Files.{Row, StandsFor, Opens, OpensAppending, OpensCutting, AppendsRecord, CutsRecords, IsOpened, FindsSame};
+ghost use Rattle.fluid_disk.specs.Records.{Finds};
+ghost use Rattle.fluid_disk.specs.Files.{Row, StandsFor, Opens, OpensAppending, OpensCutting, AppendsRecord, CutsRecords, IsOpened, IsGivenBack, LeavesFound};
 
 use crate::Disk;
 use crate::opening::find;
@@ -42,12 +43,9 @@ impl<D: Disk> RecordFile<D> {
     /// them and nothing else. A crash on the way leaves the same records. A fault gives the disk back.
     pub fn open(alloc: Global, disk: D) -> Result<RecordFile<D>, (D, KeeperFault)>
         ensures opened { IfOk result (IsOpened D.seen D.may_leave (D.seen disk)) }
-        ensures cause { IfErr result (λ back. RoseAt (D.seen disk).faults (D.seen back.0).faults back.1) }
-        ensures finds_err { IfErr result (λ back. (held now : List ℕ) → (D.seen disk).bytes ≡ Some held → (D.seen back.0).bytes ≡ Some now → FindsSame held now) }
-        ensures crash { IfOk result (λ file. Tells (D.seen disk).bytes (λ held.
-            LeavesOnly D.moment D.left_since disk file.disk (λ image. D.may_leave disk image ⊎ FindsSame held image))) }
-        ensures crash_err { IfErr result (λ back. Tells (D.seen disk).bytes (λ held.
-            LeavesOnly D.moment D.left_since disk back.0 (λ image. D.may_leave disk image ⊎ FindsSame held image))) }
+        ensures back { IfErr result (λ back. IsGivenBack (D.seen disk) (D.seen back.0) back.1) }
+        ensures crash { IfOk result (λ file. LeavesFound D.seen D.may_leave D.moment D.left_since disk file.disk) }
+        ensures crash_err { IfErr result (λ back. LeavesFound D.seen D.may_leave D.moment D.left_since disk back.0) }
     {
         let mut disk = disk;
         match find(alloc, &mut disk) {
@@ -131,3 +129,8 @@ impl<D: Disk> RecordFile<D> {
         disk
     }
 }
+
+/// Opening finds one list in the bytes of a disk, and no other. It does nothing else.
+pub fn opening_finds_one_list()
+    ensures { (one other : List (List ℕ)) (bytes : List ℕ) → Finds one bytes → Finds other bytes → one ≡ other }
+{}

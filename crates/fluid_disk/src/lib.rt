@@ -14,5 +14,5 @@ mod reading;
 mod writing;
 
 pub use disk::Disk;
-pub use file::RecordFile;
+pub use file::{RecordFile, opening_finds_one_list};
 pub use memory::MemoryDisk;

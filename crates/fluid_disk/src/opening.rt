@@ -1,15 +1,15 @@
 //! Finding the records of a disk that a crash may have left.
-ghost use Rattle.std.specs.Prelude.{◌≡◌, ◌⊎◌, ◌+◌, ◌-◌, ◌*◌, ◌^◌, ◌<◌, ◌≤◌, ℕ, min, Some, is_some, List, [], ◌∷◌, ◌++◌, length, take, drop, IfOk, IfSome, OnOk};
+ghost use Rattle.std.specs.Prelude.{◌≡◌, ◌⊎◌, ◌+◌, ◌-◌, ◌*◌, ◌^◌, ◌<◌, ◌≤◌, ℕ, min, true, Some, is_some, List, [], ◌∷◌, ◌++◌, length, take, drop, IfOk, IfSome, OnOk};
 ghost use Rattle.fluid_io.specs.Causes.{HasCause};
 ghost use Rattle.fluid_log.specs.Calls.{IsCaused};
 ghost use Rattle.std.specs.List.{AllByRecursion};
 ghost use Rattle.fluid_disk.specs.Disk.{IsDurable, Only, LeavesOnly};
 ghost use Rattle.fluid_disk.specs.Records.{IsShort, spelled, IsHead, Finds};
-ghost use Rattle.fluid_disk.specs.Files.{settled, Stands, OnlyReads, IsWalked, IsAhead, FindsSame};
+ghost use Rattle.fluid_disk.specs.Files.{settled, Stands, OnlyReads, IsWalked, IsAhead, EndsBy, ReadsClosed, FindsSame, StaysFound};
 ghost use Rattle.fluid_disk.specs.declared.owed.Owed.TheVariants as debts;
 
 use crate::Disk;
-use crate::reading::{byte_at, piece};
+use crate::reading::piece;
 use crate::writing::{CLOSED, OPEN, last_gate, put, shorten};
 use fluid_io::Failed;
 use fluid_log::KeeperFault;
@@ -26,21 +26,28 @@ pub fn find<D: Disk>(alloc: Global, disk: &mut D) -> Result<Vec<u64>, KeeperFaul
     ensures cause { IsCaused (D.seen disk.old).faults (D.seen disk.new).faults result }
     ensures stands { IfOk result (λ gates. (records : List (List ℕ)) × Stands D.seen D.may_leave (settled records) disk.new gates.items debts.Nothing
         × ((held : List ℕ) → (D.seen disk.old).bytes ≡ Some held → Finds records held × ((D.seen disk.new).bytes ≡ Some (spelled records ++ 0 ∷ [])))) }
-    ensures finds { (held now : List ℕ) → (D.seen disk.old).bytes ≡ Some held → (D.seen disk.new).bytes ≡ Some now → FindsSame held now }
+    ensures finds { StaysFound (D.seen disk.old) (D.seen disk.new) }
     ensures crash { (held : List ℕ) → (D.seen disk.old).bytes ≡ Some held →
         LeavesOnly D.moment D.left_since disk.old disk.new (λ image. D.may_leave disk.old image ⊎ FindsSame held image) }
 {
     disk.sync()?;
-    let gates = walk(alloc, disk)?;
-    settle(disk, last_gate(&gates))?;
-    Ok(gates)
+    let walked = walk(alloc, disk)?;
+    settle(disk, last_gate(&walked.gates), walked.closed)?;
+    Ok(walked.gates)
 }
 
-// The places of the gates, the last one where no record begins.
-fn walk<D: Disk>(alloc: Global, disk: &mut D) -> Result<Vec<u64>, KeeperFault>
+// The places of the gates, the last one where no record begins, and whether a closed gate was read there.
+#[derive(Drop)]
+struct Walked {
+    gates: Vec<u64>,
+    closed: bool,
+}
+
+// Walks over the records.
+fn walk<D: Disk>(alloc: Global, disk: &mut D) -> Result<Walked, KeeperFault>
     ensures cause { IsCaused (D.seen disk.old).faults (D.seen disk.new).faults result }
     ensures reads { OnlyReads D.seen D.may_leave D.moment D.left_since disk.old disk.new }
-    ensures found { IfOk result (λ gates. (records : List (List ℕ)) × IsWalked records gates.items (D.seen disk.old)) }
+    ensures found { IfOk result (λ walked. (records : List (List ℕ)) × IsWalked records walked.gates.items (D.seen disk.old) × EndsBy walked.closed records (D.seen disk.old)) }
 {
     let size = disk.len();
     let mut gates = vec![in alloc; 0]?;
@@ -52,11 +59,19 @@ fn walk<D: Disk>(alloc: Global, disk: &mut D) -> Result<Vec<u64>, KeeperFault>
     loop {
         let head = ahead.head(alloc, disk, place)?;
         match head {
-            None => return Ok(gates),
+            None => {
+                return Ok(Walked {
+                    gates,
+                    closed: ahead.is_closed(place),
+                });
+            }
             Some(count) => {
                 let behind = place + HEAD;
                 if count as u64 > size - behind {
-                    return Ok(gates);
+                    return Ok(Walked {
+                        gates,
+                        closed: false,
+                    });
                 }
                 place = behind + count as u64;
                 gates.push(place)?;
@@ -127,6 +142,15 @@ impl Ahead {
         }
     }
 
+    // Whether a closed gate stands at this place among what was read.
+    fn is_closed(&self, place: u64) -> bool
+        requires { self.now.start ≤ place }
+        ensures { result ≡ true → (rest : List ℕ) × (drop (place - self.now.start) self.now.bytes.items ≡ 0 ∷ rest) }
+    {
+        let rest = self.rest(place);
+        !rest.is_empty() && rest[0] == CLOSED
+    }
+
     // Lets go of the bytes before this place, and reads the next ones.
     fn read_on<D: Disk>(
         &mut self,
@@ -167,57 +191,57 @@ fn head_of(bytes: &[u8]) -> Option<u32>
     Some(u32::from_be_bytes([bytes[1], bytes[2], bytes[3], bytes[4]]))
 }
 
-// Leaves a closed gate at this place, where no record begins, and nothing behind it. What a read gives is on the disk before.
-fn settle<D: Disk>(disk: &mut D, end: u64) -> Result<(), Failed>
+// Leaves a closed gate at this place, where no record begins, and nothing behind it. Whether one was read there already is said.
+// What a read gives is on the disk before.
+fn settle<D: Disk>(disk: &mut D, end: u64, closed: bool) -> Result<(), Failed>
     requires { end ≤ (D.seen disk.old).size }
     ensures cause { HasCause (D.seen disk.old).faults (D.seen disk.new).faults result }
     ensures told { is_some (D.seen disk.new).bytes ≡ is_some (D.seen disk.old).bytes }
     ensures durable { OnOk result (IsDurable (D.seen disk.new) (D.may_leave disk.new) × (end < (D.seen disk.new).size)) }
     ensures closed { OnOk result ((records : List (List ℕ)) (held : List ℕ) → (D.seen disk.old).bytes ≡ Some held → Finds records held →
-        end ≡ length (spelled records) → (D.seen disk.new).bytes ≡ Some (spelled records ++ 0 ∷ [])) }
+        (closed ≡ true → ReadsClosed records held) → end ≡ length (spelled records) → (D.seen disk.new).bytes ≡ Some (spelled records ++ 0 ∷ [])) }
     ensures crash { (records : List (List ℕ)) (held : List ℕ) → (D.seen disk.old).bytes ≡ Some held → Only held (D.may_leave disk.old) → Finds records held →
         end ≡ length (spelled records) → LeavesOnly D.moment D.left_since disk.old disk.new (Finds records) }
 {
     if end < disk.len() {
-        clear(disk, end)?;
+        clear(disk, end, closed)?;
         return Ok(());
     }
     put(disk, end, &[CLOSED])?;
     Ok(())
 }
 
-// Cuts behind the gate at this place, and closes it. The cut has to be on the disk first: behind a gate that is torn open, what
-// was there would count.
-fn clear<D: Disk>(disk: &mut D, gate: u64) -> Result<(), Failed>
+// Cuts behind the gate at this place, and closes it where it isn't. The cut has to be on the disk first: behind a gate that is
+// torn open, what was there would count.
+fn clear<D: Disk>(disk: &mut D, gate: u64, closed: bool) -> Result<(), Failed>
     requires { gate < (D.seen disk.old).size }
     ensures cause { HasCause (D.seen disk.old).faults (D.seen disk.new).faults result }
     ensures told { is_some (D.seen disk.new).bytes ≡ is_some (D.seen disk.old).bytes }
     ensures durable { OnOk result (IsDurable (D.seen disk.new) (D.may_leave disk.new) × (gate < (D.seen disk.new).size)) }
     ensures closed { OnOk result ((records : List (List ℕ)) (held : List ℕ) → (D.seen disk.old).bytes ≡ Some held → Finds records held →
-        gate ≡ length (spelled records) → (D.seen disk.new).bytes ≡ Some (spelled records ++ 0 ∷ [])) }
+        (closed ≡ true → ReadsClosed records held) → gate ≡ length (spelled records) → (D.seen disk.new).bytes ≡ Some (spelled records ++ 0 ∷ [])) }
     ensures crash { (records : List (List ℕ)) (held : List ℕ) → (D.seen disk.old).bytes ≡ Some held → Only held (D.may_leave disk.old) → Finds records held →
         gate ≡ length (spelled records) → LeavesOnly D.moment D.left_since disk.old disk.new (Finds records) }
 {
     let _size = disk.len();
     shorten(disk, gate + 1)?;
-    shut(disk, gate)?;
+    shut(disk, gate, closed)?;
     Ok(())
 }
 
-// Closes the gate at this place, behind which nothing stands.
-fn shut<D: Disk>(disk: &mut D, gate: u64) -> Result<(), Failed>
+// Closes the gate at this place, behind which nothing stands, where it isn't closed.
+fn shut<D: Disk>(disk: &mut D, gate: u64, closed: bool) -> Result<(), Failed>
     requires place { gate < (D.seen disk.old).size }
     requires durable { IsDurable (D.seen disk.old) (D.may_leave disk.old) }
     ensures cause { HasCause (D.seen disk.old).faults (D.seen disk.new).faults result }
     ensures told { is_some (D.seen disk.new).bytes ≡ is_some (D.seen disk.old).bytes }
     ensures durable { OnOk result (IsDurable (D.seen disk.new) (D.may_leave disk.new) × (gate < (D.seen disk.new).size)) }
     ensures closed { OnOk result ((front : List ℕ) (value : ℕ) → (D.seen disk.old).bytes ≡ Some (front ++ value ∷ []) →
-        gate ≡ length front → (D.seen disk.new).bytes ≡ Some (front ++ 0 ∷ [])) }
+        (closed ≡ true → value ≡ 0) → gate ≡ length front → (D.seen disk.new).bytes ≡ Some (front ++ 0 ∷ [])) }
     ensures crash { (records : List (List ℕ)) (value : ℕ) → (D.seen disk.old).bytes ≡ Some (spelled records ++ value ∷ []) → AllByRecursion IsShort records →
         gate ≡ length (spelled records) → LeavesOnly D.moment D.left_since disk.old disk.new (Finds records) }
 {
-    let value = byte_at(disk, gate)?;
-    if value == CLOSED {
+    if closed {
         return Ok(());
     }
     put(disk, gate, &[CLOSED])?;

@@ -108,7 +108,7 @@ fn add<D: Disk>(
     Ok(())
 }
 
-/// Appends a record to a file, behind what it owes.
+/// Appends a record to a file, behind what it owes. Takes its memory before it calls the disk.
 pub fn append_to<D: Disk>(
     alloc: Global,
     disk: &mut D,
@@ -125,9 +125,9 @@ pub fn append_to<D: Disk>(
         (D.seen disk.old).bytes ≡ Some held →
         LeavesOnly D.moment D.left_since disk.old disk.new (λ image. Keeps row.records row.owing image ⊎ Keeps row.records (Appending bytes.now) image) }
 {
-    repair(disk, gates, owed)?;
     let frame = frame(alloc, bytes)?;
     gates.reserve(1)?;
+    repair(disk, gates, owed)?;
     add(disk, gates, owed, &frame)?;
     Ok(())
 }

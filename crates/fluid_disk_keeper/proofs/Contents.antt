@@ -1,5 +1,5 @@
 -- What a keeper on disks keeps, by the rows of its files.
-use Rattle.std.proofs.Common.{◌≡◌, inl, inr, ℕ, suc, ◌+◌, ◌-◌, ◌<◌, ◌≤◌, List, [], ◌∷◌, ◌++◌, length, get_or, take, drop, refl, sym, ◌∙◌, ap, subst, arith, length-append}
+use Rattle.std.proofs.Common.{◌≡◌, ◌⊎◌, inl, inr, ℕ, suc, ◌+◌, ◌-◌, ◌<◌, ◌≤◌, List, [], ◌∷◌, ◌++◌, length, get_or, take, drop, refl, sym, ◌∙◌, ap, subst, arith, length-append}
 use Rattle.std.specs.Prelude.{Option, Some, None, is_some, Err, slice_get}
 use Rattle.std.specs.Option.{option_map}
 use Rattle.std.proofs.lemmas.Bool.{false≢true}
@@ -9,13 +9,15 @@ use Rattle.fluid_io.specs.declared.faults.Failed.{Failed as Fault}
 use Rattle.fluid_log.specs.declared.fault.KeeperFault.{KeeperFault}
 use Rattle.fluid_log.specs.declared.fault.KeeperFault.TheVariants.{Failed, NoMemory}
 use Rattle.fluid_log.specs.Keeping.{Content}
-use Rattle.fluid_log.specs.Calls.{KeepsSame, with_record, with_delta, with_checkpoint, cut_to, AppendDoes}
-use Rattle.fluid_disk.specs.Disk.{Stored}
+use Rattle.fluid_log.specs.Calls.{RoseAt, KeepsSame, with_record, with_delta, with_checkpoint, cut_to, AppendDoes}
+use Rattle.fluid_disk.specs.Disk.{Stored, LeavesOnly}
 use Rattle.fluid_disk.specs.Records.{spelled, gates_from, gate_before}
-use Rattle.fluid_disk.specs.Files.{Row, Opens, IsOpened, settled, appending, cutting, Recording, StandsFor, AppendsRecord, CutsRecords}
-use Rattle.fluid_disk_keeper.specs.Keepers.{Texts, records_from, records_in, told_records, together, DiskKeeping, kept_on, LeavesAll, FindTheSame}
-use Rattle.fluid_disk.proofs.Endings.{finds_short, finds_same, finds_other}
+use Rattle.fluid_disk.specs.Files.{Row, Opens, IsOpened, settled, appending, cutting, Recording, StandsFor, AppendsRecord, CutsRecords, StaysFound, IsGivenBack, FindsSame, LeavesFound}
+use Rattle.fluid_disk_keeper.specs.Keepers.{Texts, records_from, records_in, told_records, together, DiskKeeping, kept_on, AreOpened, IsLeft, LeavesRow}
+use Rattle.fluid_disk_keeper.specs.declared.keeper.Disks.{Disks}
+use Rattle.fluid_disk.proofs.Endings.{finds_short}
 use Rattle.fluid_disk.proofs.Kept.{there_any}
+use Rattle.fluid_disk.proofs.Moments.{started}
 use Rattle.fluid_disk.proofs.Rows.{length_first, length_gates}
 use Rattle.fluid_disk.proofs.Standing.{tells_at, tells_from, same_told}
 
@@ -148,8 +150,7 @@ module _ {D : Type 0} (seen : D → Stored) (may_leave : D → List ℕ → Type
   left_by_append : (row : Row) (bytes : List ℕ) (file : Recording D) (fault : KeeperFault) → AppendsRecord seen may_leave row bytes file (Err fault)
       → (after : Row) × StandsFor seen may_leave after file × (after.records ≡ row.records)
   left_by_append row bytes file fault (inl s) = (row, s, refl)
-  left_by_append row bytes file fault (inr (inl s)) = (settled row.records, s, refl)
-  left_by_append row bytes file fault (inr (inr s)) = (appending row.records bytes, s, refl)
+  left_by_append row bytes file fault (inr failed) = (appending row.records bytes, failed.1, refl)
 
   left_by_cut : (row : Row) (count : ℕ) (file : Recording D) (fault : Fault) → CutsRecords seen may_leave row count file (Err fault)
       → (after : Row) × StandsFor seen may_leave after file × (after.records ≡ row.records)
@@ -262,13 +263,20 @@ module _ {D : Type 0} (seen : D → Stored) (may_leave : D → List ℕ → Type
     checkpoints = is.count;
   }
 
+  -- ---- the log
+
+  -- what holds of a file's list holds of the log that is told
+  pub log_at : (P : Texts → Type 0) (k : DiskKeeping D) (row : Row) → StandsFor seen may_leave row k.log → Tells (seen k.log.disk).bytes (may_leave k.log.disk)
+      → Tells (seen k.log.disk).bytes (λ _. P row.records) → Tells (kept_on seen k).content (λ c. P c.log)
+  log_at P k row s leaves given =
+      subst (λ (l : Option Texts). Tells (together l (told_records seen k.deltas) (told_records seen k.checkpoints)) (λ c. P c.log)) (sym (told_is row k.log s leaves))
+      (in_log (seen k.log.disk).bytes row.records (told_records seen k.deltas) (told_records seen k.checkpoints) P given)
+
   -- ---- what is given
 
   pub gives_log : (k : DiskKeeping D) (row : Row) (place : ℕ) (bytes : List ℕ) → StandsFor seen may_leave row k.log → Tells (seen k.log.disk).bytes (may_leave k.log.disk)
       → Tells (seen k.log.disk).bytes (λ _. slice_get row.records place ≡ Some bytes) → Tells (kept_on seen k).content (λ c. slice_get c.log place ≡ Some bytes)
-  gives_log k row place bytes s leaves given =
-      subst (λ (l : Option Texts). Tells (together l (told_records seen k.deltas) (told_records seen k.checkpoints)) (λ c. slice_get c.log place ≡ Some bytes)) (sym (told_is row k.log s leaves))
-      (in_log (seen k.log.disk).bytes row.records (told_records seen k.deltas) (told_records seen k.checkpoints) (λ l. slice_get l place ≡ Some bytes) given)
+  gives_log k row place bytes s leaves given = log_at (λ l. slice_get l place ≡ Some bytes) k row s leaves given
 
   pub gives_deltas : (k : DiskKeeping D) (row : Row) (place : ℕ) (bytes : List ℕ) → StandsFor seen may_leave row k.deltas → Tells (seen k.deltas.disk).bytes (may_leave k.deltas.disk)
       → Tells (seen k.deltas.disk).bytes (λ _. slice_get row.records place ≡ Some bytes) → Tells (kept_on seen k).content (λ c. slice_get c.deltas place ≡ Some bytes)
@@ -282,27 +290,56 @@ module _ {D : Type 0} (seen : D → Stored) (may_leave : D → List ℕ → Type
       subst (λ (l : Option Texts). Tells (together (told_records seen k.log) (told_records seen k.deltas) l) (λ c. slice_get c.checkpoints place ≡ Some bytes)) (sym (told_is row k.checkpoints s leaves))
       (in_checkpoints (seen k.checkpoints.disk).bytes row.records (told_records seen k.log) (told_records seen k.deltas) (λ l. slice_get l place ≡ Some bytes) given)
 
-  -- ---- crashes
-
-  pub leaves_log : (k : DiskKeeping D) (row : Row) → StandsFor seen may_leave row k.log → Tells (seen k.log.disk).bytes (may_leave k.log.disk)
-      → Tells (seen k.log.disk).bytes (λ _. (image : List ℕ) → may_leave k.log.disk image → Opens row image)
-      → Tells (kept_on seen k).content (λ c. (image : List ℕ) → may_leave k.log.disk image → LeavesAll c.log image)
-  leaves_log k row s leaves opens =
-      subst (λ (l : Option Texts). Tells (together l (told_records seen k.deltas) (told_records seen k.checkpoints)) (λ c. (image : List ℕ) → may_leave k.log.disk image → LeavesAll c.log image))
-      (sym (told_is row k.log s leaves))
-      (in_log (seen k.log.disk).bytes row.records (told_records seen k.deltas) (told_records seen k.checkpoints)
-      (λ l. (image : List ℕ) → may_leave k.log.disk image → LeavesAll l image)
-      (tells_from (seen k.log.disk).bytes (λ _. (image : List ℕ) → may_leave k.log.disk image → LeavesAll row.records image) (λ held told image now.
-      (row.owing, tells_at (seen k.log.disk).bytes (λ _. (image : List ℕ) → may_leave k.log.disk image → Opens row image) held told opens image now))))
-
   -- ---- opening
 
-  -- opening found what it finds again
-  pub opened_same : (old : Stored) (file : Recording D) → IsOpened seen may_leave old file → FindTheSame old (seen file.disk)
-  opened_same old file o = λ held now told then.
-      let one = o.found held told in
-      let is : now ≡ spelled o.records ++ 0 ∷ [] = same_told (seen file.disk).bytes now (spelled o.records ++ 0 ∷ []) then (o.bytes held told) in
-      finds_other o.records held now one (finds_short o.records now (0 ∷ []) o.stands.short is (omega arith))
+  same_content : (l d c : Option (List ℕ)) (log deltas checkpoints : Texts) → Tells (together (told_as l log) (told_as d deltas) (told_as c checkpoints)) (λ k. (k.log ≡ log) × ((k.deltas ≡ deltas) × (k.checkpoints ≡ checkpoints)))
+  same_content None d c log deltas checkpoints = tt
+  same_content (Some l) None c log deltas checkpoints = tt
+  same_content (Some l) (Some d) None log deltas checkpoints = tt
+  same_content (Some l) (Some d) (Some c) log deltas checkpoints = (refl, (refl, refl))
 
-pub untouched : (disk : Stored) → FindTheSame disk disk
-untouched disk = λ held now told then. finds_same held now (same_told disk.bytes held now told then)
+  pub opened : (disks : Disks D) (k : DiskKeeping D) → IsOpened seen may_leave (seen disks.log) k.log → IsOpened seen may_leave (seen disks.deltas) k.deltas → IsOpened seen may_leave (seen disks.checkpoints) k.checkpoints
+      → ((disk : D) → Tells (seen disk).bytes (may_leave disk)) → k.faults ≡ 0 → k.reads ≡ 0 → AreOpened seen may_leave disks k
+  opened disks k l d c leaves faults reads = record {
+    log_is = l;
+    deltas_are = d;
+    checkpoints_are = c;
+    content =
+        rw (told_is (settled l.records) k.log l.stands (leaves k.log.disk), told_is (settled d.records) k.deltas d.stands (leaves k.deltas.disk), told_is (settled c.records) k.checkpoints c.stands (leaves k.checkpoints.disk))
+        (same_content (seen k.log.disk).bytes (seen k.deltas.disk).bytes (seen k.checkpoints.disk).bytes l.records d.records c.records);
+    no_faults = faults;
+    no_reads = reads;
+  }
+
+  -- opening found what it finds again
+  opened_same : (old : Stored) (file : Recording D) → IsOpened seen may_leave old file → StaysFound old (seen file.disk)
+  opened_same old file o = λ before after told then.
+      let is : after ≡ spelled o.records ++ 0 ∷ [] = same_told (seen file.disk).bytes after (spelled o.records ++ 0 ∷ []) then (o.bytes before told) in
+      inr (o.records, o.found before told, finds_short o.records after (0 ∷ []) o.stands.short is (omega arith))
+
+  -- a file that was opened and closed
+  pub left_opened : (old new : D) (file : Recording D) → new ≡ file.disk → IsOpened seen may_leave (seen old) file → IsLeft (seen old) (seen new)
+  left_opened old new file same o = rw same (record { later = o.later; finds = opened_same (seen old) file o })
+
+  -- a disk that wasn't touched
+  pub untouched : (old new : D) → new ≡ old → IsLeft (seen old) (seen new)
+  untouched old new same = rw same (record { later = omega arith; finds = λ before after told then. inl (same_told (seen old).bytes after before then told) })
+
+  -- a disk that was given back
+  pub given_back : (old back new : D) (fault : KeeperFault) → new ≡ back → IsGivenBack (seen old) (seen back) fault → IsLeft (seen old) (seen new)
+  given_back old back new fault same b = rw same (record { later = b.later; finds = b.finds })
+
+  -- a file that was closed
+  pub closed_row : (file : Recording D) (disk : D) → disk ≡ file.disk → LeavesRow seen may_leave file file.disk → LeavesRow seen may_leave file disk
+  closed_row file disk same leaves = subst (λ (d : D). LeavesRow seen may_leave file d) (sym same) leaves
+
+  pub rose_back : (old back new : D) (fault : KeeperFault) → new ≡ back → IsGivenBack (seen old) (seen back) fault → RoseAt (seen old).faults (seen new).faults fault
+  rose_back old back new fault same b = rw same b.cause
+
+  module _ (moment : D → ℕ) (left_since : D → ℕ → List ℕ → Type 0) where
+    pub quiet : (old new : D) → new ≡ old → ((image : List ℕ) → left_since old (moment old) image → may_leave old image) → LeavesFound seen may_leave moment left_since old new
+    quiet old new same here = rw same (tells_from (seen old).bytes (λ held. LeavesOnly moment left_since old old (λ image. may_leave old image ⊎ FindsSame held image)) (λ held told.
+        started moment left_since old (λ image. may_leave old image ⊎ FindsSame held image) (λ image left. inl (here image left))))
+
+    pub left_found : (old mid new : D) → new ≡ mid → LeavesFound seen may_leave moment left_since old mid → LeavesFound seen may_leave moment left_since old new
+    left_found old mid new same found = rw same found

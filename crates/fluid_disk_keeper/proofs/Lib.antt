@@ -1,1 +1,2 @@
-mod Contents
+pub mod Contents
+mod Whole

@@ -1,7 +1,8 @@
 -- What holds of every run.
-use Rattle.std.proofs.Common.{◌≡◌, ℕ, zero, suc, ◌+◌, ◌<◌, ◌≤◌, ◌==◌, Bool, true, false, not, ◌&&◌, if◌then◌else◌, List, [], ◌∷◌, ◌++◌, length, filter, find, Option, Some, None, is_some, option_map, refl, sym, ◌∙◌, ap, subst, bytes_eq, arith, IfSome, inl, inr, ◌⊎◌, length-append, append_assoc, append-nil}
+use Rattle.std.proofs.Common.{◌≡◌, ℕ, zero, suc, ◌+◌, ◌<◌, ◌≤◌, ◌==◌, Bool, true, false, not, ◌&&◌, if◌then◌else◌, List, [], ◌∷◌, ◌++◌, length, filter, find, get_or, Option, Some, None, is_some, option_map, refl, sym, ◌∙◌, ap, subst, bytes_eq, arith, IfSome, inl, inr, ◌⊎◌, length-append, append_assoc, append-nil}
 use Rattle.std.specs.List.{list_any, range_with_len, filter_map, cons_option, AllByRecursion}
 use Rattle.std.proofs.lemmas.Bool.{eqb-true, eq-eqb, and_parts, and_from, or_cases, or_left, or_right, or_parts, false_from_ne_true, cases_lt}
+use Rattle.fluid_json.specs.Tree.{Tree, null}
 use Rattle.fluid_types.specs.declared.entries.Raw.TheVariants.{Join, Leave, Submit, Report}
 use Rattle.fluid_types.specs.declared.entries.Offered.{Offered}
 use Rattle.fluid_types.specs.declared.entries.Offered.TheVariants as offered
@@ -11,14 +12,14 @@ use Rattle.fluid_types.specs.declared.verdicts.Verdict.TheVariants.{Sequenced, N
 use Rattle.fluid_types.specs.Ledger.{Ledger, messages_of, order}
 use Rattle.fluid_types.proofs.Ledgers.{order-push}
 use Rattle.fluid_rules.specs.Past.{Entry, joins, has_id}
-use Rattle.fluid_rules.specs.Rules.{IsLegal, verdict, kind_of}
+use Rattle.fluid_rules.specs.Rules.{IsLegal, verdict, kind_of, message, unsettled}
 use Rattle.fluid_rules.proofs.Ids.{same_id, own_id}
 use Rattle.fluid_rules.proofs.Verdicts.{verdict-is_message}
 use Rattle.fluid_rules.proofs.Legal.{legal-induction}
 use Rattle.fluid_outbox.specs.declared.line.Line.{Line}
 use Rattle.fluid_outbox.specs.Past.{Given, Pushed, Joined, Gave, Heard, Lost, Past, edits, ids, messages, current, given, is_sent, was_given, sent, has_left, acknowledges, acknowledged, first_waiting, waits, next, leaves, of_op, op_of, is_text}
 use Rattle.fluid_outbox.specs.Kept.{past_of, AnOutbox, IsLine, IsAlone, Stands, empty, id_of, with_edit, with_id, with_sent, after_lost, after_heard}
-use Rattle.fluid_outbox.specs.Runs.{AreMade, SomeOf, IsGiven, IsOwn, AreBehind, edit_under, edit_of, standing, first, IsExactlyOnce, EachOnce}
+use Rattle.fluid_outbox.specs.Runs.{AreMade, SomeOf, IsGiven, IsOwn, AreBehind, edit_under, edit_of, standing, HasContents, first, IsExactlyOnce, EachOnce}
 use Rattle.fluid_outbox.proofs.Tests.{no_test, in_turn-true}
 use Rattle.fluid_outbox.proofs.Stands.{none_current, is_awaited_from, current_known, stands_none, stands_pushed, stands_joined, stands_lost}
 use Rattle.fluid_outbox.proofs.Sending.{some_is, any_more, any_own, next_is, has_line, stands_gave}
@@ -122,6 +123,12 @@ each_below : (start count size : ℕ) → start ≤ size → AllByRecursion (λ 
 each_below start zero size within each = omega (arith, within)
 each_below start (suc count) size within each = omega (arith, each_below (start + 1) count size (omega (arith, each.0)) each.1)
 
+-- the front of two lists
+get_or-front : {X : Type 0} (xs ys : List X) (n : ℕ) (none : X) → n < length xs → get_or (xs ++ ys) n none ≡ get_or xs n none
+get_or-front [] ys n none within = absurd (omega (arith, within))
+get_or-front (x ∷ xs) ys zero none within = refl
+get_or-front (x ∷ xs) ys (suc n) none within = get_or-front xs ys n none (omega (arith, within))
+
 -- ---- what `next` gave
 
 next_below : (past : Past) (reference : ℕ) (g : Given) → next past reference ≡ Some g → g.edit < length (edits past)
@@ -144,6 +151,29 @@ given_below (Gave g ∷ past) made = (next_below past made.0.0 g made.0.1, given
 given_below (Heard m ∷ past) made = given_below past made.1
 given_below (Lost ∷ past) made = given_below past made
 
+-- an edit that was given stands among these, with these contents
+record IsFrom (contents : List Tree) (g : Given) : Type 0 where
+  below : g.edit < length contents
+  contents_are : g.submission.contents ≡ get_or contents g.edit null
+
+from_more : (contents : List Tree) (more : Tree) (g : Given) → IsFrom contents g → IsFrom (contents ++ more ∷ []) g
+from_more contents more g is = record {
+  below = omega (arith, is.below, length-append contents (more ∷ []));
+  contents_are = is.contents_are ∙ sym (get_or-front contents (more ∷ []) g.edit null is.below);
+}
+
+given_from : (past : Past) → AreMade past → AllByRecursion (IsFrom (edits past)) (given past)
+unfolding edits given
+given_from [] made = tt
+given_from (Pushed contents ∷ past) made =
+    each_weaker (IsFrom (edits past)) (IsFrom (edits past ++ contents ∷ [])) (given past) (from_more (edits past) contents) (given_from past made)
+given_from (Joined id ∷ past) made = given_from past made.1.1
+given_from (Gave g ∷ past) made =
+    let contents_are = ap (λ (s : Submission). s.contents) (next_is past made.0.0 g made.0.1).submission in
+    (record { below = next_below past made.0.0 g made.0.1; contents_are = contents_are }, given_from past made.1)
+given_from (Heard m ∷ past) made = given_from past made.1
+given_from (Lost ∷ past) made = given_from past made
+
 -- only ops are given
 abbrev AreOps : List Given → Type 0
 AreOps gs = AllByRecursion (λ (g : Given). g.submission.kind ≡ offered.Op) gs
@@ -163,13 +193,31 @@ some_op [] id s ops some = absurd some
 some_op (g ∷ gs) id s ops (inl here) = ap (λ (s : Submission). s.kind) (sym here.submission_is) ∙ ops.0
 some_op (g ∷ gs) id s ops (inr later) = some_op gs id s ops.1 later
 
-some_sent : (gs : List Given) (id : List ℕ) (s : Submission) → SomeOf (IsGiven id s) gs → list_any (is_sent id s.client_number) gs ≡ true
-some_sent [] id s some = absurd some
-some_sent (g ∷ gs) id s (inl here) =
-    or_left (is_sent id s.client_number g) (list_any (is_sent id s.client_number) gs)
-    (and_from (bytes_eq g.id id) _ (ap (λ x. bytes_eq x id) here.id_is ∙ own_id id)
-    (eq-eqb g.submission.client_number s.client_number (ap (λ (s : Submission). s.client_number) here.submission_is)))
-some_sent (g ∷ gs) id s (inr later) = or_right (is_sent id s.client_number g) (list_any (is_sent id s.client_number) gs) (some_sent gs id s later)
+-- which edit a submission brings that was given
+record BringsEdit (contents : List Tree) (gs : List Given) (id : List ℕ) (s : Submission) : Type 0 where
+  edit : ℕ
+  was : list_any (λ given. is_sent id s.client_number given && (given.edit == edit)) gs ≡ true
+  contents_are : s.contents ≡ get_or contents edit null
+
+some_brings : (contents : List Tree) (gs : List Given) (id : List ℕ) (s : Submission) → AllByRecursion (IsFrom contents) gs → SomeOf (IsGiven id s) gs → BringsEdit contents gs id s
+some_brings contents [] id s from some = absurd some
+some_brings contents (g ∷ gs) id s from (inl here) =
+    let ids_are : bytes_eq g.id id ≡ true = ap (λ x. bytes_eq x id) here.id_is ∙ own_id id in
+    let number : (g.submission.client_number == s.client_number) ≡ true = eq-eqb g.submission.client_number s.client_number (ap (λ (s : Submission). s.client_number) here.submission_is) in
+    let sent : is_sent id s.client_number g ≡ true = and_from (bytes_eq g.id id) _ ids_are number in
+    record {
+      edit = g.edit;
+      was = or_left (is_sent id s.client_number g && (g.edit == g.edit)) (list_any (λ given. is_sent id s.client_number given && (given.edit == g.edit)) gs)
+          (and_from (is_sent id s.client_number g) _ sent (eq-eqb g.edit g.edit refl));
+      contents_are = ap (λ (s : Submission). s.contents) (sym here.submission_is) ∙ from.0.contents_are;
+    }
+some_brings contents (g ∷ gs) id s from (inr later) =
+    let found = some_brings contents gs id s from.1 later in
+    record {
+      edit = found.edit;
+      was = or_right (is_sent id s.client_number g && (g.edit == found.edit)) (list_any (λ given. is_sent id s.client_number given && (given.edit == found.edit)) gs) found.was;
+      contents_are = found.contents_are;
+    }
 
 -- numbers are those of edits that were sent, and each is that of one edit
 number_within : (past : Past) (id : List ℕ) (n e : ℕ) → AreMade past → was_given past id n e ≡ true → n ≤ sent past id
@@ -307,9 +355,10 @@ only_ops all c l made known own = each_weaker (IsOwn all) (OnlyOps c) l at own
     at (Submit id s moment, v) is = λ own. some_op (given all) id s (given_ops all made) (is (ap (λ x. has_id x (ids all)) (same_id id c own) ∙ known))
     at (Report summary found moment, v) is = tt
 
--- an op under one of its ids is one that was sent
+-- an op under one of its ids is one that was sent, with the contents of its edit
 abbrev IsBrought : Past → Message → Type 0
-IsBrought all m = (id : List ℕ) (n : ℕ) → op_of m ≡ Some (id, n) → has_id id (ids all) ≡ true → list_any (is_sent id n) (given all) ≡ true
+IsBrought all m =
+    (id : List ℕ) (n : ℕ) → op_of m ≡ Some (id, n) → has_id id (ids all) ≡ true → (e : ℕ) × ((was_given all id n e ≡ true) × (m.contents ≡ get_or (edits all) e null))
 
 no_op_brought : (all : Past) (m : Message) → ((c : List ℕ) → under c (op_of m) ≡ None) → IsBrought all m
 no_op_brought all m none id n is known =
@@ -318,40 +367,51 @@ no_op_brought all m none id n is known =
     own : under id (Some (id, n)) ≡ Some n
     own = rw (own_id id) refl
 
-submit_brought : (all : Past) (id : List ℕ) (s : Submission) (m : Message) → op_of m ≡ of_op {A = List ℕ × ℕ} (kind_of s.kind) (Some (id, s.client_number)) →
-    (has_id id (ids all) ≡ true → SomeOf (IsGiven id s) (given all)) → IsBrought all m
-submit_brought all id s m op own x n is known = at s.kind (sym op ∙ is)
+submit_contents : (l : Ledger) (id : List ℕ) (s : Submission) (moment : ℕ) (m : Message) → message l (Submit id s moment) ≡ Some m → m.contents ≡ s.contents
+unfolding message unsettled
+submit_contents l id s moment m is = rw (sym (some_is _ m is)) refl
+
+was_moved : (all : Past) (id x : List ℕ) (k n edit : ℕ) → id ≡ x → k ≡ n → was_given all id k edit ≡ true → was_given all x n edit ≡ true
+was_moved all id x k n edit ids numbers is = sym (ap (λ y. was_given all y k edit) ids ∙ ap (λ m. was_given all x m edit) numbers) ∙ is
+
+submit_brought : (all : Past) (id : List ℕ) (s : Submission) (m : Message) → AreMade all → op_of m ≡ of_op {A = List ℕ × ℕ} (kind_of s.kind) (Some (id, s.client_number)) →
+    m.contents ≡ s.contents → (has_id id (ids all) ≡ true → SomeOf (IsGiven id s) (given all)) → IsBrought all m
+unfolding was_given
+submit_brought all id s m made op contents own x n is known = at s.kind (sym op ∙ is)
   where
-    at : (offer : Offered) → of_op {A = List ℕ × ℕ} (kind_of offer) (Some (id, s.client_number)) ≡ Some (x, n) → list_any (is_sent x n) (given all) ≡ true
+    at : (offer : Offered) → of_op {A = List ℕ × ℕ} (kind_of offer) (Some (id, s.client_number)) ≡ Some (x, n) → (e : ℕ) × ((was_given all x n e ≡ true) × (m.contents ≡ get_or (edits all) e null))
     at offered.Op same =
         let pair = some_is (id, s.client_number) (x, n) same in
         let id_is : id ≡ x = ap (λ (p : List ℕ × ℕ). p.0) pair in
         let n_is : s.client_number ≡ n = ap (λ (p : List ℕ × ℕ). p.1) pair in
-        rw (← id_is, ← n_is) (some_sent (given all) id s (own (ap (λ y. has_id y (ids all)) id_is ∙ known)))
+        let found = some_brings (edits all) (given all) id s (given_from all made) (own (ap (λ y. has_id y (ids all)) id_is ∙ known)) in
+        (found.edit, (was_moved all id x s.client_number n found.edit id_is n_is found.was, contents ∙ found.contents_are))
     at offered.Noop same = absurd (cc)
     at offered.Propose same = absurd (cc)
     at offered.Reject same = absurd (cc)
     at offered.Summarize same = absurd (cc)
 
-entry_brought : (all : Past) (l : Ledger) (entry : Entry) → entry.1 ≡ verdict l entry.0 → IsOwn all entry → AllByRecursion (IsBrought all) (messages_of entry.1)
-entry_brought all l (Join id scopes detail moment, Sequenced m) is own =
+entry_brought : (all : Past) (l : Ledger) (entry : Entry) → AreMade all → entry.1 ≡ verdict l entry.0 → IsOwn all entry → AllByRecursion (IsBrought all) (messages_of entry.1)
+entry_brought all l (Join id scopes detail moment, Sequenced m) made is own =
     (no_op_brought all m (λ c. (joining_silent c l id scopes detail moment m (verdict-is_message l _ m (sym is))).no_op), tt)
-entry_brought all l (Leave id moment, Sequenced m) is own = (no_op_brought all m (λ c. leaving_op c l id moment m (verdict-is_message l _ m (sym is))), tt)
-entry_brought all l (Submit id s moment, Sequenced m) is own = (submit_brought all id s m (submit_op l id s moment m (verdict-is_message l _ m (sym is))) own, tt)
-entry_brought all l (Report summary found moment, Sequenced m) is own =
+entry_brought all l (Leave id moment, Sequenced m) made is own = (no_op_brought all m (λ c. leaving_op c l id moment m (verdict-is_message l _ m (sym is))), tt)
+entry_brought all l (Submit id s moment, Sequenced m) made is own =
+    let it = verdict-is_message l (Submit id s moment) m (sym is) in
+    (submit_brought all id s m made (submit_op l id s moment m it) (submit_contents l id s moment m it) own, tt)
+entry_brought all l (Report summary found moment, Sequenced m) made is own =
     (no_op_brought all m (λ c. (reporting_silent c l summary found moment m (verdict-is_message l _ m (sym is))).no_op), tt)
-entry_brought all l (raw, Nacked n) is own = tt
-entry_brought all l (raw, Dropped) is own = tt
-entry_brought all l (raw, Absorbed) is own = tt
+entry_brought all l (raw, Nacked n) made is own = tt
+entry_brought all l (raw, Dropped) made is own = tt
+entry_brought all l (raw, Absorbed) made is own = tt
 
-all_brought : (all : Past) (l : Ledger) → IsLegal l → AllByRecursion (IsOwn all) l → AllByRecursion (IsBrought all) (order l)
+all_brought : (all : Past) (l : Ledger) → AreMade all → IsLegal l → AllByRecursion (IsOwn all) l → AllByRecursion (IsBrought all) (order l)
 unfolding order
-all_brought all l legal own =
+all_brought all l made legal own =
     legal-induction (λ l. AllByRecursion (IsOwn all) l → AllByRecursion (IsBrought all) (order l)) begin
     (λ l entry legal before is own.
     let parts = each-append (IsOwn all) l (entry ∷ []) own in
     subst (AllByRecursion (IsBrought all)) (sym (order-push l entry))
-    (each_both (IsBrought all) (order l) (messages_of entry.1) (before parts.0) (entry_brought all l entry is parts.1.0)))
+    (each_both (IsBrought all) (order l) (messages_of entry.1) (before parts.0) (entry_brought all l entry made is parts.1.0)))
     l legal own
   where
     begin : AllByRecursion (IsOwn all) [] → AllByRecursion (IsBrought all) (order [])
@@ -735,7 +795,7 @@ module _ (all : Past) (l : Ledger) (made_all : AreMade all) (legal : IsLegal l) 
     at_last = holds all all_part
 
     rest_brought : AllByRecursion (IsBrought all) rest
-    rest_brought = (each-append (IsBrought all) (messages all) rest (subst (AllByRecursion (IsBrought all)) heard (all_brought all l legal own))).1
+    rest_brought = (each-append (IsBrought all) (messages all) rest (subst (AllByRecursion (IsBrought all)) heard (all_brought all l made_all legal own))).1
 
     -- an op there is under an id whose leave wasn't heard
     abbrev AreOpen : List Message → Type 0
@@ -797,13 +857,13 @@ module _ (all : Past) (l : Ledger) (made_all : AreMade all) (legal : IsLegal l) 
         by_known : (id : List ℕ) (n : ℕ) (known : Bool) → op_of m ≡ Some (id, n) → has_id id (ids all) ≡ known → Known m
         by_known id n false op unknown = inl (ap (edit_under (given all)) op ∙ edit_none all id n (stranger id n unknown))
         by_known id n true op known =
-            let it = sent_edit all id n (brought id n op known) in
+            let it = brought id n op known in
             let own : under id (op_of m) ≡ Some n = ap (under id) op ∙ rw (own_id id) refl in
             let not_left : has_left all id ≡ false = false_from_ne_true _ (λ left.
             let none = open_ id known left in
             let no : n ∷ numbers id ms ≡ [] = rw own at none in
             cc) in
-            inr (id, (n, record { op = op; edit = it.0; given = it.1; open_ = not_left }))
+            inr (id, (n, record { op = op; edit = it.0; given = it.1.0; open_ = not_left }))
 
         by_op : (op : Option (List ℕ × ℕ)) → op_of m ≡ op → Known m
         by_op None is = inl (ap (edit_under (given all)) is)
@@ -852,8 +912,8 @@ module _ (all : Past) (l : Ledger) (made_all : AreMade all) (legal : IsLegal l) 
           by_own id n true op own =
               let same : id ≡ f = same_id id f own in
               let op_f : op_of m ≡ Some (f, n) = op ∙ ap (λ x. Some (x, n)) same in
-              let it = sent_edit all f n (brought f n op_f known_f) in
-              absurd (let no : None ≡ Some it.0 = sym none ∙ ap (edit_under (given all)) op_f ∙ edit_found all f n it.0 made_all it.1 in cc)
+              let it = brought f n op_f known_f in
+              absurd (let no : None ≡ Some it.0 = sym none ∙ ap (edit_under (given all)) op_f ∙ edit_found all f n it.0 made_all it.1.0 in cc)
 
           by_op : (op : Option (List ℕ × ℕ)) → op_of m ≡ op → Brings f m
           by_op None is = inl (none, ap (under f) is)
@@ -901,6 +961,23 @@ module _ (all : Past) (l : Ledger) (made_all : AreMade all) (legal : IsLegal l) 
         at None later is = rw is later
         at (Some e) later is = rw is (edit_below m e (op_of m) is, later)
 
+    -- a message that brings an edit has its contents
+    own_contents : (m : Message) → IsBrought all m → HasContents all m
+    own_contents m brought e is = by_op (op_of m) refl
+      where
+        by_known : (id : List ℕ) (n : ℕ) (known : Bool) → op_of m ≡ Some (id, n) → has_id id (ids all) ≡ known → m.contents ≡ get_or (edits all) e null
+        by_known id n false op unknown =
+            let none : edit_of all m ≡ None = ap (edit_under (given all)) op ∙ edit_none all id n (stranger id n unknown) in
+            absurd (let no : None ≡ Some e = sym none ∙ is in cc)
+        by_known id n true op known =
+            let it = brought id n op known in
+            let same : Some it.0 ≡ Some e = sym (ap (edit_under (given all)) op ∙ edit_found all id n it.0 made_all it.1.0) ∙ is in
+            it.1.1 ∙ ap (λ e. get_or (edits all) e null) (some_is it.0 e same)
+
+        by_op : (op : Option (List ℕ × ℕ)) → op_of m ≡ op → m.contents ≡ get_or (edits all) e null
+        by_op None op = absurd (let no : None ≡ Some e = sym (ap (edit_under (given all)) op) ∙ is in cc)
+        by_op (Some (id, n)) op = by_known id n (has_id id (ids all)) op refl
+
     exactly_once : IsExactlyOnce all (order l) (acknowledged all)
     exactly_once =
         let more = behind_them in
@@ -913,6 +990,7 @@ module _ (all : Past) (l : Ledger) (made_all : AreMade all) (legal : IsLegal l) 
               ∙ ap (λ (es : List ℕ). first (acknowledged all) ++ es) more.1
               ∙ ap (λ n. first (acknowledged all) ++ range_with_len n more.0) (from_zero (acknowledged all))
               ∙ range-append 0 (acknowledged all) more.0;
+          with_contents = each_weaker (IsBrought all) (HasContents all) (order l) own_contents (all_brought all l made_all legal own);
           acknowledged_stand = at_last.counted;
           counted_among = omega arith;
           are_edits =

@@ -1,16 +1,16 @@
 -- Runs worked out: what is acknowledged, what waits and what may be sent behind each call.
-use Rattle.std.specs.Prelude.{◌≡◌, ℕ, pos, negsuc, true, false, List, [], ◌∷◌, ◌++◌, codes, reverse, Option, Some, None}
+use Rattle.std.specs.Prelude.{◌≡◌, ℕ, pos, negsuc, Bool, true, false, List, [], ◌∷◌, ◌++◌, codes, reverse, take, Option, Some, None, option_map}
 use Rattle.fluid_json.specs.Tree.{Tree, null, whole, text}
 use Rattle.fluid_json.specs.Printed.{printed}
 use Rattle.fluid_types.specs.declared.messages.Kind.{Kind}
 use Rattle.fluid_types.specs.declared.messages.Kind.TheVariants.{Op, Join, Leave}
-use Rattle.fluid_outbox.specs.Past.{Call, Pushed, Joined, Gave, Heard, Lost, Past, messages, acknowledged, first_waiting, may_send, op_with}
+use Rattle.fluid_outbox.specs.Past.{Given, Call, Pushed, Joined, Gave, Heard, Lost, Past, messages, acknowledged, first_waiting, may_send, next, op_with}
 use Rattle.fluid_outbox.specs.Runs.{standing}
 
--- what is said behind each call, oldest first
-abbrev pub behind_each : {A : Type 0} → (Past → A) → Past → List A
-behind_each say [] = []
-behind_each say (call ∷ past) = behind_each say past ++ say (call ∷ past) ∷ []
+-- what is said behind each of these calls, made behind a past
+abbrev pub behind_each : {A : Type 0} → (Past → A) → Past → List Call → List A
+behind_each say past [] = []
+behind_each say past (call ∷ calls) = say (call ∷ past) ∷ behind_each say (call ∷ past) calls
 
 -- an edit with this number was given under this id
 abbrev pub gave : List ℕ → (edit number reference : ℕ) → Tree → Call
@@ -47,7 +47,94 @@ a = codes "c0"
 abbrev pub b : List ℕ
 b = codes "c4"
 
--- three edits: the first two are sent under one id, whose connection is lost before they are heard. They stand all the same, so the third
+abbrev pub c : List ℕ
+c = codes "c8"
+
+-- ---- three edits, and a loss at each point
+
+abbrev pub ten : Tree
+ten = whole (pos 10)
+
+abbrev pub eleven : Tree
+eleven = whole (pos 11)
+
+abbrev pub twelve : Tree
+twelve = whole (pos 12)
+
+-- the client number and the contents of what `next` gives
+abbrev pub next_of : Past → Option (ℕ × Tree)
+next_of past = option_map (λ (given : Given). (given.submission.client_number, given.submission.contents)) (next past 7)
+
+-- behind each of these calls: how many edits are acknowledged, whether an edit may be sent, and what `next` gives
+pub record IsTold (past : Past) (calls : List Call) (counts : List ℕ) (sends : List Bool) (nexts : List (Option (ℕ × Tree))) : Type 0 where
+  pub acknowledged_are : behind_each acknowledged past calls ≡ counts
+  pub may_send_are : behind_each may_send past calls ≡ sends
+  pub next_are : behind_each next_of past calls ≡ nexts
+
+abbrev pub begun : List Call
+begun = Pushed ten ∷ Pushed eleven ∷ Pushed twelve ∷ Joined a ∷ []
+
+abbrev pub sent_and_heard : List Call
+sent_and_heard = gave a 0 1 7 ten ∷ gave a 1 2 7 eleven ∷ gave a 2 3 7 twelve ∷ op a 1 1 ∷ op a 2 2 ∷ op a 3 3 ∷ []
+
+-- the connection is lost behind so many of these, and then comes the rest. All three edits stand at the end, each once
+pub record IsLostBehind (count : ℕ) (rest : List Call) (counts : List ℕ) (sends : List Bool) (nexts : List (Option (ℕ × Tree))) : Type 0 where
+  pub told : IsTold (reverse (begun ++ take count sent_and_heard)) rest counts sends nexts
+  pub stand : standing (reverse (begun ++ take count sent_and_heard ++ rest)) (messages (reverse (begun ++ take count sent_and_heard ++ rest))) ≡ 0 ∷ 1 ∷ 2 ∷ []
+
+pub record Losses : Type 0 where
+  pub never :
+      IsTold [] (begun ++ sent_and_heard)
+      (0 ∷ 0 ∷ 0 ∷ 0 ∷ 0 ∷ 0 ∷ 0 ∷ 1 ∷ 2 ∷ 3 ∷ [])
+      (false ∷ false ∷ false ∷ true ∷ true ∷ true ∷ true ∷ true ∷ true ∷ true ∷ [])
+      (None ∷ None ∷ None ∷ Some (1, ten) ∷ Some (2, eleven) ∷ Some (3, twelve) ∷ None ∷ None ∷ None ∷ None ∷ [])
+  -- nothing was sent: no leave is awaited
+  pub before_sending :
+      IsLostBehind 0 (Lost ∷ Joined b ∷ gave b 0 1 7 ten ∷ leave a 1 ∷ gave b 1 2 7 eleven ∷ gave b 2 3 7 twelve ∷ op b 1 2 ∷ op b 2 3 ∷ op b 3 4 ∷ [])
+      (0 ∷ 0 ∷ 0 ∷ 0 ∷ 0 ∷ 0 ∷ 1 ∷ 2 ∷ 3 ∷ [])
+      (false ∷ true ∷ true ∷ true ∷ true ∷ true ∷ true ∷ true ∷ true ∷ [])
+      (None ∷ Some (1, ten) ∷ Some (2, eleven) ∷ Some (2, eleven) ∷ Some (3, twelve) ∷ None ∷ None ∷ None ∷ None ∷ [])
+  -- one was sent, and it doesn't stand when the leave comes
+  pub behind_the_first :
+      IsLostBehind 1 (Lost ∷ Joined b ∷ leave a 1 ∷ gave b 0 1 7 ten ∷ gave b 1 2 7 eleven ∷ gave b 2 3 7 twelve ∷ op b 1 2 ∷ op b 2 3 ∷ op b 3 4 ∷ [])
+      (0 ∷ 0 ∷ 0 ∷ 0 ∷ 0 ∷ 0 ∷ 1 ∷ 2 ∷ 3 ∷ [])
+      (false ∷ false ∷ true ∷ true ∷ true ∷ true ∷ true ∷ true ∷ true ∷ [])
+      (None ∷ None ∷ Some (1, ten) ∷ Some (2, eleven) ∷ Some (3, twelve) ∷ None ∷ None ∷ None ∷ None ∷ [])
+  -- two were sent, and the first stands all the same
+  pub behind_the_second :
+      IsLostBehind 2 (Lost ∷ op a 1 1 ∷ Joined b ∷ leave a 2 ∷ gave b 1 1 7 eleven ∷ gave b 2 2 7 twelve ∷ op b 1 3 ∷ op b 2 4 ∷ [])
+      (0 ∷ 1 ∷ 1 ∷ 1 ∷ 1 ∷ 1 ∷ 2 ∷ 3 ∷ [])
+      (false ∷ false ∷ false ∷ true ∷ true ∷ true ∷ true ∷ true ∷ [])
+      (None ∷ None ∷ None ∷ Some (1, eleven) ∷ Some (2, twelve) ∷ None ∷ None ∷ None ∷ [])
+  -- all were sent, and all stand before the leave
+  pub behind_the_third :
+      IsLostBehind 3 (Lost ∷ Joined b ∷ op a 1 1 ∷ op a 2 2 ∷ op a 3 3 ∷ leave a 4 ∷ [])
+      (0 ∷ 0 ∷ 1 ∷ 2 ∷ 3 ∷ 3 ∷ [])
+      (false ∷ false ∷ false ∷ false ∷ false ∷ true ∷ [])
+      (None ∷ None ∷ None ∷ None ∷ None ∷ None ∷ [])
+  -- all were sent and one was heard; of the two that are sent again one stands when the next id is lost too
+  pub behind_hearing_one :
+      IsLostBehind 4
+      (Lost ∷ Joined b ∷ leave a 2 ∷ gave b 1 1 7 eleven ∷ gave b 2 2 7 twelve ∷ op b 1 3 ∷ Lost ∷ leave b 4 ∷ Joined c ∷ gave c 2 1 7 twelve ∷ op c 1 5 ∷ [])
+      (1 ∷ 1 ∷ 1 ∷ 1 ∷ 1 ∷ 2 ∷ 2 ∷ 2 ∷ 2 ∷ 2 ∷ 3 ∷ [])
+      (false ∷ false ∷ true ∷ true ∷ true ∷ true ∷ false ∷ false ∷ true ∷ true ∷ true ∷ [])
+      (None ∷ None ∷ Some (1, eleven) ∷ Some (2, twelve) ∷ None ∷ None ∷ None ∷ None ∷ Some (1, twelve) ∷ None ∷ None ∷ [])
+  -- two were heard
+  pub behind_hearing_two :
+      IsLostBehind 5 (Lost ∷ Joined b ∷ leave a 3 ∷ gave b 2 1 7 twelve ∷ op b 1 4 ∷ [])
+      (2 ∷ 2 ∷ 2 ∷ 2 ∷ 3 ∷ [])
+      (false ∷ false ∷ true ∷ true ∷ true ∷ [])
+      (None ∷ None ∷ Some (1, twelve) ∷ None ∷ None ∷ [])
+  -- all were heard: the leave is awaited all the same
+  pub behind_hearing_three :
+      IsLostBehind 6 (Lost ∷ Joined b ∷ leave a 4 ∷ [])
+      (3 ∷ 3 ∷ 3 ∷ [])
+      (false ∷ false ∷ true ∷ [])
+      (None ∷ None ∷ None ∷ [])
+
+-- ---- two runs more
+
+-- the first two of three edits are sent under one id, whose connection is lost before they are heard. They stand all the same, so the third
 -- alone is sent under the next id
 abbrev pub lost_behind_sending : List Call
 lost_behind_sending =
@@ -55,39 +142,17 @@ lost_behind_sending =
     ∷ op a 1 2 ∷ op a 2 3 ∷ leave a 4 ∷ join 5 ∷ Joined b ∷ gave b 2 1 5 (whole (pos 7)) ∷ op b 1 6 ∷ []
 
 pub record LostBehindSending : Type 0 where
-  pub acknowledged_are : behind_each acknowledged (reverse lost_behind_sending) ≡ 0 ∷ 0 ∷ 0 ∷ 0 ∷ 0 ∷ 0 ∷ 0 ∷ 0 ∷ 1 ∷ 2 ∷ 2 ∷ 2 ∷ 2 ∷ 2 ∷ 3 ∷ []
-  pub waiting_are : behind_each first_waiting (reverse lost_behind_sending)
+  pub acknowledged_are : behind_each acknowledged [] lost_behind_sending ≡ 0 ∷ 0 ∷ 0 ∷ 0 ∷ 0 ∷ 0 ∷ 0 ∷ 0 ∷ 1 ∷ 2 ∷ 2 ∷ 2 ∷ 2 ∷ 2 ∷ 3 ∷ []
+  pub waiting_are : behind_each first_waiting [] lost_behind_sending
       ≡ None ∷ None ∷ Some 0 ∷ None ∷ Some 1 ∷ None ∷ None ∷ Some 2 ∷ Some 2 ∷ Some 2 ∷ Some 2 ∷ Some 2 ∷ Some 2 ∷ None ∷ None ∷ []
-  pub may_send_are : behind_each may_send (reverse lost_behind_sending)
+  pub may_send_are : behind_each may_send [] lost_behind_sending
       ≡ true ∷ true ∷ true ∷ true ∷ true ∷ true ∷ false ∷ false ∷ false ∷ false ∷ false ∷ false ∷ true ∷ true ∷ true ∷ []
   pub stand : standing (reverse lost_behind_sending) (messages (reverse lost_behind_sending)) ≡ 0 ∷ 1 ∷ 2 ∷ []
 
--- two edits are sent under one id, and the second doesn't stand when its leave comes: it is sent again under the next id, which was joined
--- before that leave was heard
-abbrev pub lost_between : List Call
-lost_between =
-    Joined a ∷ Pushed (whole (pos 1)) ∷ Pushed (whole (pos 5)) ∷ gave a 0 1 1 (whole (pos 1)) ∷ gave a 1 2 1 (whole (pos 5)) ∷ op a 1 1 ∷ Lost ∷ Joined b ∷ leave a 2
-    ∷ gave b 1 1 2 (whole (pos 5)) ∷ op b 1 3 ∷ []
-
-pub record LostBetween : Type 0 where
-  pub acknowledged_are : behind_each acknowledged (reverse lost_between) ≡ 0 ∷ 0 ∷ 0 ∷ 0 ∷ 0 ∷ 1 ∷ 1 ∷ 1 ∷ 1 ∷ 1 ∷ 2 ∷ []
-  pub waiting_are : behind_each first_waiting (reverse lost_between) ≡ None ∷ Some 0 ∷ Some 0 ∷ Some 1 ∷ None ∷ None ∷ None ∷ None ∷ Some 1 ∷ None ∷ None ∷ []
-  pub may_send_are : behind_each may_send (reverse lost_between) ≡ true ∷ true ∷ true ∷ true ∷ true ∷ true ∷ false ∷ false ∷ true ∷ true ∷ true ∷ []
-  pub stand : standing (reverse lost_between) (messages (reverse lost_between)) ≡ 0 ∷ 1 ∷ []
-
--- nothing was sent when the connection was lost: nothing is awaited
-abbrev pub lost_before : List Call
-lost_before = Joined a ∷ Pushed (whole (pos 1)) ∷ Lost ∷ Joined b ∷ gave b 0 1 1 (whole (pos 1)) ∷ leave a 1 ∷ op b 1 2 ∷ []
-
-pub record LostBefore : Type 0 where
-  pub acknowledged_are : behind_each acknowledged (reverse lost_before) ≡ 0 ∷ 0 ∷ 0 ∷ 0 ∷ 0 ∷ 0 ∷ 1 ∷ []
-  pub waiting_are : behind_each first_waiting (reverse lost_before) ≡ None ∷ Some 0 ∷ Some 0 ∷ Some 0 ∷ None ∷ None ∷ None ∷ []
-  pub may_send_are : behind_each may_send (reverse lost_before) ≡ true ∷ true ∷ false ∷ true ∷ true ∷ true ∷ true ∷ []
-
 -- the leave comes before the loss: what was sent waits again at the loss, and not before
 abbrev pub left_before_loss : List Call
-left_before_loss = Joined a ∷ Pushed (whole (pos 1)) ∷ gave a 0 1 1 (whole (pos 1)) ∷ leave a 1 ∷ Lost ∷ Joined b ∷ []
+left_before_loss = Joined a ∷ Pushed ten ∷ gave a 0 1 1 ten ∷ leave a 1 ∷ Lost ∷ Joined b ∷ []
 
 pub record LeftBeforeLoss : Type 0 where
-  pub waiting_are : behind_each first_waiting (reverse left_before_loss) ≡ None ∷ Some 0 ∷ None ∷ None ∷ Some 0 ∷ Some 0 ∷ []
-  pub may_send_are : behind_each may_send (reverse left_before_loss) ≡ true ∷ true ∷ true ∷ true ∷ false ∷ true ∷ []
+  pub waiting_are : behind_each first_waiting [] left_before_loss ≡ None ∷ Some 0 ∷ None ∷ None ∷ Some 0 ∷ Some 0 ∷ []
+  pub may_send_are : behind_each may_send [] left_before_loss ≡ true ∷ true ∷ true ∷ true ∷ false ∷ true ∷ []

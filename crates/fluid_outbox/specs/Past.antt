@@ -154,7 +154,8 @@ may_send past = is_some (current past) && not (awaits past)
 -- ---- which edits are acknowledged, and which wait
 
 -- an op acknowledges the first edit that isn't acknowledged yet, where this was sent with its id and number, and no leave of
--- the id was heard before. In a legal order each op under an id of the outbox's is one of these
+-- the id was heard before. In a run each op under an id of the outbox's is one of these, and so acknowledges the edit that was sent with its
+-- id and number. Off a run an op out of turn, or behind the leave of its id, acknowledges nothing, and its edit waits for the leave
 abbrev pub acknowledges : Past → (first : ℕ) → Option (List ℕ × ℕ) → Bool
 acknowledges past first None = false
 acknowledges past first (Some (id, number)) = was_given past id number first && not (has_left past id)

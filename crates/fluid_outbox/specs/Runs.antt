@@ -1,6 +1,7 @@
 -- Runs: calls on an outbox beside a legal ledger, and what holds of every run.
-use Rattle.std.specs.Prelude.{◌≡◌, ◌≤◌, ◌⊎◌, ℕ, ◌+◌, true, false, List, [], ◌∷◌, ◌++◌, length, find, Option, Some, None, option_map, filter_map}
+use Rattle.std.specs.Prelude.{◌≡◌, ◌≤◌, ◌⊎◌, ℕ, ◌+◌, true, false, List, [], ◌∷◌, ◌++◌, length, find, get_or, Option, Some, None, option_map, filter_map}
 use Rattle.std.specs.List.{list_any, range_with_len, AllByRecursion}
+use Rattle.fluid_json.specs.Tree.{null}
 use Rattle.fluid_types.specs.declared.entries.Raw.TheVariants.{Join, Leave, Submit, Report}
 use Rattle.fluid_types.specs.declared.entries.Submission.{Submission}
 use Rattle.fluid_types.specs.declared.messages.Message.{Message}
@@ -82,6 +83,10 @@ edit_of past message = edit_under (given past) (op_of message)
 abbrev pub standing : Past → List Message → List ℕ
 standing past messages = filter_map (edit_of past) messages
 
+-- a message that brings an edit has the contents that were pushed as this one
+abbrev pub HasContents : Past → Message → Type 0
+HasContents past message = (edit : ℕ) → edit_of past message ≡ Some edit → message.contents ≡ get_or (edits past) edit null
+
 -- the numbers below this one, in order, each once
 abbrev pub first : ℕ → List ℕ
 first n = range_with_len 0 n
@@ -91,6 +96,7 @@ pub record IsExactlyOnce (past : Past) (order : List Message) (counted : ℕ) : 
   pub standing_edits : ℕ
   -- the edits that stand in the order are the first ones, in the order of their numbers, each once: no edit stands twice
   pub once_in_order : standing past order ≡ first standing_edits
+  pub with_contents : AllByRecursion (HasContents past) order
   -- those that are counted acknowledged stand, and are the first ones: those that stand in what was heard
   pub acknowledged_stand : standing past (messages past) ≡ first counted
   pub counted_among : counted ≤ standing_edits

@@ -1,19 +1,14 @@
 // Runs worked out from the definitions. Each is the contract of a function that does nothing.
-ghost use Rattle.fluid_outbox.specs.Examples.{LostBehindSending, LostBetween, LostBefore, LeftBeforeLoss};
+ghost use Rattle.fluid_outbox.specs.Examples.{Losses, LostBehindSending, LeftBeforeLoss};
+
+/// Three edits, with a loss at each point of sending and hearing them.
+pub fn losses()
+    ensures { Losses }
+{}
 
 /// Three edits, of which two were sent under an id whose connection is lost.
 pub fn lost_behind_sending()
     ensures { LostBehindSending }
-{}
-
-/// Two edits were sent, and one of them stands when the leave comes.
-pub fn lost_between()
-    ensures { LostBetween }
-{}
-
-/// Nothing was sent when the connection was lost.
-pub fn lost_before()
-    ensures { LostBefore }
 {}
 
 /// The leave is heard before the connection is lost.

@@ -48,6 +48,7 @@ impl Outbox {
     pub fn push(&mut self, contents: Json) -> Result<u64, NoMemory>
         ensures number { (calls : List Call) → StandsFor self.old calls → IfOk result (λ number. number ≡ length (edits (past_of calls))) }
         ensures stands { (calls : List Call) → StandsFor self.old calls → OnOk result (StandsFor self.new (calls ++ Pushed contents ∷ [])) }
+        ensures kept { OnOk result (self.new ≡ with_edit self.old contents) }
         ensures unchanged { OnErr result (self.new ≡ self.old) }
     {
         self.add(contents)
@@ -59,6 +60,7 @@ impl Outbox {
         ensures answer { result ≡ Ok tt }
         ensures stands { (calls : List Call) → StandsFor self.old calls → has_id id (ids (past_of calls)) ≡ false →
             StandsFor self.new (calls ++ Joined id ∷ []) }
+        ensures kept { self.new ≡ with_id self.old id }
     {
         self.begin(id);
         Ok(())
@@ -84,6 +86,8 @@ impl Outbox {
             IfOk result (λ submission. submission ≡ option_map (λ given. given.submission) (next (past_of calls) reference)) }
         ensures stands { (calls : List Call) (given : Given) → StandsFor self.old calls → next (past_of calls) reference ≡ Some given →
             OnOk result (StandsFor self.new (calls ++ Gave given ∷ [])) }
+        ensures gives { IfOk result (λ submission. submission ≡ to_send self.old reference) }
+        ensures kept { IfOk result (λ submission. self.new ≡ (if is_some submission then with_sent self.old else self.old)) }
         ensures none { IfOk result (λ submission. submission ≡ None → self.new ≡ self.old) }
         ensures unchanged { OnErr result (self.new ≡ self.old) }
     {
@@ -106,11 +110,13 @@ impl Outbox {
     }
 
     /// Takes in the next message of the order. An op under an id of the outbox's acknowledges the edit that was sent with this id and
-    /// number. A leave of the id that is awaited lets what was sent under it and isn't acknowledged wait again. It takes a comparison
-    /// with the current id and with the one that is awaited, and no memory.
+    /// number, where this is the first that isn't acknowledged and no leave of the id was heard: in a run it always is, and off one
+    /// another op changes nothing. A leave of the id that is awaited lets what was sent under it and isn't acknowledged wait again.
+    /// It takes a comparison with the current id and with the one that is awaited, and no memory.
     pub fn heard(&mut self, message: &Message)
         requires { message.now.number ≡ self.old.heard_to + 1 }
-        ensures { (calls : List Call) → StandsFor self.old calls → StandsFor self.new (calls ++ Heard message.now ∷ []) }
+        ensures stands { (calls : List Call) → StandsFor self.old calls → StandsFor self.new (calls ++ Heard message.now ∷ []) }
+        ensures kept { self.new ≡ after_heard self.old message.now }
     {
         self.hear(message);
     }
@@ -118,7 +124,8 @@ impl Outbox {
     /// Ends the current id, where there is one: its connection is lost, or a submission under it was refused. Where no leave is
     /// awaited then, what was sent under it and isn't acknowledged waits again. Takes no memory.
     pub fn lost(&mut self)
-        ensures { (calls : List Call) → StandsFor self.old calls → StandsFor self.new (calls ++ Lost ∷ []) }
+        ensures stands { (calls : List Call) → StandsFor self.old calls → StandsFor self.new (calls ++ Lost ∷ []) }
+        ensures kept { self.new ≡ after_lost self.old }
     {
         self.end();
     }

@@ -7,7 +7,8 @@
 //     noop ID N   the next message is a noop of it
 //     leave ID    the next message is the leave of this client
 //     lost        the current id ends
-//     got         how many edits are acknowledged, a blank, and whether an edit may be sent
+//
+// Behind each stands how many edits are acknowledged, and whether an edit may be sent.
 use fluid_json::{Json, LARGEST, Text};
 use fluid_outbox::Outbox;
 use fluid_types::{ClientId, Kind, Message, Offered, Submission};
@@ -16,14 +17,30 @@ use std::process::Abort;
 
 const REFERENCE: u64 = 7;
 
-/// Plays lines on a new outbox, and compares the answer of each.
-pub(crate) fn play(rt: &impl Abort, alloc: Global, lines: &[(&str, &str)]) {
+/// A call, its answer, and what holds behind it.
+pub(crate) type Row = (&'static str, &'static str, &'static str);
+
+/// Plays lines on a new outbox, and compares what is told of each.
+pub(crate) fn play(rt: &impl Abort, alloc: Global, rows: &[Row]) {
     let mut outbox = Outbox::new(alloc);
-    for (line, wanted) in lines {
-        let told = told(rt, alloc, &mut outbox, line);
-        assert!(rt; told.as_str() == *wanted, "at {line}");
-    }
+    play_on(rt, alloc, &mut outbox, rows);
     drop(outbox);
+}
+
+/// Plays lines on an outbox.
+pub(crate) fn play_on(rt: &impl Abort, alloc: Global, outbox: &mut Outbox, rows: &[Row]) {
+    for (line, answer, state) in rows {
+        let told = told(rt, alloc, outbox, line);
+        assert!(rt; told.as_str() == *answer, "the answer to {line}");
+        let told = state_of(rt, alloc, outbox);
+        assert!(rt; told.as_str() == *state, "the state behind {line}");
+    }
+}
+
+fn state_of(rt: &impl Abort, alloc: Global, outbox: &Outbox) -> Text {
+    let acknowledged = outbox.acknowledged();
+    let may_send = outbox.may_send();
+    Text::new(format!(in alloc; "{acknowledged} {may_send}").expect(rt, "memory"))
 }
 
 fn told(rt: &impl Abort, alloc: Global, outbox: &mut Outbox, line: &str) -> Text {
@@ -43,11 +60,6 @@ fn asked(rt: &impl Abort, alloc: Global, outbox: &mut Outbox, line: &str) -> Tex
         "lost" => {
             outbox.lost();
             copied(rt, alloc, "")
-        }
-        "got" => {
-            let acknowledged = outbox.acknowledged();
-            let may_send = outbox.may_send();
-            Text::new(format!(in alloc; "{acknowledged} {may_send}").expect(rt, "memory"))
         }
         _ => copied(rt, alloc, "no such line"),
     }

@@ -24,7 +24,7 @@ returns-clause-crash g c records held told only finds place =
     (c.put.ensures.crash held told only)
 
 pub returns-clause-closed : goal.returns-clause-closed
-returns-clause-closed g c records held told finds place =
+returns-clause-closed g c records held told finds closed place =
     let size = tells_at (g.D.Disk.seen c.args.disk.now).bytes (λ b. (g.D.Disk.seen c.args.disk.now).size ≡ length b) held told (g.met.D.Disk.sized c.args.disk.now) in
     let nothing : length finds.end ≤ 1 = omega (arith, size, ap length finds.splits, length-append (spelled records) finds.end, place, c.if-end-len.false, c.len.ensures) in
     mapped_at (overwritten c.args.end (0 ∷ [])) (g.D.Disk.seen c.args.disk.now).bytes (g.D.Disk.seen c.put.new.disk).bytes held c.in_ok-put.ensures.does.bytes told

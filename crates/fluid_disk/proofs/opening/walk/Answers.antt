@@ -1,8 +1,11 @@
-use Rattle.std.proofs.Common.{◌≡◌, ◌+◌, ◌<◌, ◌≤◌, ℕ, List, drop, subst, ◌∙◌, arith}
+use Rattle.std.proofs.Common.{◌≡◌, ◌+◌, ◌<◌, ◌≤◌, ℕ, Bool, true, false, List, length, take, drop, subst, ◌∙◌, arith}
 use Rattle.std.specs.Prelude.{Option, Some, IfSome, ◌^◌}
+use Rattle.std.proofs.lemmas.Bool.{false≢true}
+use Rattle.fluid_disk.specs.Files.{ReadsClosed}
 use Rattle.fluid_disk.specs.Records.{IsHead, IsHeadless, HasHead}
+use Rattle.fluid_disk.proofs.Standing.{tells_at, tells_from}
 use Rattle.fluid_disk.proofs.Pieces.{reads_both, reads_none}
-use Rattle.fluid_disk.proofs.Walks.{walking_on_first, walking_on_more, walked_headless, walked_long}
+use Rattle.fluid_disk.proofs.Walks.{walking_on_first, walking_on_more, walked_headless, walked_long, closes}
 use Rattle.fluid_disk.proofs.opening.walk.Goals as goal
 
 pub loop-ahead-init : goal.loop-ahead-init
@@ -31,7 +34,13 @@ returns-in-None-clause-found g c =
     let place = c.loop-ahead.place in
     let none : (held : List ℕ) → (g.D.Disk.seen c.args.disk.now).bytes ≡ Some held → IsHeadless (drop place held) =
     λ held told. subst (λ (o : Option ℕ). IsHead (drop place held) o) c.in-None.is (c.in_ok-head.ensures.head held (so_far.reads.same.bytes ∙ told)) in
-    (so_far.records, walked_headless so_far.records c.loop-ahead.gates.items place (g.D.Disk.seen c.args.disk.now) so_far.walking none)
+    let ahead = c.in_ok-head.ensures.ahead in
+    let ends = tells_from (g.D.Disk.seen c.args.disk.now).bytes (λ held. c.is_closed.result ≡ true → ReadsClosed so_far.records held) (λ held told is.
+    let rest = c.is_closed.ensures is in
+    let now = c.head.ensures.reads.same.bytes ∙ so_far.reads.same.bytes ∙ told in
+    let piece = tells_at (g.D.Disk.seen c.head.new.disk).bytes (λ b. c.head.new.self.bytes.items ≡ take (length c.head.new.self.bytes.items) (drop c.head.new.self.start b)) held now ahead.0.told in
+    closes so_far.records place c.head.new.self.start c.head.new.self.bytes.items held rest.0 (so_far.walking.splits held told) piece ahead.1 rest.1) in
+    (so_far.records, walked_headless so_far.records c.loop-ahead.gates.items place (g.D.Disk.seen c.args.disk.now) so_far.walking none, ends)
 
 pub returns-in-None-clause-reads : goal.returns-in-None-clause-reads
 returns-in-None-clause-reads g c =
@@ -46,7 +55,8 @@ returns-then-count-size-clause-found g c =
     λ held told. subst (λ (o : Option ℕ). IsHead (drop place held) o) c.in-Some.is (c.in_ok-head.ensures.head held (so_far.reads.same.bytes ∙ told)) in
     let stands : place + 5 ≤ (g.D.Disk.seen c.loop-ahead.disk).size = subst (λ (o : Option ℕ). IfSome o (λ _. place + 5 ≤ (g.D.Disk.seen c.loop-ahead.disk).size)) c.in-Some.is c.in_ok-head.ensures.stands in
     let long : (g.D.Disk.seen c.args.disk.now).size < place + 5 + count = omega (arith, c.if-count-size.true, stands, c.len-size.ensures, so_far.reads.same.size) in
-    (so_far.records, walked_long so_far.records c.loop-ahead.gates.items place count (g.D.Disk.seen c.args.disk.now) so_far.walking (g.met.D.Disk.sized c.args.disk.now) head long)
+    let ends = tells_from (g.D.Disk.seen c.args.disk.now).bytes (λ held. false ≡ true → ReadsClosed so_far.records held) (λ held told is. absurd (false≢true is)) in
+    (so_far.records, walked_long so_far.records c.loop-ahead.gates.items place count (g.D.Disk.seen c.args.disk.now) so_far.walking (g.met.D.Disk.sized c.args.disk.now) head long, ends)
 
 pub returns-then-count-size-clause-reads : goal.returns-then-count-size-clause-reads
 returns-then-count-size-clause-reads g c =

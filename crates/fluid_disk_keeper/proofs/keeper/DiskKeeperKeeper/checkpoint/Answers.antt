@@ -27,3 +27,15 @@ returns-in-Err-clause-same g c =
     let told = g.met.D.Disk.told new.disk ∙ sym (g.met.D.Disk.told old.disk) in
     let is = stayed g.D.Disk.seen g.D.Disk.may_leave w.0 w.0 old new w.1 (c.read.ensures.same w.0 w.1) (g.met.D.Disk.leaves_read old.disk) (g.met.D.Disk.leaves_read new.disk) told refl in
     rw (← c.self.view_is) (checkpoints_same g.D.Disk.seen g.D.Disk.may_leave (record { log = c.self.inside.log; deltas = c.self.inside.deltas; checkpoints = c.self.inside.checkpoints; faults = c.self.inside.faults; reads = c.self.inside.reads }) new _ _ is)
+
+pub returns-in-Ok-clause-file : goal.returns-in-Ok-clause-file
+returns-in-Ok-clause-file g c = rw (← c.self.view_is) (record { cause = c.in-Ok.ensures.cause; same = c.read.ensures.same; crash = c.read.ensures.crash })
+
+pub returns-in-Ok-clause-others : goal.returns-in-Ok-clause-others
+returns-in-Ok-clause-others g c = rw (← c.self.view_is) (refl, refl)
+
+pub returns-in-Err-clause-file : goal.returns-in-Err-clause-file
+returns-in-Err-clause-file g c = rw (← c.self.view_is) (record { cause = c.in-Err.ensures.cause; same = c.read.ensures.same; crash = c.read.ensures.crash })
+
+pub returns-in-Err-clause-others : goal.returns-in-Err-clause-others
+returns-in-Err-clause-others g c = rw (← c.self.view_is) (refl, refl)

@@ -5,7 +5,7 @@ use Rattle.fluid_outbox.proofs.Stands.{stands_lost}
 use Rattle.fluid_outbox.proofs.Calls.{stands_with}
 use Rattle.fluid_outbox.proofs.outbox.Outbox.lost.Goals as goal
 
-pub returns : goal.returns
-returns c = λ calls stands.
+pub returns-clause-stands : goal.returns-clause-stands
+returns-clause-stands c = λ calls stands.
     subst (λ (o : AnOutbox). StandsFor o (calls ++ Lost ∷ [])) (sym c.end.ensures)
     (stands_with (after_lost c.args.self.now) calls Lost (stands_lost c.args.self.now (past_of calls) stands))
