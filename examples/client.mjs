@@ -21,6 +21,7 @@ const CHANNELS = [{ type: "attach", address: "board", kind: "map" }, { type: "at
 let socket, id = null, last, reach, isReady = false; // of the line: its client, the last number sent, what lies before its feed
 let number = 0, newest = null;                       // the last message that was taken
 let edits = CHANNELS.map((body) => ({ body, id: null })); // what didn't come back yet, with the id and number it went under
+let under = null;                                    // the last id under which an edit was sent, until its leave is heard
 const held = new Map();                              // messages that came ahead of their turn
 
 const say = (...event) => { if (socket.readyState === 1) socket.send(JSON.stringify(event)); };
@@ -30,11 +31,11 @@ function submit(type, contents) {
   say("submitOp", id, [{ clientSequenceNumber: ++last, contents, referenceSequenceNumber: number, type }]);
 }
 
-/** Sends what waits, but nothing while an edit of an earlier line may still come. */
+/** Sends what waits, but no edit before the leave of an earlier id under which one was sent. */
 function sendWaiting() {
-  if (id === null || !isReady || edits.some((edit) => edit.id !== null && edit.id !== id)) return;
+  if (id === null || !isReady || (under !== null && under !== id)) return;
   for (const edit of edits.filter((it) => it.id === null)) {
-    [edit.id, edit.number] = [id, last + 1];
+    [under, edit.id, edit.number] = [id, id, last + 1];
     submit("op", edit.body);
   }
 }
@@ -47,6 +48,7 @@ function take(message) {
   if (type !== "leave") return;
   const left = JSON.parse(data); // what didn't come before its line's leave never comes, and has to be sent again
   for (const edit of edits) if (edit.id === left) edit.id = null;
+  if (under === left) under = null;
   if (id === left) end();
 }
 
@@ -68,7 +70,7 @@ function hear([event, ...rest]) {
   }
   if (isOther) {
     console.log("-- another order stands here: the service began anew, and so do I");
-    number = 0;
+    [number, under] = [0, null];
     edits = [...CHANNELS, ...edits.map((edit) => edit.body)].map((body) => ({ body, id: null }));
   }
   for (const message of messages) held.set(message.sequenceNumber, message);

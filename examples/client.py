@@ -15,6 +15,7 @@ CHANNELS = [{"type": "attach", "address": "board", "kind": "map"}, {"type": "att
 class Client:
     def __init__(self, document):
         self.edits = [[body, None] for body in CHANNELS]  # what didn't come back yet: the body, the id and number it went under
+        self.under = None  # the last id under which an edit was sent, until its leave is heard
         self.document, self.id, self.is_ready, self.held, self.number, self.newest = document, None, False, {}, 0, None
 
     async def hear(self, event, *rest):
@@ -31,7 +32,7 @@ class Client:
             return
         if is_other:
             print("-- another order stands here: the service began anew, and so do I", flush=True)
-            self.number, self.edits = 0, [[body, None] for body in CHANNELS + [body for body, _ in self.edits]]
+            self.number, self.under, self.edits = 0, None, [[body, None] for body in CHANNELS + [body for body, _ in self.edits]]
         self.held.update((message["sequenceNumber"], message) for message in messages)
         while message := self.held.pop(self.number + 1, None):
             self.take(message)
@@ -48,7 +49,7 @@ class Client:
         if message["type"] == "leave":  # what didn't come before its line's leave never comes, and has to be sent again
             left = json.loads(message["data"])
             self.edits = [[body, None if sent and sent[0] == left else sent] for body, sent in self.edits]
-            self.id = None if left == self.id else self.id
+            self.id, self.under = (None if left == own else own for own in (self.id, self.under))
 
     async def say(self, *event):
         with contextlib.suppress(websockets.ConnectionClosed):  # who reads learns it too
@@ -59,10 +60,10 @@ class Client:
         await self.say("submitOp", self.id, [{"clientSequenceNumber": self.last, "contents": body,
                                               "referenceSequenceNumber": self.number, "type": kind}])
 
-    async def send_waiting(self):  # nothing while an edit of an earlier line may still come
-        if self.id and self.is_ready and all(not sent or sent[0] == self.id for _, sent in self.edits):
-            for edit in [edit for edit in self.edits if not edit[1]]:
-                edit[1] = (self.id, self.last + 1)
+    async def send_waiting(self):  # no edit before the leave of an earlier id under which one was sent
+        for edit in [edit for edit in self.edits if not edit[1]]:
+            if self.id and self.is_ready and self.under in (None, self.id) and not edit[1]:
+                edit[1], self.under = (self.id, self.last + 1), self.id
                 await self.submit("op", edit[0])
 
     async def stay(self, url):
