@@ -1,5 +1,5 @@
-// What a waiter of the turn does before it sleeps, beside what it costs to wake one: microseconds of `looks` looks at two words that
-// another thread keeps changing, and of one hand-over between two threads that sleep on a futex (std's park), the least of some rounds.
+// How long a waiter of the turn looks before it sleeps, beside how long it takes to wake one: nanoseconds of `looks` looks at two words
+// that another thread keeps changing, the least of some rounds, and from the call that wakes a thread (std's park) until that runs.
 use std::hint::spin_loop;
 use std::sync::atomic::{AtomicBool, AtomicU64, Ordering};
 use std::sync::Arc;
@@ -41,33 +41,34 @@ fn looks(count: u64) -> Duration {
     least
 }
 
+/// From the call that wakes a thread, which slept a tenth of a millisecond, until it runs: the middle one of some.
 fn wake() -> Duration {
-    let mut least = Duration::MAX;
-    for _ in 0..ROUNDS {
-        let ball = Arc::new(AtomicU64::new(0));
-        let theirs = ball.clone();
-        let first = thread::current();
-        let other = thread::spawn(move || {
-            for hit in 0..u64::from(TIMES) {
-                while theirs.load(Ordering::SeqCst) != 2 * hit + 1 {
-                    thread::park();
-                }
-                theirs.fetch_add(1, Ordering::SeqCst);
-                first.unpark();
-            }
-        });
-        let began = Instant::now();
-        for hit in 0..u64::from(TIMES) {
-            ball.fetch_add(1, Ordering::SeqCst);
-            other.thread().unpark();
-            while ball.load(Ordering::SeqCst) != 2 * hit + 2 {
+    let start = Instant::now();
+    let sent = Arc::new(AtomicU64::new(0));
+    let theirs = sent.clone();
+    let sleeper = thread::spawn(move || {
+        let mut times = Vec::new();
+        for _ in 0..TIMES {
+            while theirs.load(Ordering::SeqCst) == 0 {
                 thread::park();
             }
+            times.push(start.elapsed() - Duration::from_nanos(theirs.swap(0, Ordering::SeqCst)));
         }
-        least = least.min(began.elapsed() / (2 * TIMES));
-        other.join().unwrap();
+        times.sort();
+        times[times.len() / 2]
+    });
+    for _ in 0..TIMES {
+        while sent.load(Ordering::SeqCst) != 0 {
+            spin_loop();
+        }
+        let began = Instant::now();
+        while began.elapsed() < Duration::from_micros(100) {
+            spin_loop();
+        }
+        sent.store(start.elapsed().as_nanos() as u64, Ordering::SeqCst);
+        sleeper.thread().unpark();
     }
-    least
+    sleeper.join().unwrap()
 }
 
 fn main() {

@@ -36,8 +36,12 @@ const BAY_COUNT: u64 = 64;
 
 pub(crate) const WORDS: usize = 69;
 
-// How often a waiter looks before it sleeps.
-const LOOKS: u64 = 20;
+// How often a waiter looks before it sleeps while nobody else sleeps, some six microseconds: no longer than it takes until one that
+// was woken runs.
+const LOOKS: u64 = 1000;
+
+// How often it looks where others sleep.
+const FEW_LOOKS: u64 = 20;
 
 // How often one sleeps before it draws a ticket that isn't served yet.
 const SLEEPS: u64 = 16;
@@ -94,7 +98,7 @@ fn draw_free<T: Chronicle>(words: &Words<T>, token: &mut Token<T>) -> Option<u64
     if found == next { Some(next) } else { None }
 }
 
-// Looks a few times for a ticket that is served at once.
+// Looks for a ticket that is served at once, and only a few times where others sleep.
 fn draw_watching<T: Chronicle>(words: &Words<T>, token: &mut Token<T>) -> Option<u64>
     requires turn { IsAtTable words.now.table_id token.old.table_id }
     requires idle { token.old.me.0.stage ≡ Idle }
@@ -102,9 +106,12 @@ fn draw_watching<T: Chronicle>(words: &Words<T>, token: &mut Token<T>) -> Option
     ensures drawn { token.new.me ≡ drawing result token.old.me }
     ensures below { IfSome result (λ ticket. ticket < u64.MAX) }
 {
-    for _ in 0..LOOKS {
+    for looks in 0..LOOKS {
         if let Some(ticket) = draw_free(words, token) {
             return Some(ticket);
+        }
+        if looks >= FEW_LOOKS && words.peek(ASLEEP) != 0 {
+            return None;
         }
         spin_loop();
     }
@@ -180,7 +187,7 @@ fn look<T: Chronicle, W: Picks<T, T::Entry>>(
 fn watch<T: Chronicle>(words: &Words<T>, ticket: u64) -> bool
     requires { IsTurnTable words.now.table_id }
 {
-    for _ in 0..LOOKS {
+    for _ in 0..FEW_LOOKS {
         if words.peek(SERVING) == ticket {
             return true;
         }
