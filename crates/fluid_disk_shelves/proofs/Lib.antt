@@ -1,0 +1,5 @@
+mod Covering
+mod Found
+mod Opened
+mod Taking
+mod Values
