@@ -1,9 +1,17 @@
 -- How a spawner's work on a front ends.
-use Rattle.std.specs.Prelude.{◌≡◌, ℕ, ◌+◌, ◌^◌, ◌<◌, ◌≤◌, Bool, true, ⊤}
+use Rattle.std.specs.Prelude.{◌≡◌, ℕ, ◌+◌, ◌^◌, ◌<◌, ◌≤◌, Bool, true, false, ⊤}
 use Rattle.fluid_io.specs.Causes.{Rose, Tells}
 use Rattle.fluid_front.specs.declared.spawner.FrontEnd.{FrontEnd}
 use Rattle.fluid_front.specs.declared.spawner.FrontEnd.TheVariants.{Done, FrontFailed, SpawnRefused, NoMemory}
+use Rattle.fluid_front.specs.declared.spawner.Way.{Way}
+use Rattle.fluid_front.specs.declared.spawner.Way.TheVariants.{Here, InThreads, AtStations}
 use Rattle.fluid_front.specs.Fronts.{CountsStay, Fronting}
+
+-- whether jobs run in threads
+abbrev pub is_threaded : Way → Bool
+is_threaded Here = false
+is_threaded (InThreads most) = true
+is_threaded (AtStations most) = true
 
 -- the count of wires rose by n, unless it stood so near its type's end that it stands still there
 abbrev pub HasGiven : ℕ → Fronting → Fronting → Type 0

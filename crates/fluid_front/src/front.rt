@@ -4,23 +4,58 @@ ghost use Rattle.std.specs.VecDeque.{deque_len};
 ghost use Rattle.fluid_io.specs.Causes.{HasCause};
 ghost use Rattle.fluid_front.specs.Fronts.{Accepts, CountsStay, Fronting, GivesNothing};
 ghost use Rattle.fluid_front.specs.Memory.{memory_seen, FailsByPlan};
+ghost use Rattle.fluid_front.specs.declared.front.FrontFault.TheVariants.{NoMemory as FrontNoMemory};
 
+use crate::{Bell, MemoryBell, MemoryStation, Station};
 use fluid_io::{Failed, FaultPlan};
+use fluid_json::NoMemory;
 use fluid_lines::Wire;
-use std::alloc::Global;
+use std::alloc::{AllocError, AllocFailed, Global};
 use std::collections::VecDeque;
 use std::marker::Model;
 use std::sync::Wait;
 
+/// Why a front has no wire, or no station.
 #[derive(Clone, Copy, Debug, PartialEq, Eq)]
 pub enum FrontFault {
+    /// What it stands on refused it.
     Failed,
     NoMemory,
+}
+
+impl From<NoMemory> for FrontFault {
+    ghost from_gives = { λ _ fault. fault ≡ FrontNoMemory };
+
+    fn from(_refused: NoMemory) -> FrontFault {
+        FrontFault::NoMemory
+    }
+}
+
+impl From<AllocError> for FrontFault {
+    ghost from_gives = { λ _ fault. fault ≡ FrontNoMemory };
+
+    fn from(_refused: AllocError) -> FrontFault {
+        FrontFault::NoMemory
+    }
+}
+
+impl<T: Drop> From<AllocFailed<T>> for FrontFault {
+    ghost from_gives = { λ _ fault. fault ≡ FrontNoMemory };
+
+    fn from(_refused: AllocFailed<T>) -> FrontFault {
+        FrontFault::NoMemory
+    }
 }
 
 /// Gives wires, one for each peer that connects. A real front may wait in each of its calls.
 pub trait Front {
     type W: Wire;
+
+    /// Where many of its wires are waited for.
+    type S: Station<Self::W, Self::B>;
+
+    /// What ends the wait there.
+    type B: Bell;
 
     /// The wires that it has left, where it tells them, and its counts.
     ghost seen: { Self → Fronting };
@@ -34,6 +69,10 @@ pub trait Front {
     fn accept<R: Wait>(&mut self, rt: &R, alloc: Global) -> Result<Option<Self::W>, FrontFault>
         ensures counts { CountsStay (seen self.old) (seen self.new) }
         ensures does { Accepts (seen self.old) (seen self.new) result };
+
+    /// A new station. The wires that are given behind it wait in none of their calls: they have to be waited for at stations.
+    fn station(&mut self, alloc: Global) -> Result<Self::S, FrontFault>
+        ensures { seen self.new ≡ seen self.old };
 }
 
 /// Wires in memory. It tells how many it has left.
@@ -76,6 +115,10 @@ impl<W: Wire> MemoryFront<W> {
 impl<W: Wire> Front for MemoryFront<W> {
     type W = W;
 
+    type S = MemoryStation<W>;
+
+    type B = MemoryBell;
+
     ghost seen = { memory_seen };
 
     fn listen<R: Wait>(&mut self, _rt: &R, _port: u16, _lines: bool) -> Result<(), Failed>
@@ -108,5 +151,11 @@ impl<W: Wire> Front for MemoryFront<W> {
                 Ok(None)
             }
         }
+    }
+
+    fn station(&mut self, alloc: Global) -> Result<MemoryStation<W>, FrontFault>
+        ensures { memory_seen self.new ≡ memory_seen self.old }
+    {
+        Ok(MemoryStation::new(alloc)?)
     }
 }

@@ -1,11 +1,13 @@
 //! How the wires of a front are served: one job for each.
-ghost use Rattle.std.specs.Prelude.{◌≡◌, ℕ, ◌+◌, ◌-◌, ◌*◌, ◌^◌, ◌<◌, ◌≤◌, Bool, false, is_some};
-ghost use Rattle.fluid_front.specs.Serving.{MayEnd, Refuses, Serves};
+ghost use Rattle.std.specs.Prelude.{◌≡◌, ℕ, ◌+◌, ◌-◌, ◌*◌, ◌^◌, ◌<◌, ◌≤◌, Bool, false};
+ghost use Rattle.fluid_front.specs.Serving.{MayEnd, Refuses, Serves, is_threaded};
 
-use crate::{Front, FrontFault, Gate, Handler};
+use crate::attending::{Inbox, attend};
+use crate::{Bell, Front, FrontFault, Gate, Handler, Station};
+use fluid_json::NoMemory;
 use std::alloc::Global;
 use std::marker::{Model, PhantomData};
-use std::sync::Wait;
+use std::sync::{Arc, Wait};
 use std::thread;
 use std::thread::Threads;
 
@@ -15,7 +17,7 @@ pub enum FrontEnd {
     /// So many wires were served: as many as were asked for, or all that the front gave.
     Done(u64),
     FrontFailed,
-    /// The job of this wire wasn't started.
+    /// The job of this wire wasn't started: no thread for it, or no station.
     SpawnRefused(u64),
     NoMemory,
 }
@@ -54,7 +56,18 @@ impl<S> Ended<S> {
     }
 }
 
-/// Serves wires in jobs: each at its place, or each in a thread.
+/// How jobs run.
+#[derive(Clone, Copy, Debug, PartialEq, Eq)]
+pub enum Way {
+    /// Each at its place, one behind the other. None is refused.
+    Here,
+    /// Each in a thread of its own, of which one call of `serve_all` starts so many at most.
+    InThreads(u32),
+    /// In so many threads at most, each with a station at which it works on many of them.
+    AtStations(u32),
+}
+
+/// Serves wires in jobs: each at its place, each in a thread, or many in each of a few threads.
 pub trait Spawner: Sized {
     /// How often a job couldn't be started.
     ghost refusals: { Self → ℕ };
@@ -62,10 +75,9 @@ pub trait Spawner: Sized {
     /// Whether jobs run in threads.
     ghost threads: { Self → Bool };
 
-    /// How many threads one call of `serve_all` starts at most, or `None` where jobs run at their place. A job that runs
-    /// at its place is never refused.
-    fn most_threads(&self) -> Option<u32>
-        ensures { is_some result ≡ threads self.now };
+    /// How its jobs run.
+    fn way(&self) -> Way
+        ensures { is_threaded result ≡ threads self.now };
 
     /// Counts a refusal, where the work on a front ended by one. `serve_all` calls it at its end.
     fn note_end(&mut self, ended: &Ended<Self>)
@@ -86,19 +98,25 @@ pub trait Spawner: Sized {
     ) -> (FrontEnd, F)
     where
         R: Threads + Wait + Sync,
-        F: Front + Drop,
+        F: Front + Send + Drop,
         F::W: Send + Drop,
+        F::S: Send + Drop,
+        F::B: Send + Sync + Drop,
         H: Handler<F::W> + Sync,
+        H::Job: Send + Drop,
         G: Gate + Sync,
         ensures front { Serves connections (F.seen front) (F.seen result.1) result.0 }
         ensures refusals { Refuses (refusals self.old) (refusals self.new) result.0 }
     {
-        let Some(most) = self.most_threads() else {
-            let (end, front) = serve_here(rt, alloc, front, handler, gate, connections);
-            self.note_end(&Ended::with(end));
-            return (end, front);
+        let (end, front) = match self.way() {
+            Way::Here => serve_here(rt, alloc, front, handler, gate, connections),
+            Way::InThreads(most) => {
+                serve_in_threads(rt, alloc, front, handler, gate, connections, most)
+            }
+            Way::AtStations(most) => {
+                serve_at_stations(rt, alloc, front, handler, gate, connections, most)
+            }
         };
-        let (end, front) = serve_in_threads(rt, alloc, front, handler, gate, connections, most);
         self.note_end(&Ended::with(end));
         (end, front)
     }
@@ -115,8 +133,8 @@ impl Spawner for HereSpawner {
 
     ghost threads = { λ _. false };
 
-    fn most_threads(&self) -> Option<u32> {
-        None
+    fn way(&self) -> Way {
+        Way::Here
     }
 
     fn note_end(&mut self, _ended: &Ended<HereSpawner>) {}
@@ -163,11 +181,56 @@ impl Spawner for ThreadSpawner {
 
     ghost threads = { λ _. true };
 
-    fn most_threads(&self) -> Option<u32> {
-        Some(self.most)
+    fn way(&self) -> Way {
+        Way::InThreads(self.most)
     }
 
     fn note_end(&mut self, ended: &Ended<ThreadSpawner>) {
+        if let FrontEnd::SpawnRefused(_) = ended.end() {
+            self.refusals = self.refusals.saturating_add(1);
+        }
+    }
+}
+
+/// Runs the jobs at stations, in a few threads of one scope.
+#[derive(Drop)]
+pub struct StationSpawner {
+    most: u32,
+    refusals: u64,
+}
+
+impl Model for StationSpawner {
+    ghost use Rattle.std.specs.Prelude.{ℕ};
+
+    ghost Value = { ℕ };
+
+    ghost view = { λ s. s.refusals };
+}
+
+impl StationSpawner {
+    /// No job was refused. A call of `serve_all` starts so many threads at most, and refuses the first job where it can start none.
+    pub fn new(threads: u32) -> StationSpawner
+        ensures { result ≡ 0 }
+    {
+        StationSpawner {
+            most: threads,
+            refusals: 0,
+        }
+    }
+}
+
+impl Spawner for StationSpawner {
+    ghost use Rattle.std.specs.Prelude.{true};
+
+    ghost refusals = { λ refusals. refusals };
+
+    ghost threads = { λ _. true };
+
+    fn way(&self) -> Way {
+        Way::AtStations(self.most)
+    }
+
+    fn note_end(&mut self, ended: &Ended<StationSpawner>) {
         if let FrontEnd::SpawnRefused(_) = ended.end() {
             self.refusals = self.refusals.saturating_add(1);
         }
@@ -264,4 +327,157 @@ where
 {
     gate.at(rt, number);
     handler.handle(rt, number, wire);
+}
+
+// Serves the wires at stations, in at most so many threads of one scope, which owns the front and gives it back when all
+// threads have ended.
+fn serve_at_stations<R, F, H, G>(
+    rt: &R,
+    alloc: Global,
+    front: F,
+    handler: &H,
+    gate: &G,
+    connections: u32,
+    most: u32,
+) -> (FrontEnd, F)
+where
+    R: Threads + Wait + Sync,
+    F: Front + Send + Drop,
+    F::W: Send + Drop,
+    F::S: Send + Drop,
+    F::B: Send + Sync + Drop,
+    H: Handler<F::W> + Sync,
+    H::Job: Send + Drop,
+    G: Gate + Sync,
+    ensures { Serves connections (F.seen front) (F.seen result.1) result.0 }
+{
+    let mut front = front;
+    let Ok((desks, inboxes)) = open_desks(alloc, &mut front, most) else {
+        return (FrontEnd::NoMemory, front);
+    };
+    thread::scope(
+        thread::scope_env(),
+        rt,
+        move |scope| -> (FrontEnd, F)
+            ensures { Serves connections (F.seen front) (F.seen result.1) result.0 }
+        {
+            let mut started = 0usize;
+            for desk in desks {
+                let Desk { station, inbox } = desk;
+                if scope
+                    .spawn(move || attend(rt, alloc, station, &*inbox, handler, gate))
+                    .is_err()
+                {
+                    break;
+                }
+                started = started.saturating_add(1);
+            }
+            let mut front = front;
+            let attended = inboxes.get(..started).unwrap_or(&[]);
+            let end = hand_out(rt, alloc, &mut front, attended, connections);
+            close_all(rt, inboxes.as_slice());
+            (end, front)
+        },
+    )
+}
+
+// A station, and where its thread gets its wires.
+#[derive(Drop)]
+struct Desk<S, W, B> {
+    station: S,
+    inbox: Arc<Inbox<W, B>>,
+}
+
+// The stations of a front, in their order, and their inboxes once more.
+type Desks<S, W, B> = (Vec<Desk<S, W, B>>, Vec<Arc<Inbox<W, B>>>);
+
+// So many stations of a front at most. It has no memory where there was none for the first of them.
+fn open_desks<F>(
+    alloc: Global,
+    front: &mut F,
+    most: u32,
+) -> Result<Desks<F::S, F::W, F::B>, NoMemory>
+where
+    F: Front,
+    F::W: Drop,
+    F::S: Drop,
+    F::B: Drop,
+    ensures { F.seen front.new ≡ F.seen front.old }
+{
+    let mut desks = Vec::new(alloc);
+    let mut inboxes = Vec::new(alloc);
+    for _ in 0..most {
+        match open_desk(alloc, front, &mut desks, &mut inboxes) {
+            Ok(()) => {}
+            Err(FrontFault::NoMemory) if desks.is_empty() => return Err(NoMemory),
+            Err(_) => break,
+        }
+    }
+    Ok((desks, inboxes))
+}
+
+fn open_desk<F>(
+    alloc: Global,
+    front: &mut F,
+    desks: &mut Vec<Desk<F::S, F::W, F::B>>,
+    inboxes: &mut Vec<Arc<Inbox<F::W, F::B>>>,
+) -> Result<(), FrontFault>
+where
+    F: Front,
+    F::W: Drop,
+    F::S: Drop,
+    F::B: Drop,
+    ensures { F.seen front.new ≡ F.seen front.old }
+{
+    let station = front.station(alloc)?;
+    let bell = station.bell()?;
+    let inbox = Arc::new(alloc, Inbox::new(alloc, bell))?;
+    inboxes.push(inbox.clone()?)?;
+    desks.push(Desk { station, inbox })?;
+    Ok(())
+}
+
+fn close_all<R: Wait, W, B: Bell>(rt: &R, inboxes: &[Arc<Inbox<W, B>>]) {
+    for inbox in inboxes {
+        inbox.close(rt);
+    }
+}
+
+// Hands the wires of a front to inboxes, one behind the other.
+fn hand_out<R, F, B>(
+    rt: &R,
+    alloc: Global,
+    front: &mut F,
+    inboxes: &[Arc<Inbox<F::W, B>>],
+    connections: u32,
+) -> FrontEnd
+where
+    R: Wait,
+    F: Front,
+    F::W: Drop,
+    B: Bell,
+    ensures { Serves connections (F.seen front.old) (F.seen front.new) result }
+{
+    let mut next = 0;
+    for served in 0..connections {
+        let number = u64::from(served) + 1;
+        match front.accept(rt, alloc) {
+            Ok(Some(wire)) => {
+                if next >= inboxes.len() {
+                    next = 0;
+                }
+                let Some(inbox) = inboxes.get(next) else {
+                    return FrontEnd::SpawnRefused(number);
+                };
+                next += 1;
+                if inbox.put(rt, served, wire).is_err() {
+                    return FrontEnd::NoMemory;
+                }
+            }
+            Ok(None) => return FrontEnd::Done(u64::from(served)),
+            Err(FrontFault::Failed) => return FrontEnd::FrontFailed,
+            Err(FrontFault::NoMemory) => return FrontEnd::NoMemory,
+        }
+    }
+    FrontEnd::Done(u64::from(connections))
 }

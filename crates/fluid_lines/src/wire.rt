@@ -89,4 +89,19 @@ pub trait Wire {
     fn follow<R: Wait>(&mut self, _rt: &R, _name: &str)
         ensures { seen self.new ≡ seen self.old }
     {}
+
+    /// Whether it is time for a receive. A wire that never waits holds what the peer doesn't take, and answers false as long as the
+    /// peer has to take it first; where it has failed it answers true. It is a hint alone.
+    fn is_free<R: Wait>(&mut self, _rt: &R) -> bool
+        ensures { seen self.new ≡ seen self.old }
+    {
+        true
+    }
+
+    /// Hands on what it holds, behind the last send. It says whether the peer has taken it all, or never will. It is a hint alone.
+    fn is_handed_on<R: Wait>(&mut self, _rt: &R) -> bool
+        ensures { seen self.new ≡ seen self.old }
+    {
+        true
+    }
 }

@@ -9,13 +9,14 @@ use crate::step::{Sent, Step};
 use crate::watch::{Watch, Woken};
 use crate::wire::Waits;
 use std::alloc::Global;
-use std::mem;
+use std::os::fd::RawFd;
 use std::sync::Wait;
+use std::{io, mem};
 use tungstenite::{CloseCode, HandshakeError};
 
 // How texts are framed on the stream.
 #[derive(Drop)]
-enum Framing {
+pub(crate) enum Framing {
     Lines(LineStream),
     /// The handshake isn't done yet.
     Opening(Handshake),
@@ -25,7 +26,7 @@ enum Framing {
 }
 
 impl Framing {
-    fn stream(&mut self) -> Option<&mut Metered> {
+    pub(crate) fn stream(&mut self) -> Option<&mut Metered> {
         match self {
             Framing::Lines(lines) => Some(lines.stream()),
             Framing::Opening(handshake) => Some(handshake.get_mut()),
@@ -34,7 +35,7 @@ impl Framing {
         }
     }
 
-    fn receive(&mut self, alloc: Global) -> Step {
+    pub(crate) fn receive(&mut self, alloc: Global) -> Step {
         match self {
             Framing::Lines(lines) => lines.receive(alloc),
             Framing::Messages(socket) => messages::receive(alloc, socket),
@@ -52,7 +53,16 @@ impl Framing {
         }
     }
 
-    fn flush(&mut self) -> Sent {
+    pub(crate) fn put(&mut self, alloc: Global, text: &str) -> Sent {
+        match self {
+            Framing::Lines(lines) => lines.put(text),
+            Framing::Messages(socket) => messages::put(alloc, socket, text),
+            Framing::Opening(_) => Sent::Failed,
+            Framing::Over => Sent::Failed,
+        }
+    }
+
+    pub(crate) fn flush(&mut self) -> Sent {
         match self {
             Framing::Lines(lines) => lines.flush(),
             Framing::Messages(socket) => messages::flush(socket),
@@ -63,19 +73,34 @@ impl Framing {
 }
 
 // The longest sleep, in ticks.
-const LONGEST_REST: u32 = 16;
+pub(crate) const LONGEST_REST: u32 = 16;
 
 /// A connection with all that it waits by.
 pub(crate) struct Connection {
-    framing: Framing,
-    watch: Watch,
-    waits: Waits,
+    pub(crate) framing: Framing,
+    // none where it is waited for at a station
+    watch: Option<Watch>,
+    pub(crate) waits: Waits,
+    // it gave a text since it had none to give
+    pub(crate) kept: bool,
+    // how many bytes it was given to send since some went out last
+    pub(crate) held: usize,
+    // the peer didn't take what was held
+    pub(crate) stuck: bool,
+    // for how many ticks it took nothing
+    pub(crate) still: u32,
+    // nothing more goes out, which wasn't told yet
+    pub(crate) failed: bool,
+    // nothing more comes in, which was told
+    pub(crate) closed: bool,
+    // how often the handshake had to wait
+    pub(crate) opening: u32,
     // for how many ticks the next sleep lasts: more of them while nobody calls and no text comes in
-    rest: u32,
+    pub(crate) rest: u32,
     // for how many ticks nothing came in, since a sign of life was asked for
-    silent: u32,
+    pub(crate) silent: u32,
     // how often such a sign was asked for in vain
-    pings: u32,
+    pub(crate) pings: u32,
 }
 
 impl Connection {
@@ -83,7 +108,7 @@ impl Connection {
     pub(crate) fn new(
         alloc: Global,
         stream: Metered,
-        watch: Watch,
+        watch: Option<Watch>,
         lines: bool,
         waits: Waits,
     ) -> Connection {
@@ -96,6 +121,13 @@ impl Connection {
             framing,
             watch,
             waits,
+            kept: false,
+            held: 0,
+            stuck: false,
+            still: 0,
+            failed: false,
+            closed: false,
+            opening: 0,
             rest: 1,
             silent: 0,
             pings: 0,
@@ -136,20 +168,20 @@ impl Connection {
     }
 
     // A new receive begins.
-    fn refill(&mut self) {
+    pub(crate) fn refill(&mut self) {
         if let Some(stream) = self.framing.stream() {
             stream.refill();
         }
     }
 
     // There may be something to read.
-    fn ready(&mut self) {
+    pub(crate) fn ready(&mut self) {
         if let Some(stream) = self.framing.stream() {
             stream.ready();
         }
     }
 
-    fn is_spent(&mut self) -> bool {
+    pub(crate) fn is_spent(&mut self) -> bool {
         match self.framing.stream() {
             Some(stream) => stream.is_spent(),
             None => false,
@@ -166,7 +198,7 @@ impl Connection {
             self.rest = 1;
             return Step::Quiet;
         }
-        let woken = self.watch.wait(self.rest);
+        let woken = self.wait(self.rest);
         let called = place.rise();
         let Ok(woken) = woken else {
             self.framing = Framing::Over;
@@ -187,6 +219,27 @@ impl Connection {
         }
     }
 
+    fn wait(&mut self, ticks: u32) -> io::Result<Woken> {
+        match &mut self.watch {
+            Some(watch) => watch.wait(ticks),
+            None => Ok(Woken::Other),
+        }
+    }
+
+    fn watch_reads(&self, reads: bool) -> io::Result<()> {
+        match &self.watch {
+            Some(watch) => watch.watch_reads(reads),
+            None => Ok(()),
+        }
+    }
+
+    pub(crate) fn descriptor(&mut self) -> RawFd {
+        match self.framing.stream() {
+            Some(stream) => stream.descriptor(),
+            None => -1,
+        }
+    }
+
     // A sleep has passed without a word of the peer, and the next one is longer. Behind so many ticks the peer is asked for a
     // sign of life, and where it gave none so often, the connection ends.
     fn tick(&mut self) -> Step {
@@ -196,6 +249,11 @@ impl Connection {
             self.rest = self.rest.min(self.waits.silent_ticks - self.silent);
             return Step::Quiet;
         }
+        self.ask()
+    }
+
+    // Asks the peer for a sign of life.
+    pub(crate) fn ask(&mut self) -> Step {
         self.silent = 0;
         let Framing::Messages(socket) = &mut self.framing else {
             return Step::Quiet;
@@ -243,7 +301,7 @@ impl Connection {
             Err(HandshakeError::Failure(error)) => Some(messages::refused(error)),
             Err(HandshakeError::Interrupted(handshake)) => {
                 self.framing = Framing::Opening(handshake);
-                let woken = self.watch.wait(1);
+                let woken = self.wait(1);
                 self.refill();
                 self.ready();
                 match woken {
@@ -276,7 +334,7 @@ impl Connection {
         self.end_at_fault(sent)
     }
 
-    fn end_at_fault(&mut self, sent: Sent) -> Sent {
+    pub(crate) fn end_at_fault(&mut self, sent: Sent) -> Sent {
         if sent == Sent::Failed {
             self.framing = Framing::Over;
         }
@@ -285,12 +343,12 @@ impl Connection {
 
     // Sends what the peer didn't take at once. Meanwhile only that it takes more ends a wait.
     fn send_rest(&mut self) -> Sent {
-        if self.watch.watch_reads(false).is_err() {
+        if self.watch_reads(false).is_err() {
             return Sent::Failed;
         }
         let sent = self.wait_for_peer();
         self.ready();
-        if self.watch.watch_reads(true).is_err() {
+        if self.watch_reads(true).is_err() {
             return Sent::Failed;
         }
         sent
@@ -300,7 +358,7 @@ impl Connection {
     fn wait_for_peer(&mut self) -> Sent {
         let mut still = 0u32;
         for _ in 0..u64::MAX {
-            match self.watch.wait(1) {
+            match self.wait(1) {
                 Ok(Woken::Socket) => still = 0,
                 Ok(Woken::Other) => still = still.saturating_add(1),
                 Err(_) => return Sent::Failed,
@@ -324,12 +382,24 @@ impl Drop for Connection {
             framing,
             watch: _,
             waits: _,
+            kept: _,
+            held: _,
+            stuck: _,
+            still: _,
+            failed: _,
+            closed: _,
+            opening: _,
             rest: _,
             silent: _,
             pings: _,
         } = self;
-        if let Framing::Messages(mut socket) = framing {
-            messages::close(&mut socket, CloseCode::Normal);
+        match framing {
+            Framing::Messages(mut socket) => messages::close(&mut socket, CloseCode::Normal),
+            Framing::Lines(mut lines) => {
+                let _ = lines.flush();
+            }
+            Framing::Opening(_) => {}
+            Framing::Over => {}
         }
     }
 }

@@ -7,6 +7,7 @@ ghost use Rattle.fluid_socket.specs.Tcp.{tcp_seen, new_front};
 use crate::connection::Connection;
 use crate::metered::Metered;
 use crate::rooms::{Place, Rooms};
+use crate::station::{TcpBell, TcpStation};
 use crate::watch::Watch;
 use crate::wire::{SocketWire, Waits};
 use fluid_front::{Front, FrontFault};
@@ -20,14 +21,14 @@ use std::net::{Ipv4Addr, Net, SocketAddr, SocketAddrV4, TcpListener};
 use std::os::fd::AsRawFd;
 use std::sync::atomic::AtomicU64;
 use std::sync::{Arc, Wait};
-use std::time::Duration;
+use std::time::{Clock, Duration};
 use std::{io, net};
 
 // How many milliseconds the front waits where a peer can't be let in.
 const PAUSE: u64 = 50;
 
-// How many descriptors a connection takes: its socket, and two to wait by.
-const DESCRIPTORS: u64 = 3;
+// How many descriptors whoever waits takes: a wire by itself, or a station.
+const WAITING_DESCRIPTORS: u64 = 2;
 
 // How many the program has besides: its three streams and the listener.
 const OWN_DESCRIPTORS: u64 = 4;
@@ -44,6 +45,10 @@ pub struct TcpFront<N: Net, K: Sink> {
     listener: Option<TcpListener>,
     port: u16,
     lines: bool,
+    // how many stations it is going to give, where its wires are waited for at stations
+    planned: Option<u32>,
+    // how many it gave
+    stations: u64,
     given: u64,
     nones: u64,
     faults: u64,
@@ -74,6 +79,24 @@ impl<N: Net, K: Sink> TcpFront<N, K> {
         TcpFront::waiting(alloc, net, writer, Waits::default())
     }
 
+    /// The same, of a front whose wires are going to be waited for at so many stations: what it writes counts fewer descriptors for
+    /// each connection.
+    pub fn at_stations(
+        alloc: Global,
+        net: N,
+        writer: K,
+        stations: u32,
+    ) -> Result<TcpFront<N, K>, NoMemory>
+    where
+        N: Drop,
+        K: Drop,
+        ensures { IfOk result (λ front. front ≡ new_front (K.seen writer)) }
+    {
+        let mut front = TcpFront::new(alloc, net, writer)?;
+        front.planned = Some(stations);
+        Ok(front)
+    }
+
     /// The same, with the waits of its wires.
     pub fn waiting(
         alloc: Global,
@@ -96,6 +119,8 @@ impl<N: Net, K: Sink> TcpFront<N, K> {
             listener: None,
             port: 0,
             lines: false,
+            planned: None,
+            stations: 0,
             given: 0,
             nones: 0,
             faults: 0,
@@ -124,6 +149,8 @@ impl<N: Net, K: Sink> TcpFront<N, K> {
             listener: _,
             port: _,
             lines: _,
+            planned: _,
+            stations: _,
             given: _,
             nones: _,
             faults: _,
@@ -163,13 +190,29 @@ impl<N: Net, K: Sink> TcpFront<N, K> {
     fn open_line(&self) -> Result<String, AllocError> {
         let port = self.port;
         let mode = if self.lines { "lines" } else { "WebSockets" };
-        match most_connections() {
+        match self.most_connections() {
             Some(most) => {
                 format!(in self.alloc;
                     "listening on 127.0.0.1:{port} for {mode}, at most {most} connections at once\n"
                 )
             }
             None => format!(in self.alloc; "listening on 127.0.0.1:{port} for {mode}\n"),
+        }
+    }
+
+    // How many connections can be open at once by the limit on descriptors.
+    fn most_connections(&self) -> Option<u64> {
+        let mut limit = rlimit {
+            rlim_cur: 0,
+            rlim_max: 0,
+        };
+        if libc::getrlimit(libc::RLIMIT_NOFILE, &mut limit) != 0 {
+            return None;
+        }
+        let free = limit.rlim_cur.saturating_sub(OWN_DESCRIPTORS);
+        match self.planned {
+            Some(stations) => Some(free.saturating_sub(u64::from(stations) * WAITING_DESCRIPTORS)),
+            None => Some(free / (1 + WAITING_DESCRIPTORS)),
         }
     }
 
@@ -203,25 +246,23 @@ impl<N: Net, K: Sink> TcpFront<N, K> {
         stream.set_nodelay(true).ok()?;
         stream.set_nonblocking(true).ok()?;
         let stream = TcpStream::from_std(stream);
-        let tick = Duration::from_millis(self.waits.tick_milliseconds);
+        let rooms = self.rooms.clone().ok()?;
+        if self.stations > 0 {
+            let stream = Metered::attended(stream);
+            let connection = Connection::new(alloc, stream, None, self.lines, self.waits);
+            return Some(SocketWire::new(connection, Place::nowhere(rooms)));
+        }
+        let tick = self.tick();
         let (watch, waker) = Watch::new(&self.net, alloc, stream.as_raw_fd(), tick).ok()?;
-        let place = Place::new(alloc, self.rooms.clone().ok()?, waker).ok()?;
+        let place = Place::new(alloc, rooms, waker).ok()?;
         let stream = Metered::new(stream);
-        let connection = Connection::new(alloc, stream, watch, self.lines, self.waits);
+        let connection = Connection::new(alloc, stream, Some(watch), self.lines, self.waits);
         Some(SocketWire::new(connection, place))
     }
-}
 
-// How many connections can be open at once by the limit on descriptors.
-fn most_connections() -> Option<u64> {
-    let mut limit = rlimit {
-        rlim_cur: 0,
-        rlim_max: 0,
-    };
-    if libc::getrlimit(libc::RLIMIT_NOFILE, &mut limit) != 0 {
-        return None;
+    fn tick(&self) -> Duration {
+        Duration::from_millis(self.waits.tick_milliseconds.max(1))
     }
-    Some(limit.rlim_cur.saturating_sub(OWN_DESCRIPTORS) / DESCRIPTORS)
 }
 
 // Whether an error of `accept` is of the listener itself: it is no socket that listens. Every other is of one peer, or passes.
@@ -232,8 +273,12 @@ fn is_of_listener(error: &io::Error) -> bool {
     }
 }
 
-impl<N: Net, K: Sink> Front for TcpFront<N, K> {
+impl<N: Net + Clock + Copy + Drop, K: Sink> Front for TcpFront<N, K> {
     type W = SocketWire;
+
+    type S = TcpStation<N>;
+
+    type B = TcpBell;
 
     ghost seen = { tcp_seen };
 
@@ -274,5 +319,10 @@ impl<N: Net, K: Sink> Front for TcpFront<N, K> {
                 Err(FrontFault::Failed)
             }
         }
+    }
+
+    fn station(&mut self, alloc: Global) -> Result<TcpStation<N>, FrontFault> {
+        self.stations = self.stations.saturating_add(1);
+        TcpStation::new(alloc, self.net, self.stations, self.tick())
     }
 }

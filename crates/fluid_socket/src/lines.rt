@@ -138,16 +138,22 @@ impl LineStream {
 
     /// Sends a text and its line feed, as far as the peer takes them.
     pub(crate) fn send(&mut self, text: &str) -> Sent {
-        self.output.clear();
-        self.sent = 0;
+        match self.put(text) {
+            Sent::Blocked => self.flush(),
+            other => other,
+        }
+    }
+
+    /// Puts a text and its line feed behind what waits to go out.
+    pub(crate) fn put(&mut self, text: &str) -> Sent {
         if self.fill(text).is_err() {
-            self.output.clear();
             return Sent::NoMemory;
         }
-        self.flush()
+        Sent::Blocked
     }
 
     fn fill(&mut self, text: &str) -> Result<(), AllocError> {
+        self.output.reserve(text.len().saturating_add(1))?;
         self.output.extend_from_slice(text.as_bytes())?;
         self.output.push(b'\n')?;
         Ok(())
@@ -170,6 +176,8 @@ impl LineStream {
                 },
             }
         }
+        self.output.clear();
+        self.sent = 0;
         if self.output.capacity() > KEPT {
             self.output = Vec::new(self.alloc);
         }

@@ -23,10 +23,15 @@ pub(crate) type Socket = WebSocket<Metered, NoMask>;
 // How many bytes of answers to pings wait for a peer that doesn't read.
 const MOST_WAITING: usize = 65_536;
 
+// How many bytes one read asks for: of a peer that says little, and of one whose last read found as much as it asked for.
+const LITTLE: usize = 512;
+
+const MUCH: usize = 16_384;
+
 // The bounds of a connection. A message that is too long is refused by what its frames announce, before it is held.
-fn bounds(waiting: usize) -> WebSocketConfig {
+fn bounds(waiting: usize, reads: usize) -> WebSocketConfig {
     WebSocketConfig::default()
-        .read_buffer_size(4096)
+        .read_buffer_size(reads)
         .max_message_size(Some(LONGEST_TEXT))
         .max_frame_size(Some(LONGEST_TEXT))
         .max_write_buffer_size(waiting)
@@ -38,7 +43,7 @@ pub(crate) fn begin(alloc: Global, stream: Metered) -> Handshake {
         alloc,
         stream,
         OwnOrigins { alloc },
-        Some(bounds(MOST_WAITING)),
+        Some(bounds(MOST_WAITING, LITTLE)),
     )
 }
 
@@ -53,7 +58,16 @@ pub(crate) fn refused(error: Error) -> Step {
 
 /// The next message, as far as the stream has it.
 pub(crate) fn receive(alloc: Global, socket: &mut Socket) -> Step {
-    match socket.read() {
+    let reads = if socket.get_mut().take_full() {
+        MUCH
+    } else {
+        LITTLE
+    };
+    socket.set_config(bounds(MOST_WAITING, reads));
+    socket.get_mut().cork(true);
+    let read = socket.read();
+    socket.get_mut().cork(false);
+    match read {
         Ok(message) => taken(alloc, socket, message),
         Err(error) => ended(socket, error),
     }
@@ -128,10 +142,18 @@ pub(crate) fn send(alloc: Global, socket: &mut Socket, text: &str) -> Sent {
     let Ok(message) = Message::text(alloc, text) else {
         return Sent::NoMemory;
     };
-    socket.set_config(bounds(usize::MAX));
+    socket.set_config(bounds(usize::MAX, LITTLE));
     let sent = sent(socket.send(message));
-    socket.set_config(bounds(MOST_WAITING));
+    socket.set_config(bounds(MOST_WAITING, LITTLE));
     sent
+}
+
+/// Puts a text behind what waits to go out.
+pub(crate) fn put(alloc: Global, socket: &mut Socket, text: &str) -> Sent {
+    socket.get_mut().cork(true);
+    let put = send(alloc, socket, text);
+    socket.get_mut().cork(false);
+    put
 }
 
 /// Sends the rest of what waits.

@@ -3,6 +3,7 @@
 //! The wires of a document have a room. A call goes to a few sleepers, and each of them passes it on when it has done what it was
 //! called for; so a large room is never awake all at once.
 
+use crate::spots::{Attendant, Circle, Corner, Hub, Spot};
 use fluid_json::NoMemory;
 use mio::Waker;
 use std::alloc::Global;
@@ -136,6 +137,8 @@ impl Ring {
 struct Room {
     name: String,
     ring: Mutex<Ring>,
+    // those of its wires that are waited for at stations
+    corners: Mutex<Vec<Corner>>,
     // how many were woken and haven't passed the call on yet
     running: AtomicU64,
     // how many follow the document
@@ -152,6 +155,7 @@ impl Room {
         Ok(Room {
             name: String::from_str(alloc, name)?,
             ring: Mutex::new(ring),
+            corners: Mutex::new(Vec::new(alloc)),
             running: AtomicU64::new(0),
             wires: AtomicU64::new(0),
         })
@@ -166,7 +170,27 @@ impl Room {
     }
 
     fn call<R: Wait>(&self, rt: &R) {
+        for corner in self.corners.lock(rt).iter() {
+            corner.call(rt);
+        }
         self.ring.lock(rt).begin(&self.running);
+    }
+
+    // Those of its wires that are waited for at this station.
+    fn circle<R: Wait>(
+        &self,
+        rt: &R,
+        alloc: Global,
+        hub: &Arc<Hub>,
+    ) -> Result<Arc<Circle>, NoMemory> {
+        let mut corners = self.corners.lock(rt);
+        if let Some(corner) = corners.iter().find(|corner| corner.is_of(hub)) {
+            return corner.circle();
+        }
+        let corner = Corner::new(alloc, hub.clone()?)?;
+        let circle = corner.circle()?;
+        corners.push(corner)?;
+        Ok(circle)
     }
 
     fn pass_on<R: Wait>(&self, rt: &R) {
@@ -196,6 +220,11 @@ impl Room {
             self.one_fewer_runs();
         }
         self.wires.fetch_sub(1, Ordering::SeqCst);
+        if let Some(corners) = self.corners.try_lock() {
+            for corner in corners.iter() {
+                corner.try_call();
+            }
+        }
         if let Some(mut ring) = self.ring.try_lock() {
             ring.leave_out_the_gone();
             ring.begin(&self.running);
@@ -257,15 +286,25 @@ impl Rooms {
     }
 
     // A seat in the room of this name.
-    fn enter<R: Wait>(&self, rt: &R, name: &str, sleeper: &Arc<Sleeper>) -> Result<Seat, NoMemory> {
+    fn enter<R: Wait>(&self, rt: &R, name: &str, resting: &Resting) -> Result<Seat, NoMemory> {
         let mut rooms = self.rooms.lock(rt);
         let room = rooms.room(self.alloc, name)?;
-        let member = Member {
-            sleeper: sleeper.clone()?,
-            gone: AtomicBool::new(false),
+        let member = match resting {
+            Resting::Asleep(sleeper) => {
+                let member = Member {
+                    sleeper: sleeper.clone()?,
+                    gone: AtomicBool::new(false),
+                };
+                let member = Arc::new(self.alloc, member)?;
+                room.enter(rt, member.clone()?)?;
+                Membership::Asleep(member)
+            }
+            Resting::At(hub, _, place) => {
+                let circle = room.circle(rt, self.alloc, hub)?;
+                Membership::At(circle.enter(rt, self.alloc, *place)?)
+            }
+            Resting::Nowhere => return Err(NoMemory),
         };
-        let member = Arc::new(self.alloc, member)?;
-        room.enter(rt, member.clone()?)?;
         room.wires.fetch_add(1, Ordering::SeqCst);
         Ok(Seat { room, member })
     }
@@ -282,13 +321,40 @@ impl Rooms {
 #[derive(Drop)]
 struct Seat {
     room: Arc<Room>,
-    member: Arc<Member>,
+    member: Membership,
+}
+
+// How one is in a room.
+#[derive(Drop)]
+enum Membership {
+    Asleep(Arc<Member>),
+    At(Arc<Attendant>),
+}
+
+impl Membership {
+    fn leave(&self) {
+        match self {
+            Membership::Asleep(member) => member.gone.store(true, Ordering::SeqCst),
+            Membership::At(attendant) => attendant.leave(),
+        }
+    }
+}
+
+// How a wire is waited for.
+#[derive(Drop)]
+enum Resting {
+    /// It sleeps by itself.
+    Asleep(Arc<Sleeper>),
+    /// At a station.
+    At(Arc<Hub>, Arc<Spot>, usize),
+    /// Not yet.
+    Nowhere,
 }
 
 /// A wire's place among the wires of its document.
 pub(crate) struct Place {
     rooms: Arc<Rooms>,
-    sleeper: Arc<Sleeper>,
+    resting: Resting,
     seat: Option<Seat>,
     // it gave a text, of whose work the others haven't been told
     changed: bool,
@@ -308,11 +374,41 @@ impl Place {
         )?;
         Ok(Place {
             rooms,
-            sleeper,
+            resting: Resting::Asleep(sleeper),
             seat: None,
             changed: false,
             called: false,
         })
+    }
+
+    /// The same, of a wire that is going to be waited for at a station.
+    pub(crate) fn nowhere(rooms: Arc<Rooms>) -> Place {
+        Place {
+            rooms,
+            resting: Resting::Nowhere,
+            seat: None,
+            changed: false,
+            called: false,
+        }
+    }
+
+    /// The wire is waited for at a station.
+    pub(crate) fn settle(&mut self, hub: Arc<Hub>, spot: Arc<Spot>, place: usize) {
+        self.resting = Resting::At(hub, spot, place);
+    }
+
+    /// What it and its station tell each other.
+    pub(crate) fn spot(&self) -> Option<&Spot> {
+        match &self.resting {
+            Resting::At(_, spot, _) => Some(&**spot),
+            Resting::Asleep(_) => None,
+            Resting::Nowhere => None,
+        }
+    }
+
+    /// Whether it never waits.
+    pub(crate) fn is_polled(&self) -> bool {
+        !matches!(&self.resting, Resting::Asleep(_))
     }
 
     /// The wire follows the document of this name, and no other. Where memory lacks it follows none.
@@ -323,7 +419,7 @@ impl Place {
             }
         }
         self.leave();
-        self.seat = self.rooms.enter(rt, name, &self.sleeper).ok();
+        self.seat = self.rooms.enter(rt, name, &self.resting).ok();
     }
 
     /// The wire gives a text: what was told of before it is heard behind it.
@@ -354,12 +450,20 @@ impl Place {
 
     /// Whether the wire may sleep now: where it was called, it may not.
     pub(crate) fn lie_down(&mut self) -> bool {
-        self.sleeper.lie_down()
+        match &self.resting {
+            Resting::Asleep(sleeper) => sleeper.lie_down(),
+            Resting::At(_, _, _) => false,
+            Resting::Nowhere => false,
+        }
     }
 
     /// The wire is awake. Whether it was called since it looked last.
     pub(crate) fn look(&mut self) -> bool {
-        self.sleeper.look()
+        match &self.resting {
+            Resting::Asleep(sleeper) => sleeper.look(),
+            Resting::At(_, _, _) => false,
+            Resting::Nowhere => false,
+        }
     }
 
     /// The same behind a sleep, from which a call wakes.
@@ -371,12 +475,12 @@ impl Place {
         called
     }
 
-    // The wire leaves its room.
-    fn leave(&mut self) {
+    /// The wire leaves its room.
+    pub(crate) fn leave(&mut self) {
         let Some(seat) = self.seat.take() else {
             return;
         };
-        seat.member.gone.store(true, Ordering::SeqCst);
+        seat.member.leave();
         seat.room.leave(self.called);
         self.called = false;
         self.rooms.close(seat.room.name.as_str());
@@ -388,7 +492,7 @@ impl Drop for Place {
         self.leave();
         let Place {
             rooms: _,
-            sleeper: _,
+            resting: _,
             seat: _,
             changed: _,
             called: _,

@@ -4,13 +4,15 @@ ghost use Rattle.fluid_lines.specs.Wires.{Receives, Sends, Stays};
 
 use crate::connection::Connection;
 use crate::rooms::Place;
+use crate::spots::{Hub, Spot};
 use crate::step::{Sent, Step};
 use fluid_io::LONGEST_TEXT;
 use fluid_json::Text;
 use fluid_lines::{Recv, Wire, WireFault};
 use std::alloc::Global;
 use std::marker::Model;
-use std::sync::Wait;
+use std::os::fd::RawFd;
+use std::sync::{Arc, Wait};
 
 /// How long a wire waits, in ticks.
 #[derive(Clone, Copy, Debug, PartialEq, Eq)]
@@ -52,6 +54,8 @@ impl Default for Waits {
 }
 
 /// A wire over TCP, with one message of a WebSocket for each text, or one line. It tells nothing of what comes and goes.
+/// It waits by itself, or, where its front gave a station before, it waits in none of its calls: it holds what it sends until its
+/// turn is over, and fails where no station waits for it.
 /// Behind every answer but a text and `Quiet` only the end comes, and behind a send that failed too. A peer that keeps to the
 /// rules of its framing no more is told why it is left, where its framing has a word for that.
 #[derive(Drop)]
@@ -82,6 +86,42 @@ impl SocketWire {
             quiets: 0,
             faults: 0,
         }
+    }
+
+    /// From now on it is waited for at a station.
+    pub(crate) fn settle(&mut self, hub: Arc<Hub>, spot: Arc<Spot>, place: usize)
+        ensures { self.new ≡ self.old }
+    {
+        self.place.settle(hub, spot, place);
+    }
+
+    pub(crate) fn descriptor(&mut self) -> RawFd
+        ensures { self.new ≡ self.old }
+    {
+        self.connection.descriptor()
+    }
+
+    // What has come in.
+    fn next<R: Wait>(&mut self, rt: &R, alloc: Global) -> Step
+        ensures { self.new ≡ self.old }
+    {
+        if !self.place.is_polled() {
+            return self.connection.receive(rt, alloc, &mut self.place);
+        }
+        match self.place.spot() {
+            Some(spot) => self.connection.look(alloc, spot),
+            None => self.connection.give_up(),
+        }
+    }
+
+    // Sends a text, or holds it.
+    fn put<R: Wait>(&mut self, rt: &R, alloc: Global, text: &str) -> Sent
+        ensures { self.new ≡ self.old }
+    {
+        if self.place.is_polled() {
+            return self.connection.hold(alloc, text);
+        }
+        self.connection.send(rt, alloc, text, &mut self.place)
     }
 
     // Gives a text, unless it is too long.
@@ -121,11 +161,11 @@ impl Wire for SocketWire {
     ghost seen = { λ w. w };
 
     /// It waits until there is an answer: a text, the end, or that the one who receives is to look round, since another wire
-    /// of its document gave a text or a tick has passed.
+    /// of its document gave a text or a tick has passed. At a station it is quiet where nothing has come in.
     fn recv<R: Wait>(&mut self, rt: &R, alloc: Global) -> Result<Recv, WireFault> {
         self.place.tell(rt);
         self.place.pass_on(rt);
-        match self.connection.receive(rt, alloc, &mut self.place) {
+        match self.next(rt, alloc) {
             Step::Text(text) => self.give(text),
             Step::TooLong(size) => Ok(Recv::TooLong(size.max(LONGEST_TEXT as u64 + 1))),
             Step::End => Ok(Recv::End),
@@ -137,10 +177,11 @@ impl Wire for SocketWire {
         }
     }
 
-    /// It waits until the peer has taken the text. Where memory lacks, nothing was sent.
+    /// It waits until the peer has taken the text. At a station the text is held, and where the peer doesn't take it in time, a later
+    /// receive fails. Where memory lacks, nothing was sent.
     fn send<R: Wait>(&mut self, rt: &R, alloc: Global, text: &str) -> Result<(), WireFault> {
         self.place.tell(rt);
-        match self.connection.send(rt, alloc, text, &mut self.place) {
+        match self.put(rt, alloc, text) {
             Sent::Whole => Ok(()),
             Sent::NoMemory => Err(WireFault::NoMemory),
             Sent::Failed => Err(self.failed()),
@@ -150,5 +191,24 @@ impl Wire for SocketWire {
 
     fn follow<R: Wait>(&mut self, rt: &R, name: &str) {
         self.place.follow(rt, name);
+    }
+
+    /// It goes on with what the peer didn't take, and counts for how long it has taken nothing.
+    fn is_free<R: Wait>(&mut self, rt: &R) -> bool {
+        self.place.tell(rt);
+        match self.place.spot() {
+            Some(spot) => self.connection.is_free(spot),
+            None => true,
+        }
+    }
+
+    /// It leaves its document, since nobody receives any more.
+    fn is_handed_on<R: Wait>(&mut self, rt: &R) -> bool {
+        self.place.tell(rt);
+        self.place.leave();
+        match self.place.spot() {
+            Some(spot) => self.connection.is_handed_on(spot),
+            None => true,
+        }
     }
 }

@@ -83,19 +83,44 @@ impl Repeating {
     }
 }
 
+/// A session, and how many texts of the room it has sent.
+#[derive(Drop)]
+pub(crate) struct Session<W: Wire> {
+    wire: W,
+    seen: usize,
+}
+
 impl<W: Wire + Drop> Handler<W> for Repeating {
-    fn handle<R: Wait>(&self, rt: &R, _number: u64, wire: W) {
+    ghost use Rattle.std.specs.Prelude.{true};
+
+    type Job = Session<W>;
+
+    ghost is_over = { λ _. true };
+
+    fn begin<R: Wait>(&self, rt: &R, _number: u64, wire: W) -> Session<W> {
         let mut wire = wire;
-        let mut seen = self.texts.count.load(Ordering::SeqCst);
+        let seen = self.texts.count.load(Ordering::SeqCst);
         wire.follow(rt, "room");
-        for _ in rt.forever() {
-            if !self.receive(rt, &mut wire) {
-                return;
-            }
-            let Some(now) = self.send_new(rt, &mut wire, seen) else {
-                return;
-            };
-            seen = now;
+        Session { wire, seen }
+    }
+
+    fn turn<R: Wait>(&self, rt: &R, job: &mut Session<W>) -> bool {
+        if !job.wire.is_free(rt) {
+            return true;
         }
+        if !self.receive(rt, &mut job.wire) {
+            return false;
+        }
+        match self.send_new(rt, &mut job.wire, job.seen) {
+            Some(seen) => {
+                job.seen = seen;
+                true
+            }
+            None => false,
+        }
+    }
+
+    fn end<R: Wait>(&self, _rt: &R, job: Session<W>) {
+        drop(job);
     }
 }
