@@ -1,1 +1,2 @@
 mod Visits
+mod Turned

@@ -1,4 +1,4 @@
-//! A session over the documents of a service.
+//! A session over the documents of a service, from its first text to its end.
 ghost use Rattle.std.specs.Prelude.{◌≡◌};
 ghost use Rattle.fluid_hosting.specs.Hosting.{Hosts};
 

@@ -29,9 +29,9 @@ use Rattle.fluid_session.specs.Ends.{end_of, wire_end, behind_text, most_unread}
 use Rattle.fluid_session.specs.Sending.{Passes, SendsAll, out_texts}
 use Rattle.fluid_session.specs.Events.{Event, Stand, IsReached, AreEvents, AreWhole, texts_of, history_of, counted_with, counted_behind, Round, Collection, IsHeardApart, behind}
 use Rattle.fluid_session.specs.Events.Event.{brings, hears}
-use Rattle.fluid_session.specs.Running.{EndsIn, Stops, GoesOrStops, StaysBehind, Runs}
+use Rattle.fluid_session.specs.Running.{EndsIn, Stops, GoesOrStops, StaysBehind, Runs, IsFed, IsHeard, IsTurn, FeedsOnce, HearsOnce, TurnsOnce}
 use Rattle.fluid_session.specs.Running.Stops.{at_end, at_long, at_receive, at_feed, at_reply, at_text, at_collection, at_count}
-use Rattle.fluid_session.proofs.Sent.{passes_nothing, passes_by, passes_then, cause_later}
+use Rattle.fluid_session.proofs.Sent.{passes_nothing, passes_by, passes_then, cause_later, rose_later}
 
 -- ---- lists of events
 
@@ -98,25 +98,58 @@ runs_then s m t old mid new had have has result first second =
       by = by_then first.events second.events second.behind_them t.talk old mid second.mid new has result first.by.0 before.faults second.by;
     }
 
+-- ---- one turn
+
+one : (a b : List Event) (result : Result (Unit {0}) SessionEnd) (old mid new : Wiring) → old.quiets ≤ mid.quiets → IsFed a (Ok tt) → IsHeard b result mid new → IsTurn (a ++ b) result old new
+one [] b result old mid new later fed heard = absurd fed
+one (brings c ∷ []) [] (Ok done) old mid new later fed heard = rose_later old.quiets mid.quiets new.quiets later heard
+one (brings c ∷ []) [] (Err end) old mid new later fed heard = tt
+one (brings c ∷ []) (hears r ∷ []) result old mid new later fed heard = tt
+one (brings c ∷ []) (hears r ∷ e ∷ es) result old mid new later fed heard = absurd heard
+one (brings c ∷ []) (brings d ∷ es) result old mid new later fed heard = absurd heard
+one (brings c ∷ e ∷ es) b result old mid new later fed heard = absurd fed
+one (hears r ∷ es) b result old mid new later fed heard = absurd fed
+
+-- what was collected, and then what was heard
+pub turned : (s m t : Stand) (old mid new : Wiring) (had have has : Tally) (result : Result (Unit {0}) SessionEnd)
+    → FeedsOnce s m old mid had have (Ok tt) → HearsOnce m t mid new have has result → TurnsOnce s t old new had has result
+unfolding runs_then
+turned s m t old mid new had have has result first second =
+    let later : old.quiets ≤ mid.quiets = subst (λ (w : Wiring). old.quiets ≤ w.quiets) (sym first.runs.by.1.1.1) first.runs.passes.quiets in
+    record {
+      runs = runs_then s m t old mid new had have has result first.runs second.runs;
+      once = one first.runs.events second.runs.events result old mid new later first.once second.once;
+    }
+
+fed_only : (events : List Event) (end : SessionEnd) (old new : Wiring) → IsFed events (Err end) → IsTurn events (Err end) old new
+fed_only [] end old new fed = tt
+fed_only (brings c ∷ []) end old new fed = tt
+fed_only (brings c ∷ e ∷ es) end old new fed = absurd fed
+fed_only (hears r ∷ es) end old new fed = absurd fed
+
+-- what was collected ended it
+pub turned_fed : (s t : Stand) (old new : Wiring) (had has : Tally) (end : SessionEnd) → FeedsOnce s t old new had has (Err end) → TurnsOnce s t old new had has (Err end)
+turned_fed s t old new had has end fed = record { runs = fed.runs; once = fed_only fed.runs.events end old new fed.once }
+
 -- ---- runs of no event
 
 stays_same : (w : Wiring) → StaysBehind w w
 stays_same w = record { history = refl; faults = omega arith }
 
-pub runs_still : (s : Stand) (tally : Tally) (old new : Wiring) → tally.unread < most_unread → new.history ≡ old.history → new.texts ≡ old.texts → old.faults ≤ new.faults
+pub runs_still : (s : Stand) (tally : Tally) (old new : Wiring) → tally.unread < most_unread → new.history ≡ old.history → new.texts ≡ old.texts → old.quiets ≤ new.quiets → old.faults ≤ new.faults
     → Runs s s old new tally tally (Ok tt)
-runs_still s tally old new few same texts later = record {
+runs_still s tally old new few same texts quiets later = record {
   events = [];
   behind_them = s.talk;
   are = refl;
   mid = new;
-  passes = passes_by old new same texts later;
+  passes = passes_by old new same texts quiets later;
   stays = stays_same new;
   counted = refl;
   by = (tt, (refl, (few, refl)));
 }
 
-pub runs_stop : (s : Stand) (tally : Tally) (old new : Wiring) (end : SessionEnd) → new.history ≡ old.history → old.faults ≤ new.faults
+runs_stop : (s : Stand) (tally : Tally) (old new : Wiring) (end : SessionEnd) → new.history ≡ old.history → old.faults ≤ new.faults
     → Stops [] s.talk s.talk old old new tally end → Runs s s old new tally tally (Err end)
 runs_stop s tally old new end same later stops = record {
   events = [];
@@ -134,60 +167,69 @@ no_fault a e same = cc
 
 -- a collection that failed
 pub fails_collecting : (s t : Talking) (store : Storing) (tally : Tally) (w : Wiring) (fault : TalkFault) → tally.unread < most_unread → Collects s t (Err fault)
-    → Runs (record { talk = s; store = store }) (record { talk = t; store = store }) w w tally tally (Err (end_of fault))
+    → FeedsOnce (record { talk = s; store = store }) (record { talk = t; store = store }) w w tally tally (Err (end_of fault))
 fails_collecting s t store tally w fault few collects = by (is_connected s.voice) refl
   where
-    by : (b : Bool) → is_connected s.voice ≡ b → Runs (record { talk = s; store = store }) (record { talk = t; store = store }) w w tally tally (Err (end_of fault))
+    by : (b : Bool) → is_connected s.voice ≡ b → FeedsOnce (record { talk = s; store = store }) (record { talk = t; store = store }) w w tally tally (Err (end_of fault))
     by true joined = record {
-      events = [];
-      behind_them = s;
-      are = refl;
-      mid = w;
-      passes = passes_nothing w;
-      stays = stays_same w;
-      counted = refl;
-      by = at_collection fault refl tt few joined (collects.connected joined);
+      runs = record {
+        events = [];
+        behind_them = s;
+        are = refl;
+        mid = w;
+        passes = passes_nothing w;
+        stays = stays_same w;
+        counted = refl;
+        by = at_collection fault refl tt few joined (collects.connected joined);
+      };
+      once = tt;
     }
     by false apart = absurd (no_fault _ _ (collects.apart apart).0)
 
 -- ---- a collection
 
 pub fed_well : (s t : Talking) (store : Storing) (tally : Tally) (old new : Wiring) (given : List Reply) → tally.unread < most_unread → Collects s t (Ok given) → IsSound t → SendsAll old new given (Ok tt)
-    → Runs (record { talk = s; store = store }) (record { talk = t; store = store }) old new tally tally (Ok tt)
+    → FeedsOnce (record { talk = s; store = store }) (record { talk = t; store = store }) old new tally tally (Ok tt)
 fed_well s t store tally old new given few collects sound sends = record {
-  events = brings (record { from = s; to = t; given = given; sent = sends.sent; sending = Ok tt }) ∷ [];
-  behind_them = t;
-  are = (refl, (record { collects = collects; sound = sound; is_sent = sends.is_sent }, refl));
-  mid = new;
-  passes = subst (λ l. Passes l old new) (sym (append-nil (out_texts sends.sent))) sends.passes;
-  stays = stays_same new;
-  counted = refl;
-  by = ((refl, tt), (refl, (few, refl)));
+  runs = record {
+    events = brings (record { from = s; to = t; given = given; sent = sends.sent; sending = Ok tt }) ∷ [];
+    behind_them = t;
+    are = (refl, (record { collects = collects; sound = sound; is_sent = sends.is_sent }, refl));
+    mid = new;
+    passes = subst (λ l. Passes l old new) (sym (append-nil (out_texts sends.sent))) sends.passes;
+    stays = stays_same new;
+    counted = refl;
+    by = ((refl, tt), (refl, (few, refl)));
+  };
+  once = tt;
 }
 
 pub fed_badly : (s t : Talking) (store : Storing) (tally : Tally) (old new : Wiring) (given : List Reply) (fault : WireFault) → tally.unread < most_unread → Collects s t (Ok given) → IsSound t
-    → SendsAll old new given (Err fault) → Runs (record { talk = s; store = store }) (record { talk = t; store = store }) old new tally tally (Err (wire_end fault))
+    → SendsAll old new given (Err fault) → FeedsOnce (record { talk = s; store = store }) (record { talk = t; store = store }) old new tally tally (Err (wire_end fault))
 fed_badly s t store tally old new given fault few collects sound sends =
     let c : Collection = record { from = s; to = t; given = given; sent = sends.sent; sending = Err fault } in
     record {
-      events = brings c ∷ [];
-      behind_them = t;
-      are = (refl, (record { collects = collects; sound = sound; is_sent = sends.is_sent }, refl));
-      mid = new;
-      passes = subst (λ l. Passes l old new) (sym (append-nil (out_texts sends.sent))) sends.passes;
-      stays = stays_same new;
-      counted = refl;
-      by = at_feed c fault refl (record { front = []; are = refl; whole = tt }) few refl refl sends.cause;
+      runs = record {
+        events = brings c ∷ [];
+        behind_them = t;
+        are = (refl, (record { collects = collects; sound = sound; is_sent = sends.is_sent }, refl));
+        mid = new;
+        passes = subst (λ l. Passes l old new) (sym (append-nil (out_texts sends.sent))) sends.passes;
+        stays = stays_same new;
+        counted = refl;
+        by = at_feed c fault refl (record { front = []; are = refl; whole = tt }) few refl refl sends.cause;
+      };
+      once = tt;
     }
 
 -- ---- a text
 
 -- what a text that came in at the wire `w` adds, with its replies
-heard_passes : (w old new : Wiring) (text : List ℕ) (given : List Reply) (result : Result (Unit {0}) WireFault) → ReceivesText w old text → w.faults ≤ old.faults
+heard_passes : (w old new : Wiring) (text : List ℕ) (given : List Reply) (result : Result (Unit {0}) WireFault) → ReceivesText w old text → Stays w old
     → (sends : SendsAll old new given result) → Passes ((In text ∷ out_texts sends.sent) ++ []) w new
 heard_passes w old new text given result came later sends =
     subst (λ l. Passes l w new) (sym (append-nil (In text ∷ out_texts sends.sent)))
-    (passes_then (In text ∷ []) (out_texts sends.sent) w old new (record { adds = came.adds; taken = came.next; faults = later }) sends.passes)
+    (passes_then (In text ∷ []) (out_texts sends.sent) w old new (record { adds = came.adds; taken = came.next; quiets = later.quiets; faults = later.faults }) sends.passes)
 
 nat_le-le : (a b : ℕ) → nat_le a b ≡ true → a ≤ b
 nat_le-le a b h = grind arith
@@ -215,31 +257,34 @@ heard_by r t None (Ok done) w old new tally failed sending few later given sends
         at_count (ap Abused same) ((sending, failed), tt) same refl
     by false below = (((sending, failed), tt), (refl, (nat_le-lt most_unread tally.unread below, refl)))
 
-pub heard_runs : (s t : Talking) (before now : Storing) (had : Tally) (w old new : Wiring) (text : List ℕ) (moment : ℕ) (h : Heard) (result : Result (Unit {0}) WireFault) → had.unread < most_unread → moment ≤ largest
-    → IsReached s → is_used s.voice ≡ false → Hears s t before now text moment h → IsSound t → ReceivesText w old text → w.faults ≤ old.faults → SendsAll old new h.replies result
-    → Runs (record { talk = s; store = before }) (record { talk = t; store = now }) w new had (plus had (counts_of h)) (behind_text h.fault result (plus had (counts_of h)).unread)
+heard_runs : (s t : Talking) (before now : Storing) (had : Tally) (w old new : Wiring) (text : List ℕ) (moment : ℕ) (h : Heard) (result : Result (Unit {0}) WireFault) → had.unread < most_unread → moment ≤ largest
+    → IsReached s → is_used s.voice ≡ false → Hears s t before now text moment h → IsSound t → ReceivesText w old text → Stays w old → SendsAll old new h.replies result
+    → HearsOnce (record { talk = s; store = before }) (record { talk = t; store = now }) w new had (plus had (counts_of h)) (behind_text h.fault result (plus had (counts_of h)).unread)
 heard_runs s t before now had w old new text moment h result few timely reached unused hears_it sound came later sends = by (is_connected s.voice) refl
   where
     run : (reached_is : Option (List ℕ))
         → (is_connected s.voice ≡ false
         → IsHeardApart (record { from = s; to = t; before = before; now = now; text = text; moment = moment; reached = reached_is; done = hears_it.done; heard = h; sent = sends.sent; sending = result }))
         → (is_connected s.voice ≡ true → reached_is ≡ None)
-        → Runs (record { talk = s; store = before }) (record { talk = t; store = now }) w new had (plus had (counts_of h)) (behind_text h.fault result (plus had (counts_of h)).unread)
+        → HearsOnce (record { talk = s; store = before }) (record { talk = t; store = now }) w new had (plus had (counts_of h)) (behind_text h.fault result (plus had (counts_of h)).unread)
     run reached_is apart joined =
         let r : Round = record { from = s; to = t; before = before; now = now; text = text; moment = moment; reached = reached_is; done = hears_it.done; heard = h; sent = sends.sent; sending = result } in
         record {
-          events = hears r ∷ [];
-          behind_them = t;
-          are = ((refl, refl), (record { reached = reached; timely = timely; unused = unused; hears_it = hears_it.heard; apart = apart; joined = joined; sound = sound; is_sent = sends.is_sent }, refl));
-          mid = new;
-          passes = heard_passes w old new text h.replies result came later sends;
-          stays = stays_same new;
-          counted = refl;
-          by = heard_by r t h.fault result w old new (plus had (counts_of h)) refl refl (capped_few (has_front_nack h.replies) had.unread few) later h.replies sends;
+          runs = record {
+            events = hears r ∷ [];
+            behind_them = t;
+            are = ((refl, refl), (record { reached = reached; timely = timely; unused = unused; hears_it = hears_it.heard; apart = apart; joined = joined; sound = sound; is_sent = sends.is_sent }, refl));
+            mid = new;
+            passes = heard_passes w old new text h.replies result came later sends;
+            stays = stays_same new;
+            counted = refl;
+            by = heard_by r t h.fault result w old new (plus had (counts_of h)) refl refl (capped_few (has_front_nack h.replies) had.unread few) later.faults h.replies sends;
+          };
+          once = tt;
         }
 
     by : (b : Bool) → is_connected s.voice ≡ b
-        → Runs (record { talk = s; store = before }) (record { talk = t; store = now }) w new had (plus had (counts_of h)) (behind_text h.fault result (plus had (counts_of h)).unread)
+        → HearsOnce (record { talk = s; store = before }) (record { talk = t; store = now }) w new had (plus had (counts_of h)) (behind_text h.fault result (plus had (counts_of h)).unread)
     by true joined = run None (λ still. absurd (false≢true (sym still ∙ joined))) (λ again. refl)
     by false still =
         let a : HearsApart s t before (acts_of s.voice text moment) hears_it.done h.fault = hears_it.heard.does.apart still in
@@ -250,14 +295,14 @@ pub answered : (s t : Talking) (before now : Storing) (had has : Tally) (w mid o
     (result : Result (Unit {0}) WireFault) (end : Result (Unit {0}) SessionEnd) → had.unread < most_unread → moment ≤ largest → IsReached s → is_used s.voice ≡ false → Hears s t before now text moment h → IsSound t → looked ≡ h.replies
     → replies ≡ h.replies → unread ≡ (if has_front_nack looked then 1 else 0)
     → has ≡ plus had (record { sequenced = h.sequenced; dropped = h.dropped; nacked = h.nacked; absorbed = h.absorbed; unread = unread }) → old ≡ mid
-    → SendsAll old new replies result → end ≡ behind_text h.fault result has.unread → ReceivesText w mid text → w.faults ≤ mid.faults
-    → Runs (record { talk = s; store = before }) (record { talk = t; store = now }) w new had has end
+    → SendsAll old new replies result → end ≡ behind_text h.fault result has.unread → ReceivesText w mid text → Stays w mid
+    → HearsOnce (record { talk = s; store = before }) (record { talk = t; store = now }) w new had has end
 answered s t before now had has w mid old new text moment h unread looked replies result end few timely reached unused hears_it sound looked_is replies_are unread_is counted followed sends end_is came later =
     let told : has ≡ plus had (counts_of h) =
     counted ∙ ap (λ u. plus had (record { sequenced = h.sequenced; dropped = h.dropped; nacked = h.nacked; absorbed = h.absorbed; unread = u }))
     (unread_is ∙ ap (λ l. if has_front_nack l then 1 else 0) looked_is) in
-    subst (λ e. Runs (record { talk = s; store = before }) (record { talk = t; store = now }) w new had has e) (sym end_is)
-    (subst (λ k. Runs (record { talk = s; store = before }) (record { talk = t; store = now }) w new had k (behind_text h.fault result k.unread)) (sym told)
+    subst (λ e. HearsOnce (record { talk = s; store = before }) (record { talk = t; store = now }) w new had has e) (sym end_is)
+    (subst (λ k. HearsOnce (record { talk = s; store = before }) (record { talk = t; store = now }) w new had k (behind_text h.fault result k.unread)) (sym told)
     (heard_runs s t before now had w mid new text moment h result few timely reached unused hears_it sound came later (subst (λ l. SendsAll mid new l result) replies_are (subst (λ m. SendsAll m new replies result) followed sends))))
 
 -- ---- what a wire answers
@@ -265,34 +310,42 @@ answered s t before now had has w mid old new text moment h unread looked replie
 pub received_text : (w mid : Wiring) (answer : Recv) (text now : List ℕ) → Receives w mid (Ok answer) → answer ≡ Text text → now ≡ text → ReceivesText w mid now
 received_text w mid answer text now does is same = subst (λ t. ReceivesText w mid t) (sym same) (subst (λ r. Receives w mid (Ok r)) is does)
 
-pub received_quiet : (s : Stand) (tally : Tally) (old new : Wiring) (answer : Recv) → tally.unread < most_unread → Receives old new (Ok answer) → answer ≡ Quiet → Stays old new → Runs s s old new tally tally (Ok tt)
+heard_nothing : (s : Stand) (tally : Tally) (old new : Wiring) → tally.unread < most_unread → ReceivesQuiet old new → Stays old new → HearsOnce s s old new tally tally (Ok tt)
+unfolding runs_still
+heard_nothing s tally old new few quiet stays = record { runs = runs_still s tally old new few quiet.same quiet.texts stays.quiets stays.faults; once = quiet.rose }
+
+heard_stop : (s : Stand) (tally : Tally) (old new : Wiring) (end : SessionEnd) → new.history ≡ old.history → old.faults ≤ new.faults → Stops [] s.talk s.talk old old new tally end
+    → HearsOnce s s old new tally tally (Err end)
+unfolding runs_stop
+heard_stop s tally old new end same later stops = record { runs = runs_stop s tally old new end same later stops; once = tt }
+
+pub received_quiet : (s : Stand) (tally : Tally) (old new : Wiring) (answer : Recv) → tally.unread < most_unread → Receives old new (Ok answer) → answer ≡ Quiet → Stays old new → HearsOnce s s old new tally tally (Ok tt)
 received_quiet s tally old new answer few does is stays =
-    let quiet : ReceivesQuiet old new = subst (λ r. Receives old new (Ok r)) is does in
-    runs_still s tally old new few quiet.same quiet.texts stays.faults
+    heard_nothing s tally old new few (subst (λ r. Receives old new (Ok r)) is does) stays
 
 pub received_end : (s : Stand) (tally : Tally) (old new : Wiring) (answer : Recv) → tally.unread < most_unread → IsReached s.talk → Receives old new (Ok answer) → answer ≡ End → Stays old new
-    → Runs s s old new tally tally (Err Closed)
+    → HearsOnce s s old new tally tally (Err Closed)
 received_end s tally old new answer few reached does is stays =
     let end : ReceivesEnd old new = subst (λ r. Receives old new (Ok r)) is does in
-    runs_stop s tally old new Closed end.same stays.faults (at_end refl tt few refl reached end.ended)
+    heard_stop s tally old new Closed end.same stays.faults (at_end refl tt few refl reached end.ended)
 
 pub received_long : (s : Stand) (tally : Tally) (old new : Wiring) (answer : Recv) (size : ℕ) → tally.unread < most_unread → Receives old new (Ok answer) → answer ≡ RecvLong size → Stays old new
-    → Runs s s old new tally tally (Err (TooLong size))
+    → HearsOnce s s old new tally tally (Err (TooLong size))
 received_long s tally old new answer size few does is stays =
     let long : ReceivesTooLong old new size = subst (λ r. Receives old new (Ok r)) is does in
-    runs_stop s tally old new (TooLong size) long.same stays.faults (at_long size refl tt few refl long.above long.next)
+    heard_stop s tally old new (TooLong size) long.same stays.faults (at_long size refl tt few refl long.above long.next)
 
 pub received_failed : (s : Stand) (tally : Tally) (old new : Wiring) (fault : WireFault) → tally.unread < most_unread → Receives old new (Err fault) → fault ≡ wire.Failed → Stays old new
-    → Runs s s old new tally tally (Err WireFailed)
+    → HearsOnce s s old new tally tally (Err WireFailed)
 received_failed s tally old new fault few does is stays =
     let failed : ReceivesFault old new = subst (λ f. Receives old new (Err f)) is does in
-    runs_stop s tally old new WireFailed failed.same stays.faults (at_receive wire.Failed refl tt few refl failed.rose)
+    heard_stop s tally old new WireFailed failed.same stays.faults (at_receive wire.Failed refl tt few refl failed.rose)
 
 pub received_refused : (s : Stand) (tally : Tally) (old new : Wiring) (fault : WireFault) → tally.unread < most_unread → Receives old new (Err fault) → fault ≡ wire.NoMemory → Stays old new
-    → Runs s s old new tally tally (Err NoMemory)
+    → HearsOnce s s old new tally tally (Err NoMemory)
 received_refused s tally old new fault few does is stays =
     let refused : AddsNothing old new = subst (λ f. Receives old new (Err f)) is does in
-    runs_stop s tally old new NoMemory refused stays.faults (at_receive wire.NoMemory refl tt few refl tt)
+    heard_stop s tally old new NoMemory refused stays.faults (at_receive wire.NoMemory refl tt few refl tt)
 
 -- ---- what a collection leaves
 

@@ -50,16 +50,17 @@ taken_then a b old mid new first second =
 
 -- nothing went by
 pub passes_nothing : (w : Wiring) → Passes [] w w
-passes_nothing w = record { adds = nothing_more w.history; taken = none_taken w.texts; faults = omega arith }
+passes_nothing w = record { adds = nothing_more w.history; taken = none_taken w.texts; quiets = omega arith; faults = omega arith }
 
--- history and texts stay, and so more faults at most were counted
-pub passes_by : (old new : Wiring) → new.history ≡ old.history → new.texts ≡ old.texts → old.faults ≤ new.faults → Passes [] old new
-passes_by old new same texts later = record { adds = same ∙ nothing_more old.history; taken = sym texts ∙ none_taken new.texts; faults = later }
+-- history and texts stay, and so more quiet answers and faults at most were counted
+pub passes_by : (old new : Wiring) → new.history ≡ old.history → new.texts ≡ old.texts → old.quiets ≤ new.quiets → old.faults ≤ new.faults → Passes [] old new
+passes_by old new same texts quiets later = record { adds = same ∙ nothing_more old.history; taken = sym texts ∙ none_taken new.texts; quiets = quiets; faults = later }
 
 pub passes_then : (a b : List WireText) (old mid new : Wiring) → Passes a old mid → Passes b mid new → Passes (a ++ b) old new
 passes_then a b old mid new first second = record {
   adds = second.adds ∙ ap (option_map (λ history. history ++ b)) first.adds ∙ more_of_more a b old.history;
   taken = taken_then a b old.texts mid.texts new.texts first.taken second.taken;
+  quiets = let one = first.quiets in let two = second.quiets in omega arith;
   faults = let one = first.faults in let two = second.faults in omega arith;
 }
 

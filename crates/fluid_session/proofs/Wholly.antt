@@ -1,5 +1,5 @@
 -- A whole session, from its account.
-use Rattle.std.proofs.Common.{◌≡◌, inl, inr, ℕ, ◌+◌, ◌-◌, ◌^◌, ◌<◌, ◌≤◌, Bool, true, false, List, [], ◌∷◌, ◌++◌, length, refl, sym, ap, subst, ◌∙◌, arith, append_assoc, append-nil, length-append, zero-add}
+use Rattle.std.proofs.Common.{◌≡◌, inl, inr, ℕ, ◌+◌, ◌-◌, ◌^◌, ◌<◌, ◌≤◌, Bool, true, false, List, [], ◌∷◌, ◌++◌, length, Err, refl, sym, ap, subst, ◌∙◌, arith, append_assoc, append-nil, length-append, zero-add}
 use Rattle.std.specs.Option.{option_map}
 use Rattle.std.proofs.lemmas.Bool.{false≢true}
 use Rattle.fluid_turn.specs.Entries.{IsPrefix, made_by}
@@ -24,10 +24,10 @@ use Rattle.fluid_session.specs.Counted.{nothing, counts_of}
 use Rattle.fluid_session.specs.Ends.{most_unread}
 use Rattle.fluid_session.specs.Events.{Event, Stand, Round, IsReached, AreWhole, counted_behind}
 use Rattle.fluid_session.specs.Events.Event.{brings, hears}
-use Rattle.fluid_session.specs.Running.{EndsIn, Stops}
+use Rattle.fluid_session.specs.Running.{EndsIn, Runs, Stops}
 use Rattle.fluid_session.specs.Running.Stops.{at_end, at_long, at_receive, at_feed, at_reply, at_text, at_collection, at_count}
 use Rattle.fluid_session.specs.Lines.{MayBreakLast, GoesOn, Stretches, HasLeft, HasCounts, Joins, StaysApart, Lines, count_steps, steps_of, steps_of_round, unread_in, entered, entered_in, collected_in}
-use Rattle.fluid_session.specs.Whole.{Account, Serves, HasNumbers}
+use Rattle.fluid_session.specs.Whole.{Account, Concludes, Serves, HasNumbers}
 use Rattle.fluid_session.proofs.Passes.{Connected, Apart, Went, went, stretches, slice-grows, order-prefix, found_prefix, read_between, answered_later, are_read, are_reached, sound_behind}
 use Rattle.fluid_session.proofs.Fronts.{sends_in_order}
 use Rattle.fluid_session.proofs.Nacking.{nacks_in_order}
@@ -273,3 +273,18 @@ serves s u before now old new report account = record { account = account; lines
         stay : Went s to account.runs.events → is_connected account.runs.behind_them.voice ≡ false → StaysApart s account.runs.behind_them u report account.runs.events
         stay (inl j) still = absurd (false≢true (sym still ∙ j.goes_on.still))
         stay (inr a) still = apart_so s u to account.moment report account.tally account.runs.events a closing account.numbers account.runs.counted few
+
+-- turns, the last of which ended the session, and what concludes them
+pub concluded : (s m u : Talking) (before now : Storing) (old new : Wiring) (tally : Tally) (end : SessionEnd) (report : Report)
+    → Runs (record { talk = s; store = before }) (record { talk = m; store = now }) old new nothing tally (Err end) → Concludes m u tally end report → Serves s u before now old new report
+concluded s m u before now old new tally end report runs concludes =
+    serves s u before now old new report (record {
+      last = m;
+      end = end;
+      tally = tally;
+      runs = runs;
+      moment = concludes.moment;
+      timely = concludes.timely;
+      ends = concludes.ends;
+      numbers = concludes.numbers;
+    })

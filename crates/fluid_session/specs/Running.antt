@@ -1,6 +1,6 @@
 -- How a session goes on and why it stops.
-use Rattle.std.specs.Prelude.{◌≡◌, ℕ, ◌<◌, ◌≤◌, true, List, [], ◌∷◌, ◌++◌, Some, None, Result, Ok, Err}
-use Rattle.fluid_io.specs.Causes.{Tells}
+use Rattle.std.specs.Prelude.{◌≡◌, ⊤, ℕ, ◌<◌, ◌≤◌, true, List, [], ◌∷◌, ◌++◌, Some, None, Result, Ok, Err}
+use Rattle.fluid_io.specs.Causes.{Rose, Tells}
 use Rattle.fluid_io.specs.declared.lines.TheConstants.{LONGEST_TEXT}
 use Rattle.fluid_lines.specs.declared.wire.WireFault.{WireFault}
 use Rattle.fluid_lines.specs.Wires.{Wiring, IsLongNext}
@@ -57,3 +57,39 @@ pub record Runs (s t : Stand) (old new : Wiring) (had has : Tally) (result : Res
   pub stays : StaysBehind mid new
   pub counted : has ≡ counted_behind had events
   pub by : GoesOrStops events behind_them t.talk old mid new has result
+
+-- ---- one turn
+
+-- it collects; where that failed it does nothing
+abbrev pub IsFed : List Event → Result (Unit {0}) SessionEnd → Type 0
+IsFed [] (Err end) = ⊤
+IsFed (brings c ∷ []) result = ⊤
+IsFed events result = ⊥
+
+-- it hears one text; or none, where it ends or a receive was quiet
+abbrev pub IsHeard : List Event → Result (Unit {0}) SessionEnd → (old new : Wiring) → Type 0
+IsHeard [] (Ok done) old new = Rose old.quiets new.quiets
+IsHeard [] (Err end) old new = ⊤
+IsHeard (hears r ∷ []) result old new = ⊤
+IsHeard events result old new = ⊥
+
+-- one behind the other
+abbrev pub IsTurn : List Event → Result (Unit {0}) SessionEnd → (old new : Wiring) → Type 0
+IsTurn [] (Err end) old new = ⊤
+IsTurn (brings c ∷ []) (Ok done) old new = Rose old.quiets new.quiets
+IsTurn (brings c ∷ []) (Err end) old new = ⊤
+IsTurn (brings c ∷ hears r ∷ []) result old new = ⊤
+IsTurn events result old new = ⊥
+
+pub record FeedsOnce (s t : Stand) (old new : Wiring) (had has : Tally) (result : Result (Unit {0}) SessionEnd) : Type 0 where
+  pub runs : Runs s t old new had has result
+  pub once : IsFed runs.events result
+
+pub record HearsOnce (s t : Stand) (old new : Wiring) (had has : Tally) (result : Result (Unit {0}) SessionEnd) : Type 0 where
+  pub runs : Runs s t old new had has result
+  pub once : IsHeard runs.events result old new
+
+-- what one turn did: one collection, and behind it one receive
+pub record TurnsOnce (s t : Stand) (old new : Wiring) (had has : Tally) (result : Result (Unit {0}) SessionEnd) : Type 0 where
+  pub runs : Runs s t old new had has result
+  pub once : IsTurn runs.events result old new

@@ -29,6 +29,7 @@ ins_of (Out text ∷ texts) = ins_of texts
 pub record Passes (texts : List WireText) (old new : Wiring) : Type 0 where
   pub adds : AddsAll texts old new
   pub taken : old.texts ≡ option_map (λ more. ins_of texts ++ more) new.texts
+  pub quiets : old.quiets ≤ new.quiets
   pub faults : old.faults ≤ new.faults
 
 -- a fault of a wire comes only where its count rose; want of memory is free

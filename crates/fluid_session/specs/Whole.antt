@@ -1,5 +1,5 @@
 -- A whole session: its run, and the leave behind it.
-use Rattle.std.specs.Prelude.{◌≡◌, ◌≤◌, ℕ, false, Result, Err}
+use Rattle.std.specs.Prelude.{◌≡◌, ◌≤◌, ℕ, false, Result, Ok, Err}
 use Rattle.fluid_types.specs.Forms.{largest}
 use Rattle.fluid_store.specs.Storing.{Storing}
 use Rattle.fluid_lines.specs.Wires.{Wiring}
@@ -12,6 +12,7 @@ use Rattle.fluid_session.specs.declared.report.Report.{Report}
 use Rattle.fluid_session.specs.declared.tally.Tally.{Tally}
 use Rattle.fluid_session.specs.Counted.{nothing}
 use Rattle.fluid_session.specs.Ends.{behind_leave}
+use Rattle.fluid_session.specs.Events.{Stand}
 use Rattle.fluid_session.specs.Running.{Runs}
 use Rattle.fluid_session.specs.Lines.{Lines}
 
@@ -29,6 +30,13 @@ pub record HasNumbers (report : Report) (tally : Tally) : Type 0 where
   pub nacked : report.nacked ≡ tally.nacked
   pub absorbed : report.absorbed ≡ tally.absorbed
   pub unread : report.unread ≡ tally.unread
+
+-- behind the last turn, which ended so: one leave was tried, and this is what is reported
+pub record Concludes (m u : Talking) (tally : Tally) (end : SessionEnd) (report : Report) : Type 0 where
+  pub moment : ℕ
+  pub timely : moment ≤ largest
+  pub ends : Ends m u moment end report.end
+  pub numbers : HasNumbers report tally
 
 pub record Account (s u : Talking) (before now : Storing) (old new : Wiring) (report : Report) : Type 0 where
   -- where the connection stood, and why the session ended, before the leave
@@ -49,3 +57,17 @@ pub record Serves (s u : Talking) (before now : Storing) (old new : Wiring) (rep
   pub lines : is_connected s.voice ≡ false → Lines s account.runs.behind_them u account.moment report account.runs.events
   -- what holds of every connection holds of this one, the legality of all that it has seen among it
   pub sound : IsSound u
+
+-- ---- turn by turn
+
+-- what happened between two moments, and then between the second and a third, happened between the first and the third
+abbrev pub TurnsGoOn : Type 0
+TurnsGoOn =
+    (s m t : Stand) (old mid new : Wiring) (had have has : Tally) (result : Result (Unit {0}) SessionEnd) → Runs s m old mid had have (Ok tt) → Runs m t mid new have has result
+    → Runs s t old new had has result
+
+-- turns from a new count on, the last of which ended it, and what concludes them, are a whole session
+abbrev pub TurnsAreSessions : Type 0
+TurnsAreSessions =
+    (s m u : Talking) (before now : Storing) (old new : Wiring) (tally : Tally) (end : SessionEnd) (report : Report)
+    → Runs (record { talk = s; store = before }) (record { talk = m; store = now }) old new nothing tally (Err end) → Concludes m u tally end report → Serves s u before now old new report

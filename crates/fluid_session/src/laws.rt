@@ -1,6 +1,7 @@
 //! What holds of every session, said by functions that do nothing.
 ghost use Rattle.fluid_session.specs.Lines.{FeedsHaveNoGap, TextsEnterInOrder};
 ghost use Rattle.fluid_session.specs.Complete.{EndsWithItsWire};
+ghost use Rattle.fluid_session.specs.Whole.{TurnsAreSessions, TurnsGoOn};
 
 /// What a connected one collects is one stretch of its document's order, without a gap.
 pub fn feeds_have_no_gap()
@@ -16,4 +17,14 @@ pub fn texts_enter_in_order()
 /// memory was wanting.
 pub fn sessions_end_with_their_wires()
     ensures { EndsWithItsWire }
+{}
+
+/// Turns of a session one behind another are one stretch of it.
+pub fn turns_go_on()
+    ensures { TurnsGoOn }
+{}
+
+/// Turns until one of them ends the session, and what concludes them, are a whole session.
+pub fn turns_are_sessions()
+    ensures { TurnsAreSessions }
 {}

@@ -5,11 +5,11 @@ ghost use Rattle.fluid_voice.specs.States.{is_used};
 ghost use Rattle.fluid_session.specs.Counted.{nothing};
 ghost use Rattle.fluid_session.specs.Ends.{with_fault, unless_refused, most_unread};
 ghost use Rattle.fluid_session.specs.Running.{Runs};
-ghost use Rattle.fluid_session.specs.Whole.{Serves, Ends};
+ghost use Rattle.fluid_session.specs.Whole.{Concludes, Serves, Ends};
 
 use crate::report::{Report, SessionEnd};
 use crate::tally::Tally;
-use crate::turning::{cycle, end_of};
+use crate::turning::{end_of, turn};
 use fluid_ends::TalkFault;
 use fluid_io::Clock;
 use fluid_lines::Wire;
@@ -35,6 +35,21 @@ pub fn converse<R: Wait, T: Conversation, O: Objects, W: Wire, C: Clock>(
 {
     let mut tally = Tally::new();
     let end = run(rt, alloc, service, objects, wire, clock, talk, &mut tally);
+    conclude(rt, alloc, clock, talk, tally, end)
+}
+
+/// Tries one leave behind the turn that ended a session, and reports.
+pub fn conclude<R: Wait, T: Conversation, C: Clock>(
+    rt: &R,
+    alloc: Global,
+    clock: &C,
+    talk: &mut T,
+    tally: Tally,
+    end: SessionEnd,
+) -> Report
+    ensures service { (x : T.Service) → T.belongs talk.old x → T.belongs talk.new x }
+    ensures does { Concludes (T.seen talk.old) (T.seen talk.new) tally end result }
+{
     let moment = clock.now();
     let end = leave(rt, alloc, talk, moment, end);
     let Tally {
@@ -71,8 +86,8 @@ fn run<R: Wait, T: Conversation, O: Objects, W: Wire, C: Clock>(
     ensures service { T.belongs talk.new service.now }
     ensures does { Runs (record { talk = T.seen talk.old; store = O.seen objects.old }) (record { talk = T.seen talk.new; store = O.seen objects.new }) (W.seen wire.old) (W.seen wire.new) tally.old tally.new (Err result) }
 {
-    'cycles: for _ in rt.forever() {
-        match cycle(rt, alloc, service, objects, wire, clock, talk, tally) {
+    'turns: for _ in rt.forever() {
+        match turn(rt, alloc, service, objects, wire, clock, talk, tally) {
             Ok(()) => {}
             Err(end) => return end,
         }

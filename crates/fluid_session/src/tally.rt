@@ -7,7 +7,7 @@ pub const MOST_UNREAD: u64 = 1000;
 
 /// What has been counted so far. A number stands still at the end of its type.
 #[derive(Clone, Copy)]
-pub(crate) struct Tally {
+pub struct Tally {
     pub(crate) sequenced: u64,
     pub(crate) dropped: u64,
     pub(crate) nacked: u64,
@@ -16,7 +16,7 @@ pub(crate) struct Tally {
 }
 
 impl Tally {
-    pub(crate) fn new() -> Tally
+    pub fn new() -> Tally
         ensures { result ≡ nothing }
     {
         Tally {

@@ -1,15 +1,15 @@
-// One cycle of a session.
+// One turn of a session.
 ghost use Rattle.std.specs.Prelude.{◌≡◌, ◌<◌, ◌≤◌, false, length, OnOk, if◌then◌else◌};
 ghost use Rattle.fluid_types.specs.Forms.{largest};
 ghost use Rattle.fluid_readback.specs.Laws.{longest_text};
 ghost use Rattle.fluid_store.specs.Storing.{Storing};
-ghost use Rattle.fluid_lines.specs.Wires.{Wiring, ReceivesText};
+ghost use Rattle.fluid_lines.specs.Wires.{Wiring, ReceivesText, Stays};
 ghost use Rattle.fluid_voice.specs.States.{is_used};
 ghost use Rattle.fluid_voice.specs.Replies.{has_front_nack};
 ghost use Rattle.fluid_session.specs.declared.tally.Tally.{Tally as Counts};
 ghost use Rattle.fluid_session.specs.Ends.{end_of, wire_end, behind_text, most_unread};
 ghost use Rattle.fluid_session.specs.Events.{IsReached};
-ghost use Rattle.fluid_session.specs.Running.{Runs};
+ghost use Rattle.fluid_session.specs.Running.{FeedsOnce, HearsOnce, TurnsOnce};
 
 use crate::report::SessionEnd;
 use crate::sending::{send_all, send_feed};
@@ -26,8 +26,10 @@ use fluid_voice::{VoiceState, has_front_nack, is_connected};
 use std::alloc::Global;
 use std::sync::Wait;
 
-/// Collects and sends what wasn't delivered, receives a text, hears it and sends the replies.
-pub(crate) fn cycle<R: Wait, T: Conversation, O: Objects, W: Wire, C: Clock>(
+/// One turn of a session: it collects and sends what wasn't delivered, receives once, hears the text that came in and sends the replies.
+/// Where the wire is quiet, nothing more is done. It waits in the wire, for its document, for a shelf and for the store. Behind an Err the session
+/// is concluded.
+pub fn turn<R: Wait, T: Conversation, O: Objects, W: Wire, C: Clock>(
     rt: &R,
     alloc: Global,
     service: &T::Service,
@@ -42,7 +44,7 @@ pub(crate) fn cycle<R: Wait, T: Conversation, O: Objects, W: Wire, C: Clock>(
     requires few { tally.old.unread < most_unread }
     ensures service { T.belongs talk.new service.now }
     ensures unused { is_used (T.seen talk.new).voice ≡ false }
-    ensures does { Runs (record { talk = T.seen talk.old; store = O.seen objects.old }) (record { talk = T.seen talk.new; store = O.seen objects.new }) (W.seen wire.old) (W.seen wire.new) tally.old tally.new result }
+    ensures does { TurnsOnce (record { talk = T.seen talk.old; store = O.seen objects.old }) (record { talk = T.seen talk.new; store = O.seen objects.new }) (W.seen wire.old) (W.seen wire.new) tally.old tally.new result }
 {
     match feed(rt, alloc, talk, wire) {
         Ok(()) => {}
@@ -82,7 +84,7 @@ fn feed<R: Wait, T: Conversation, W: Wire>(
     ensures service { (x : T.Service) → T.belongs talk.old x → T.belongs talk.new x }
     ensures unused { is_used (T.seen talk.new).voice ≡ false }
     ensures reached { OnOk result (IsReached (T.seen talk.new)) }
-    ensures does { (store : Storing) (tally : Counts) → tally.unread < most_unread → Runs (record { talk = T.seen talk.old; store = store }) (record { talk = T.seen talk.new; store = store }) (W.seen wire.old) (W.seen wire.new) tally tally result }
+    ensures does { (store : Storing) (tally : Counts) → tally.unread < most_unread → FeedsOnce (record { talk = T.seen talk.old; store = store }) (record { talk = T.seen talk.new; store = store }) (W.seen wire.old) (W.seen wire.new) tally tally result }
 {
     let events = match talk.collect(rt, alloc) {
         Ok(events) => events,
@@ -115,7 +117,7 @@ fn answer<R: Wait, T: Conversation, O: Objects, W: Wire>(
     requires few { tally.old.unread < most_unread }
     ensures service { T.belongs talk.new service.now }
     ensures unused { is_used (T.seen talk.new).voice ≡ false }
-    ensures does { (w : Wiring) → ReceivesText w (W.seen wire.old) text.now → w.faults ≤ (W.seen wire.old).faults → Runs (record { talk = T.seen talk.old; store = O.seen objects.old }) (record { talk = T.seen talk.new; store = O.seen objects.new }) w (W.seen wire.new) tally.old tally.new result }
+    ensures does { (w : Wiring) → ReceivesText w (W.seen wire.old) text.now → Stays w (W.seen wire.old) → HearsOnce (record { talk = T.seen talk.old; store = O.seen objects.old }) (record { talk = T.seen talk.new; store = O.seen objects.new }) w (W.seen wire.new) tally.old tally.new result }
 {
     let apart = !is_connected(talk.state());
     let Heard {
