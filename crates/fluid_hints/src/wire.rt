@@ -91,4 +91,12 @@ impl<'a, W: Wire> Wire for HintWire<'a, W> {
     fn follow<R: Wait>(&mut self, rt: &R, name: &str) {
         self.wire.follow(rt, name);
     }
+
+    fn is_free<R: Wait>(&mut self, rt: &R) -> bool {
+        self.wire.is_free(rt)
+    }
+
+    fn is_handed_on<R: Wait>(&mut self, rt: &R) -> bool {
+        self.wire.is_handed_on(rt)
+    }
 }

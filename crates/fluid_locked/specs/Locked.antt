@@ -5,11 +5,6 @@ use Rattle.fluid_store.specs.declared.fault.ObjectFault.{ObjectFault}
 use Rattle.fluid_store.specs.declared.fault.ObjectFault.TheVariants.{Failed, NoMemory}
 use Rattle.fluid_store.specs.Storing.{Storing}
 
--- the faults and the gets that were counted
-pub record Counts : Type 0 where
-  pub faults : ℕ
-  pub gets : ℕ
-
 -- nothing is told of what is held
 abbrev pub locked : ℕ → ℕ → Storing
 locked faults gets = record { content = None; faults = faults; gets = gets }

@@ -4,6 +4,7 @@ ghost use Rattle.fluid_io.specs.Causes.{one_more};
 ghost use Rattle.fluid_store.specs.Storing.{IsCounted};
 ghost use Rattle.fluid_locked.specs.Locked.{faults_after};
 
+use crate::counts::Counts;
 use fluid_json::Bytes;
 use fluid_store::{ObjectFault, Objects};
 use fluid_tree::Id;
@@ -22,7 +23,7 @@ pub struct LockedObjects<'a, R: Wait, O: Objects> {
 }
 
 impl<'a, R: Wait, O: Objects> Model for LockedObjects<'a, R, O> {
-    ghost use Rattle.fluid_locked.specs.Locked.{Counts};
+    ghost use Rattle.fluid_locked.specs.declared.counts.Counts.{Counts};
 
     ghost Value = { Counts };
 
@@ -34,11 +35,29 @@ impl<'a, R: Wait, O: Objects> LockedObjects<'a, R, O> {
     pub fn new(rt: &'a R, objects: &'a Mutex<O>) -> LockedObjects<'a, R, O>
         ensures { result ≡ record { faults = 0; gets = 0 } }
     {
+        LockedObjects::behind(rt, objects, Counts::new())
+    }
+
+    /// The same for a user who made calls before, and counted these.
+    pub fn behind(rt: &'a R, objects: &'a Mutex<O>, counts: Counts) -> LockedObjects<'a, R, O>
+        ensures { result ≡ counts }
+    {
+        let Counts { faults, gets } = counts;
         LockedObjects {
             rt,
             objects,
-            faults: 0,
-            gets: 0,
+            faults,
+            gets,
+        }
+    }
+
+    /// What its user counted so far.
+    pub fn counts(&self) -> Counts
+        ensures { result ≡ self.now }
+    {
+        Counts {
+            faults: self.faults,
+            gets: self.gets,
         }
     }
 }

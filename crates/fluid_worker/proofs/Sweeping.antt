@@ -15,10 +15,6 @@ one_before t p mid q moment (Err fault) one is h = absurd (false≢true is)
 pub sweeps_then : (t : Terms) (p mid q : APass) (moment : ℕ) (swept : Bool) → SweepsBy t p mid moment swept → swept ≡ true → Sweeps t mid q moment → Sweeps t p q moment
 sweeps_then t p mid q moment swept by is h = one_before t p mid q moment by.answer by.one (sym by.swept_is ∙ is) h
 
--- nobody
-pub sweeps_last : (t : Terms) (p q : APass) (moment : ℕ) (swept : Bool) → SweepsBy t p q moment swept → swept ≡ false → Sweeps t p q moment
-sweeps_last t p q moment swept by is = record { ids = []; mid = p; these = refl; last = record { answer = by.answer; one = by.one; swept_is = sym is ∙ by.swept_is } }
-
 pub not_false : (b : Bool) → not b ≡ false → b ≡ true
 not_false true is = refl
 not_false false is = absurd (false≢true (sym is))

@@ -11,9 +11,15 @@ use fluid_service::{Service, Visit};
 use fluid_store::Objects;
 use std::alloc::Global;
 use std::sync::{Mutex, Wait};
+use std::thread::Parker;
+use std::time::Duration;
 
-/// Waits for hints until nobody can give one any more. At each it clears the flag, and then tends each document that is open, with a
-/// pass of its own. No fault ends it, and no clause says that a hint arrives.
+// How long it rests behind a look.
+const REST_MILLISECONDS: u64 = 5;
+
+/// Waits for hints until nobody can give one any more. At each it clears the flag, tends each document that is open, with a pass of its
+/// own, and rests for a moment, so that the hints that come meanwhile wake nobody: they make one more look behind it. No fault ends it,
+/// and no clause says that a hint arrives.
 pub fn work<R: Wait, B: Shelves, O: Objects, C: Clock>(
     rt: &R,
     alloc: Global,
@@ -27,6 +33,7 @@ where
     B::K: Drop,
 {
     let mut visits = Vec::new(alloc);
+    let rest = Parker::new();
     for _ in rt.forever() {
         if hints.recv(rt).is_err() {
             return;
@@ -34,6 +41,7 @@ where
         bell.lock(rt).clear();
         visit_new(rt, alloc, service, &mut visits, clock.now());
         tend_all(rt, alloc, &mut visits, objects, clock);
+        rest.park_timeout(rt, Duration::from_millis(REST_MILLISECONDS));
     }
 }
 

@@ -1,5 +1,5 @@
 use Rattle.std.proofs.Common.{◌≡◌, true, rules}
-use Rattle.fluid_worker.proofs.Sweeping.{sweeps_then, sweeps_last, not_false}
+use Rattle.fluid_worker.proofs.Sweeping.{sweeps_then, not_false}
 use Rattle.fluid_worker.proofs.tending.sweep.Goals as goal
 
 pub sweeps-init : goal.sweeps-init
