@@ -161,7 +161,7 @@ minutes is taken for gone. It is ended by a signal.
 
 example:
   $ fluidd serve 7070
-  listening on 127.0.0.1:7070 for WebSockets, at most 340 connections at once
+  listening on 127.0.0.1:7070 for WebSockets, at most 1016 connections at once
 ";
 
 /// The page on a command that is built, or on the program.

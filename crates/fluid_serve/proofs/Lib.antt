@@ -1,1 +1,3 @@
 mod Sharing
+mod Jobs
+mod Sat

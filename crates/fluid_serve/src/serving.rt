@@ -41,6 +41,8 @@ where
     C: Clock + Sync + Drop,
     F: Front + Send + Drop,
     F::W: Send + Drop,
+    F::S: Send + Drop,
+    F::B: Send + Sync + Drop,
     P: Spawner + Send + Drop,
     requires { AreReady B.K.seen (B.seen desk.shelves) }
     ensures front { Serves connections (F.seen front) (F.seen result.2) result.0 }
@@ -135,20 +137,14 @@ where
     C: Clock + Sync + Drop,
     F: Front + Send + Drop,
     F::W: Send + Drop,
+    F::S: Send + Drop,
+    F::B: Send + Sync + Drop,
     P: Spawner + Send + Drop,
     ensures front { Serves connections (F.seen front) (F.seen result.1) result.0 }
     ensures refusals { Refuses (P.refusals spawner) (P.refusals result.2) result.0 }
 {
     let bell = Mutex::new(Bell::new());
     let bell = &bell;
-    let sessions = Sessions {
-        alloc,
-        service,
-        objects,
-        clock,
-        bell,
-        hints,
-    };
     let (served, ()) = thread::join(
         rt,
         move || -> (FrontEnd, F, P)
@@ -156,6 +152,14 @@ where
             ensures refusals { Refuses (P.refusals spawner) (P.refusals result.2) result.0 }
         {
             let mut spawner = spawner;
+            let sessions = Sessions {
+                alloc,
+                service,
+                objects,
+                clock,
+                bell,
+                hints: &hints,
+            };
             let (end, front) = spawner.serve_all(
                 rt,
                 alloc,

@@ -1,12 +1,11 @@
 //! What is done with a wire.
 
+use crate::sitting::Sitting;
 use crossbeam_channel::Sender;
 use fluid_front::Handler;
 use fluid_hints::{Bell, HintWire};
-use fluid_hosting::session;
 use fluid_io::Clock;
 use fluid_lines::Wire;
-use fluid_locked::LockedObjects;
 use fluid_log::Shelves;
 use fluid_service::Service;
 use fluid_store::Objects;
@@ -21,26 +20,34 @@ pub(crate) struct Sessions<'a, B: Shelves, O: Objects, C: Clock> {
     pub(crate) objects: &'a Mutex<O>,
     pub(crate) clock: &'a C,
     pub(crate) bell: &'a Mutex<Bell>,
-    pub(crate) hints: Sender<()>,
+    pub(crate) hints: &'a Sender<()>,
 }
 
 impl<'a, B: Shelves, O: Objects, C: Clock, W: Wire + Drop> Handler<W> for Sessions<'a, B, O, C>
 where
     B::K: Drop,
 {
-    /// However the session ends, nothing else does.
-    fn handle<R: Wait>(&self, rt: &R, _number: u64, wire: W) {
-        let mut wire = HintWire::new(wire, self.bell, &self.hints);
-        let mut objects = LockedObjects::new(rt, self.objects);
-        let (_report, _key, _visit) = session(
-            rt,
-            self.alloc,
-            self.service,
-            &mut objects,
-            &mut wire,
-            self.clock,
-            self.service.key(),
-            None,
-        );
+    type Job = Sitting<'a, B, W>;
+
+    ghost is_over = { λ s. s.hosting.is_over };
+
+    fn begin<R: Wait>(&self, _rt: &R, _number: u64, wire: W) -> Sitting<'a, B, W> {
+        Sitting::new(self.service, HintWire::new(wire, self.bell, self.hints))
+    }
+
+    /// However the session ends, nothing else does. Where the peer hasn't taken what it was sent, there is nothing to do. Behind the last
+    /// turn the wire stays until the peer has taken all.
+    fn turn<R: Wait>(&self, rt: &R, job: &mut Sitting<'a, B, W>) -> bool {
+        if !job.is_over() {
+            if !job.is_free(rt) {
+                return true;
+            }
+            let _report = job.turn(rt, self.alloc, self.objects, self.clock);
+        }
+        !job.is_over() || !job.is_handed_on(rt)
+    }
+
+    fn end<R: Wait>(&self, _rt: &R, job: Sitting<'a, B, W>) {
+        drop(job);
     }
 }

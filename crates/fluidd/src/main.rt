@@ -16,7 +16,7 @@ mod task;
 #[cfg(test)]
 mod tests;
 
-use fluid_front::ThreadSpawner;
+use fluid_front::StationSpawner;
 use fluid_io::{StdClock, StdSink, StdSource};
 use fluid_json::Text;
 use fluid_serve::Desk;
@@ -25,7 +25,8 @@ use laws::new_desks_tell;
 use run::run_first;
 use status::Status;
 use std::process::ExitCode;
-use std::{env, io};
+use std::thread::Threads;
+use std::{env, io, thread};
 
 fn main(rt: HostRuntime) -> ExitCode {
     let alloc = rt.alloc();
@@ -39,7 +40,8 @@ fn main(rt: HostRuntime) -> ExitCode {
     };
     let mut input = StdSource::new(rt.stdin());
     let mut output = StdSink::new(rt.stdout());
-    let Ok(front) = TcpFront::new(alloc, rt, StdSink::new(rt.stderr())) else {
+    let stations = stations(&rt);
+    let Ok(front) = TcpFront::at_stations(alloc, rt, StdSink::new(rt.stderr()), stations) else {
         return ExitCode::from(Status::NoMemory.code());
     };
     let desk = Desk::in_memory(alloc, StdClock::new(rt));
@@ -52,9 +54,20 @@ fn main(rt: HostRuntime) -> ExitCode {
         &mut output,
         desk,
         front,
-        ThreadSpawner::new(),
+        StationSpawner::new(stations),
     );
     ExitCode::from(status)
+}
+
+// In how many threads sessions have their turns: half as many as there are processors, since those who talk to the service have
+// something to do too; two at least, so that one session that waits doesn't stop all.
+fn stations(rt: &impl Threads) -> u32 {
+    match thread::available_parallelism(rt) {
+        Ok(processors) => u32::try_from(processors.get() / 2)
+            .unwrap_or(u32::MAX)
+            .max(2),
+        Err(_) => 2,
+    }
 }
 
 // The words behind the program's name.

@@ -57,6 +57,8 @@ where
     C: Clock + Sync + Drop,
     F: Front + Send + Drop,
     F::W: Send + Drop,
+    F::S: Send + Drop,
+    F::B: Send + Sync + Drop,
     P: Spawner + Send + Drop,
     ghost told: { Option World }
     requires whole { IsScripting (task_of words.now) → AreWhole (B.seen desk.shelves) }
@@ -156,6 +158,8 @@ where
     C: Clock + Sync + Drop,
     F: Front + Send + Drop,
     F::W: Send + Drop,
+    F::S: Send + Drop,
+    F::B: Send + Sync + Drop,
     P: Spawner + Send + Drop,
     requires ready { AreReady B.K.seen (B.seen desk.shelves) }
     requires first { IsDeskOf (B.seen desk.shelves) (O.seen desk.objects) (first_world empty empty) }

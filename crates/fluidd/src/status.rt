@@ -25,7 +25,7 @@ pub enum Status {
     StoreFault,
     /// The front failed: it can't listen, or can't take any more connections.
     FrontFault,
-    /// A thread was refused.
+    /// A thread was refused, or what it waits with.
     SpawnRefused,
     /// What is stored is refused, or a document has come to the end of its numbers.
     BadStored,

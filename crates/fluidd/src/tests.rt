@@ -3,6 +3,7 @@
 
 use crate::sequence::sequence_within;
 use crate::serving_tests::{front_of, run_on};
+use fluid_front::HereSpawner;
 use fluid_io::{MemorySink, MemorySource, Source};
 use fluid_json::Text;
 use std::alloc::Global;
@@ -371,7 +372,7 @@ fn ends<R: Threads + Wait + Net + Sync + Abort>(rt: &R, alloc: Global, row: &Run
         &mut sink,
         (&[], &[]),
         front,
-        0,
+        HereSpawner,
     );
     assert!(rt; status == row.status, "{status}");
     has_written(rt, &sink, row.length, row.output);
@@ -414,7 +415,7 @@ fn does_steps<R: Threads + Wait + Net + Sync + Abort>(
         &mut sink,
         (shelves, store),
         front,
-        0,
+        HereSpawner,
     );
     assert!(rt; status == *wanted, "{status}");
     has_written(rt, &sink, output.len(), output);

@@ -9,7 +9,7 @@ use Rattle.std.proofs.lemmas.Bool.{false≢true}
 use Rattle.fluid_world.specs.Ending.{Outside}
 use Rattle.fluidd.specs.Input.{full}
 use Rattle.fluidd.specs.Scripts.{Scripts}
-use Rattle.fluidd.specs.Tasks.{task_of}
+use Rattle.fluidd.specs.Tasks.{task_of, IsScripting, IsWorking}
 use Rattle.fluidd.specs.declared.task.Task.TheVariants as taken
 use Rattle.fluidd.proofs.Statuses.{wanting}
 use Rattle.fluidd.proofs.Scripted.{wanting as unscripted}
@@ -49,7 +49,8 @@ returns-in-Ok-Load-clause-script g c = λ load is.
 pub returns-in-Err-clause-script : goal.returns-in-Err-clause-script
 returns-in-Err-clause-script g c = λ load is.
     let before : Outside = record { source = g.S.Source.seen c.args.input.now; sink = g.K.Sink.seen c.args.output.now; shelves = g.B.Shelves.seen c.args.desk.shelves; store = g.O.Objects.seen c.args.desk.objects } in
-    rw c.code-in-Err.ensures (unscripted g.told load before (c.requires.1.1.1.1.1.1.1.1.1.1.1.1.1.1.1.1.1.1.1.1.0 (is_scripting (task_of c.args.words.now) load is)))
+    let whole : IsScripting (task_of c.args.words.now) → AreWhole (g.B.Shelves.seen c.args.desk.shelves) = search (c.requires.1.1.1.1.1.1.1.1.1.1.1.1.1.1.1.1.1.1) depth 20 in
+    rw c.code-in-Err.ensures (unscripted g.told load before (whole (is_scripting (task_of c.args.words.now) load is)))
 
 pub returns-in-Ok-Sequence-clause-script : goal.returns-in-Ok-Sequence-clause-script
 returns-in-Ok-Sequence-clause-script g c = λ load is.
@@ -116,7 +117,8 @@ run_workload-status-requires g c =
     let bounds = work_bounds c.args.words.now c.in-Ok-Workload.number c.in-Ok-Workload.clients c.in-Ok-Workload.ops is in
     let clients : IsBetween 1 1000 c.in-Ok-Workload.clients = bounds.0 in
     let ops : IsBetween 1 100000 c.in-Ok-Workload.ops = bounds.1 in
-    let new = c.requires.1.1.1.1.1.1.1.1.1.1.1.1.1.1.1.1.1.1.1.1.1.1.1 (is_working (task_of c.args.words.now) c.in-Ok-Workload.number c.in-Ok-Workload.clients c.in-Ok-Workload.ops is) in
+    let stands : IsWorking (task_of c.args.words.now) → AreWhole (g.B.Shelves.seen c.args.desk.shelves) × IfSome g.told (IsNewDeskOf (g.B.Shelves.seen c.args.desk.shelves) (g.O.Objects.seen c.args.desk.objects)) = search (c.requires.1.1.1.1.1.1.1.1.1.1.1.1.1.1.1.1.1.1) depth 20 in
+    let new = stands (is_working (task_of c.args.words.now) c.in-Ok-Workload.number c.in-Ok-Workload.clients c.in-Ok-Workload.ops is) in
     let whole : AreWhole (g.B.Shelves.seen c.args.desk.shelves) = new.0 in
     let told : IfSome g.told (IsNewDeskOf (g.B.Shelves.seen c.args.desk.shelves) (g.O.Objects.seen c.args.desk.objects)) = new.1 in
     search rules
@@ -124,4 +126,5 @@ run_workload-status-requires g c =
 pub returns-in-Err-clause-workload : goal.returns-in-Err-clause-workload
 returns-in-Err-clause-workload g c = λ number clients ops is.
     let before : Outside = outside (g.K.Sink.seen c.args.output.now) (g.B.Shelves.seen c.args.desk.shelves) (g.O.Objects.seen c.args.desk.objects) in
-    rw c.code-in-Err.ensures (unworked g.told number clients ops before (c.requires.1.1.1.1.1.1.1.1.1.1.1.1.1.1.1.1.1.1.1.1.1.1.1 (is_working (task_of c.args.words.now) number clients ops is)).0)
+    let stands : IsWorking (task_of c.args.words.now) → AreWhole (g.B.Shelves.seen c.args.desk.shelves) × IfSome g.told (IsNewDeskOf (g.B.Shelves.seen c.args.desk.shelves) (g.O.Objects.seen c.args.desk.objects)) = search (c.requires.1.1.1.1.1.1.1.1.1.1.1.1.1.1.1.1.1.1) depth 20 in
+    rw c.code-in-Err.ensures (unworked g.told number clients ops before (stands (is_working (task_of c.args.words.now) number clients ops is)).0)
