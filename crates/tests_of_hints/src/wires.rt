@@ -83,11 +83,13 @@ fn a_hint_that_is_refused_leaves_the_flag_clear(rt: HostRuntime) {
     assert!(rt; !bell.lock(&rt).hint);
 }
 
-// A wire that keeps what it is told to follow, and to send.
+// A wire that keeps what it is told to follow, and to send, and gives these hints.
 #[derive(Drop)]
 struct Told {
     followed: String,
     sent: String,
+    is_free: bool,
+    is_handed_on: bool,
 }
 
 impl Model for Told {
@@ -114,21 +116,39 @@ impl Wire for Told {
     fn follow<R: Wait>(&mut self, _rt: &R, name: &str) {
         let _ = self.followed.push_str(name);
     }
+
+    fn is_free<R: Wait>(&mut self, _rt: &R) -> bool {
+        self.is_free
+    }
+
+    fn is_handed_on<R: Wait>(&mut self, _rt: &R) -> bool {
+        self.is_handed_on
+    }
 }
 
 #[test]
-fn what_is_followed_and_sent_is_handed_on(rt: HostRuntime) {
+fn what_is_asked_and_told_is_handed_on(rt: HostRuntime) {
     let alloc = rt.alloc();
     let (hints, _hinted) = unbounded(alloc).expect(&rt, "memory");
     let bell = Mutex::new(Bell::new());
     let told = Told {
         followed: String::new(alloc),
         sent: String::new(alloc),
+        is_free: true,
+        is_handed_on: false,
     };
     let mut wire = HintWire::new(told, &bell, &hints);
+    assert!(rt; wire.is_free(&rt) && !wire.is_handed_on(&rt));
     wire.follow(&rt, "d");
     drop(wire.send(&rt, alloc, "text"));
     let told = wire.into_wire();
     assert!(rt; told.followed.as_str() == "d");
     assert!(rt; told.sent.as_str() == "text");
+    let told = Told {
+        is_free: false,
+        is_handed_on: true,
+        ..told
+    };
+    let mut wire = HintWire::new(told, &bell, &hints);
+    assert!(rt; !wire.is_free(&rt) && wire.is_handed_on(&rt));
 }

@@ -8,3 +8,5 @@ mod beside;
 mod rows;
 #[cfg(test)]
 mod sitting;
+#[cfg(test)]
+mod turned;

@@ -29,11 +29,11 @@ pub const WHOLE: &str =
 ["op","d",[{"clientId":"c0","clientSequenceNumber":1,"contents":"a","minimumSequenceNumber":1,"referenceSequenceNumber":1,"sequenceNumber":2,"timestamp":7,"type":"op"},{"clientId":"c0","clientSequenceNumber":2,"contents":"b","minimumSequenceNumber":1,"referenceSequenceNumber":1,"sequenceNumber":3,"timestamp":7,"type":"op"}]]
 "#;
 
-const FIRST_SAID: &str =
+pub const FIRST_SAID: &str =
     r#"["connect_document_success",{"checkpointSequenceNumber":0,"clientId":"c0","maxMessageSize":1048576,"mode":"write","version":"1"}]
 "#;
 
-const TORN: &str =
+pub const TORN: &str =
     r#"["connect_document_success",{"checkpointSequenceNumber":0,"clientId":"c0","maxMessageSize":1048576,"mode":"write","version":"1"}]
 ["op","d",[{"clientId":null,"clientSequenceNumber":-1,"contents":null,"data":"{\"clientId\":\"c0\",\"detail\":null}","minimumSequenceNumber":0,"referenceSequenceNumber":-1,"sequenceNumber":1,"timestamp":7,"type":"join"}]]
 "#;
@@ -102,7 +102,7 @@ const READER: &str =
 "#;
 
 // How many messages a document has afterwards, as a reader is told.
-fn has_messages<R: Abort + Wait>(
+pub fn has_messages<R: Abort + Wait>(
     rt: &R,
     alloc: Global,
     service: &Service<MemoryShelves>,

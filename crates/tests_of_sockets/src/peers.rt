@@ -1,15 +1,16 @@
 //! The two ends of a connection. A frame of a client has a mask of zeros, so that its bytes stand as they are.
 
-use fluid_front::Front;
+use fluid_front::{Front, Station};
 use fluid_io::MemorySink;
 use fluid_lines::{Recv, Wire, WireFault};
-use fluid_socket::{SocketWire, TcpFront, Waits};
+use fluid_socket::{SocketWire, TcpFront, TcpStation, Waits};
 use std::alloc::Global;
 use std::io::{Read, Write};
 use std::net::{Ipv4Addr, Net, SocketAddr, TcpStream};
 use std::process::Abort;
 use std::sync::Wait;
-use std::time::Duration;
+use std::thread::Threads;
+use std::time::{Clock, Duration};
 use tungstenite::handshake::client::{request_of, start};
 use tungstenite::{HandshakeError, Message, NoMask, WebSocket};
 
@@ -25,39 +26,131 @@ pub(crate) const PATIENT: Waits = Waits {
     pings: 2,
 };
 
+/// What a test has.
+pub(crate) trait Host: Net<Stream = TcpStream>
+    + Clock
+    + Threads
+    + Wait
+    + Abort
+    + Send
+    + Sync
+    + Copy
+    + Drop
+    + 'static {}
+
+impl<R> Host for R
+where
+    R: Net<Stream = TcpStream>
+        + Clock
+        + Threads
+        + Wait
+        + Abort
+        + Send
+        + Sync
+        + Copy
+        + Drop
+        + 'static,
+{}
+
 /// A front that listens at a port that the system chose.
-pub(crate) fn listening<'a, R: Net + Wait + Abort>(
-    rt: &'a R,
+pub(crate) fn listening<R: Host>(
+    rt: &R,
     alloc: Global,
     lines: bool,
     waits: Waits,
-) -> TcpFront<&'a R, MemorySink> {
+) -> TcpFront<R, MemorySink> {
     let sink = MemorySink::new(alloc, Vec::new(alloc));
-    let mut front = TcpFront::waiting(alloc, rt, sink, waits).expect(rt, "memory");
+    let mut front = TcpFront::waiting(alloc, *rt, sink, waits).expect(rt, "memory");
     assert!(rt; front.listen(rt, 0, lines).is_ok(), "it listens");
     front
 }
 
-/// A peer, and the wire that the front gives for it.
-pub(crate) fn connected<'a, R: Net<Stream = TcpStream> + Wait + Abort>(
-    rt: &'a R,
-    alloc: Global,
-    front: &mut TcpFront<&'a R, MemorySink>,
-) -> (TcpStream, SocketWire) {
-    let address = SocketAddr::from((Ipv4Addr::LOCALHOST, front.port()));
-    let stream = TcpStream::connect(rt, address).expect(rt, "a connection");
-    match front.accept(rt, alloc) {
-        Ok(Some(wire)) => (stream, wire),
-        _ => panic!(rt; "no wire"),
+/// A wire as its job has it: it waits by itself, or its station waits for it.
+#[derive(Drop)]
+pub(crate) struct Tended<R: Net + Clock> {
+    wire: SocketWire,
+    station: Option<TcpStation<R>>,
+}
+
+impl<R: Host> Tended<R> {
+    /// What comes in next. At a station it has a turn when it is due, and is quiet while the peer has to take something first.
+    pub(crate) fn recv(&mut self, rt: &R, alloc: Global) -> Result<Recv, WireFault> {
+        let Some(station) = &mut self.station else {
+            return self.wire.recv(rt, alloc);
+        };
+        wait_for_turn(rt, station);
+        let answer = if self.wire.is_free(rt) {
+            self.wire.recv(rt, alloc)
+        } else {
+            Ok(Recv::Quiet)
+        };
+        station.turned(0);
+        answer
+    }
+
+    /// Sends a text. At a station it is held until the wire has a turn.
+    pub(crate) fn send(&mut self, rt: &R, alloc: Global, text: &str) -> Result<(), WireFault> {
+        self.wire.send(rt, alloc, text)
+    }
+
+    pub(crate) fn follow(&mut self, rt: &R, name: &str) {
+        self.wire.follow(rt, name);
+    }
+
+    /// Lets the wire go when the peer has taken all that was sent.
+    pub(crate) fn hand_on(self, rt: &R) {
+        let Tended { mut wire, station } = self;
+        if let Some(mut station) = station {
+            for _ in rt.forever() {
+                let whole = wire.is_handed_on(rt);
+                station.turned(0);
+                if whole {
+                    break;
+                }
+                wait_for_turn(rt, &mut station);
+            }
+        }
+        drop(wire);
     }
 }
 
+fn wait_for_turn<R: Host>(rt: &R, station: &mut TcpStation<R>) {
+    for _ in rt.forever() {
+        station.wait(rt);
+        if station.due().is_some() {
+            return;
+        }
+    }
+}
+
+/// A peer, and the wire that the front gives for it.
+pub(crate) fn connected<R: Host>(
+    rt: &R,
+    alloc: Global,
+    front: &mut TcpFront<R, MemorySink>,
+    attended: bool,
+) -> (TcpStream, Tended<R>) {
+    let mut station = None;
+    if attended {
+        station = Some(front.station(alloc).expect(rt, "a station"));
+    }
+    let address = SocketAddr::from((Ipv4Addr::LOCALHOST, front.port()));
+    let stream = TcpStream::connect(rt, address).expect(rt, "a connection");
+    let Ok(Some(mut wire)) = front.accept(rt, alloc) else {
+        panic!(rt; "no wire")
+    };
+    if let Some(station) = &mut station {
+        assert!(rt; station.add(rt, 0, &mut wire).is_ok(), "it waits for it");
+    }
+    (stream, Tended { wire, station })
+}
+
 /// The peer's handshake by `tungstenite`, beside the wire's.
-pub(crate) fn shaken<R: Wait + Abort>(
+pub(crate) fn shaken<R: Host>(
     rt: &R,
     alloc: Global,
     stream: TcpStream,
-    wire: &mut SocketWire,
+    wire: &mut Tended<R>,
 ) -> WebSocket<TcpStream, NoMask> {
     assert!(rt; stream.set_nonblocking(true).is_ok());
     let request = request_of(alloc, "ws://localhost/").expect(rt, "a request");
@@ -75,10 +168,10 @@ pub(crate) fn shaken<R: Wait + Abort>(
 
 /// What the wire answers until it has ended or was quiet so often in a row: a text as [text], the end as a full stop, a fault
 /// as !, a text that is too long as + and its bytes, and silence as ?.
-pub(crate) fn received<R: Wait + Abort>(
+pub(crate) fn received<R: Host>(
     rt: &R,
     alloc: Global,
-    wire: &mut SocketWire,
+    wire: &mut Tended<R>,
     patience: u32,
 ) -> String {
     let mut told = String::new(alloc);
@@ -166,3 +259,6 @@ pub(crate) fn read_bytes<R: Abort>(rt: &R, alloc: Global, stream: &mut TcpStream
     }
     told
 }
+
+/// Nothing. A test that has no stream of its own calls it, since the prover wants the type of `Host`'s streams named where `Host` is asked for.
+pub(crate) fn names_streams(_stream: Option<TcpStream>) {}

@@ -1,15 +1,18 @@
 use crate::peers::{
-    PATIENT, connected, listening, read_by_peer, read_bytes, received, shaken, write_bytes,
+    Host, PATIENT, Tended, connected, listening, names_streams, read_by_peer, read_bytes, received,
+    shaken, write_bytes,
 };
-use fluid_lines::{Recv, Wire};
-use fluid_socket::{SocketWire, Waits};
+use fluid_lines::Recv;
+use fluid_socket::Waits;
 use std::alloc::Global;
 use std::io::{Read, Write};
 use std::net::{Shutdown, TcpStream};
 use std::process::Abort;
-use std::sync::Wait;
 use std::thread;
 use std::time::Duration;
+
+// A wire that waits by itself, and one that is waited for at a station.
+const WAYS: [bool; 2] = [false, true];
 
 // What the peer sends, what the wire answers, and what the peer reads.
 struct Row {
@@ -94,30 +97,35 @@ const ROWS: [Row; 12] = [
     },
 ];
 
-#[test]
-fn messages_are_texts(rt: HostRuntime) {
-    let alloc = rt.alloc();
+fn message_is_text<R: Host>(rt: R, alloc: Global, row: &Row, attended: bool) {
     let mut front = listening(&rt, alloc, false, PATIENT);
+    let (stream, mut wire) = connected(&rt, alloc, &mut front, attended);
+    let mut peer = shaken(&rt, alloc, stream, &mut wire);
+    write_bytes(&rt, peer.get_mut(), row.frames);
+    let answers = received(&rt, alloc, &mut wire, 5);
+    assert!(rt;
+        answers.as_str() == row.answers,
+        "{}, {attended}: {}",
+        row.what,
+        answers.as_str()
+    );
+    let told = read_by_peer(&rt, alloc, &mut peer);
+    assert!(rt;
+        told.as_str() == row.told,
+        "{}, {attended}: {}",
+        row.what,
+        told.as_str()
+    );
+    drop(wire);
+    drop(front);
+}
+
+fn messages_are_heard<R: Host>(rt: R, alloc: Global, attended: bool) {
     for row in &ROWS {
-        let (stream, mut wire) = connected(&rt, alloc, &mut front);
-        let mut peer = shaken(&rt, alloc, stream, &mut wire);
-        write_bytes(&rt, peer.get_mut(), row.frames);
-        let answers = received(&rt, alloc, &mut wire, 20);
-        assert!(rt;
-            answers.as_str() == row.answers,
-            "{}: {}",
-            row.what,
-            answers.as_str()
-        );
-        let told = read_by_peer(&rt, alloc, &mut peer);
-        assert!(rt;
-            told.as_str() == row.told,
-            "{}: {}",
-            row.what,
-            told.as_str()
-        );
+        message_is_text(rt, alloc, row, attended);
     }
-    let (stream, mut wire) = connected(&rt, alloc, &mut front);
+    let mut front = listening(&rt, alloc, false, PATIENT);
+    let (stream, mut wire) = connected(&rt, alloc, &mut front, attended);
     let mut peer = shaken(&rt, alloc, stream, &mut wire);
     assert!(rt; wire.send(&rt, alloc, "one").is_ok());
     assert!(rt; wire.send(&rt, alloc, "").is_ok());
@@ -129,6 +137,18 @@ fn messages_are_texts(rt: HostRuntime) {
         told.as_str()
     );
     drop(front);
+}
+
+#[test]
+fn messages_are_texts(rt: HostRuntime) {
+    names_streams(None);
+    messages_are_heard(rt, rt.alloc(), false);
+}
+
+#[test]
+fn messages_are_texts_at_a_station(rt: HostRuntime) {
+    names_streams(None);
+    messages_are_heard(rt, rt.alloc(), true);
 }
 
 // A text that is more than the system holds for a peer.
@@ -152,14 +172,15 @@ fn count_bytes(stream: &mut TcpStream) -> usize {
     all
 }
 
-#[test]
-fn a_text_that_is_taken_late_arrives_whole(rt: HostRuntime) {
-    let alloc = rt.alloc();
+// The framing, and how many bytes there are besides: a line has its line feed; a message of this size has a head of ten bytes, and
+// a close behind it of four.
+const LATE: [(bool, usize); 2] = [(true, 1), (false, 14)];
+
+fn late_is_whole<R: Host>(rt: R, alloc: Global, attended: bool) {
     let text = large(&rt, alloc);
-    // a line has its line feed; a message of this size has a head of ten bytes, and a close behind it of four
-    for (lines, more) in [(true, 1), (false, 14)] {
+    for (lines, more) in LATE {
         let mut front = listening(&rt, alloc, lines, PATIENT);
-        let (stream, mut wire) = connected(&rt, alloc, &mut front);
+        let (stream, mut wire) = connected(&rt, alloc, &mut front, attended);
         let mut stream = if lines {
             stream
         } else {
@@ -172,57 +193,76 @@ fn a_text_that_is_taken_late_arrives_whole(rt: HostRuntime) {
         .expect(&rt, "a thread");
         assert!(rt;
             wire.send(&rt, alloc, text.as_str()).is_ok(),
-            "lines: {lines}"
+            "lines: {lines}, {attended}"
         );
-        drop(wire);
+        wire.hand_on(&rt);
         let count = reader.join(&rt);
-        assert!(rt; count == LARGE + more, "lines: {lines}, {count} bytes");
+        assert!(rt;
+            count == LARGE + more,
+            "lines: {lines}, {attended}: {count} bytes"
+        );
         drop(front);
     }
 }
 
+#[test]
+fn a_text_that_is_taken_late_arrives_whole(rt: HostRuntime) {
+    names_streams(None);
+    late_is_whole(rt, rt.alloc(), false);
+}
+
+#[test]
+fn a_text_that_is_taken_late_from_a_station_arrives_whole(rt: HostRuntime) {
+    names_streams(None);
+    late_is_whole(rt, rt.alloc(), true);
+}
+
 // What is sent, and what the wire answers. Then the peer ends.
-const LINES: [(&str, &[u8], &str); 10] = [
-    (
-        "two lines, and one without an end",
-        b"a\r\n\nb",
-        "[a][][b].",
-    ),
-    ("nothing", b"", "."),
-    ("a carriage return inside", b"a\rb\r\r\n", "[a\rb\r]."),
-    ("no UTF-8", b"a\n\xff\nb\n", "[a]!"),
-    ("a request of HTTP", b"POST / HTTP/1.1\r\nHost: x\r\n", "!"),
-    ("an old one", b"GET / HTTP/1.0\n", "!"),
-    (
-        "the same behind a line",
-        b"a\nGET / HTTP/1.1\n",
-        "[a][GET / HTTP/1.1].",
-    ),
-    ("another version", b"GET / HTTP/1.2\n", "[GET / HTTP/1.2]."),
-    (
-        "a carriage return without a line feed",
-        b"a\r\nb\r",
-        "[a][b\r].",
-    ),
-    ("nothing but that", b"\r", "[\r]."),
+const LINES: [(&[u8], &str); 10] = [
+    (b"a\r\n\nb", "[a][][b]."),
+    (b"", "."),
+    (b"a\rb\r\r\n", "[a\rb\r]."),
+    (b"a\n\xff\nb\n", "[a]!"),
+    // requests of HTTP
+    (b"POST / HTTP/1.1\r\nHost: x\r\n", "!"),
+    (b"GET / HTTP/1.0\n", "!"),
+    (b"a\nGET / HTTP/1.1\n", "[a][GET / HTTP/1.1]."),
+    (b"GET / HTTP/1.2\n", "[GET / HTTP/1.2]."),
+    // a carriage return without a line feed
+    (b"a\r\nb\r", "[a][b\r]."),
+    (b"\r", "[\r]."),
 ];
+
+fn lines_are_given<R: Host>(rt: R, alloc: Global, bytes: &[u8], want: &str, attended: bool) {
+    let mut front = listening(&rt, alloc, true, PATIENT);
+    let (mut stream, mut wire) = connected(&rt, alloc, &mut front, attended);
+    write_bytes(&rt, &mut stream, bytes);
+    assert!(rt; wire.send(&rt, alloc, "out").is_ok(), "{want}");
+    assert!(rt; stream.shutdown(Shutdown::Write).is_ok());
+    let answers = received(&rt, alloc, &mut wire, 1000);
+    assert!(rt;
+        answers.as_str() == want,
+        "{want}, {attended}: {}",
+        answers.as_str()
+    );
+    wire.hand_on(&rt);
+    let told = read_bytes(&rt, alloc, &mut stream);
+    assert!(rt;
+        told.as_slice() == b"out\n".as_slice(),
+        "{want}, {attended}"
+    );
+    drop(front);
+}
 
 #[test]
 fn lines_are_texts(rt: HostRuntime) {
+    names_streams(None);
     let alloc = rt.alloc();
-    let mut front = listening(&rt, alloc, true, PATIENT);
-    for (what, bytes, want) in LINES {
-        let (mut stream, mut wire) = connected(&rt, alloc, &mut front);
-        write_bytes(&rt, &mut stream, bytes);
-        assert!(rt; wire.send(&rt, alloc, "out").is_ok(), "{what}");
-        assert!(rt; stream.shutdown(Shutdown::Write).is_ok());
-        let answers = received(&rt, alloc, &mut wire, 1000);
-        assert!(rt; answers.as_str() == want, "{what}: {}", answers.as_str());
-        drop(wire);
-        let told = read_bytes(&rt, alloc, &mut stream);
-        assert!(rt; told.as_slice() == b"out\n".as_slice(), "{what}");
+    for attended in WAYS {
+        for (bytes, want) in LINES {
+            lines_are_given(rt, alloc, bytes, want, attended);
+        }
     }
-    drop(front);
 }
 
 // How a text goes out that is nothing but so many letters between these bytes, and the bytes of the text that comes in, or none
@@ -300,7 +340,7 @@ fn write_long<W: Write + Drop>(alloc: Global, stream: W, row: &Long) {
 }
 
 // How many bytes the next text has, or 0 where it is too long, as it says so.
-fn length_of_next<R: Wait + Abort>(rt: &R, alloc: Global, wire: &mut SocketWire) -> usize {
+fn length_of_next<R: Host>(rt: &R, alloc: Global, wire: &mut Tended<R>) -> usize {
     for _ in 0..100_000 {
         match wire.recv(rt, alloc) {
             Ok(Recv::Quiet) => {}
@@ -312,25 +352,34 @@ fn length_of_next<R: Wait + Abort>(rt: &R, alloc: Global, wire: &mut SocketWire)
     usize::MAX
 }
 
+fn long_text_is_heard<R: Host>(rt: R, alloc: Global, row: &'static Long, attended: bool) {
+    let mut front = listening(&rt, alloc, row.lines, PATIENT);
+    let (stream, mut wire) = connected(&rt, alloc, &mut front, attended);
+    let stream = if row.lines {
+        stream
+    } else {
+        shaken(&rt, alloc, stream, &mut wire).into_inner()
+    };
+    let writer = thread::spawn(&rt, move || write_long(alloc, stream, row)).expect(&rt, "a thread");
+    let length = length_of_next(&rt, alloc, &mut wire);
+    assert!(rt;
+        length == row.want,
+        "{} letters, {attended}: {length}",
+        row.letters
+    );
+    drop(wire);
+    writer.join(&rt);
+    drop(front);
+}
+
 #[test]
 fn a_text_that_is_too_long_is_refused(rt: HostRuntime) {
+    names_streams(None);
     let alloc = rt.alloc();
-    for row in &LONG {
-        let mut front = listening(&rt, alloc, row.lines, PATIENT);
-        let (stream, mut wire) = connected(&rt, alloc, &mut front);
-        let stream = if row.lines {
-            stream
-        } else {
-            shaken(&rt, alloc, stream, &mut wire).into_inner()
-        };
-        let writer = thread::spawn(&rt, move || write_long(alloc, stream, row)).expect(
-            &rt, "a thread",
-        );
-        let length = length_of_next(&rt, alloc, &mut wire);
-        assert!(rt; length == row.want, "{} letters: {length}", row.letters);
-        drop(wire);
-        writer.join(&rt);
-        drop(front);
+    for attended in WAYS {
+        for row in &LONG {
+            long_text_is_heard(rt, alloc, row, attended);
+        }
     }
 }
 
@@ -361,32 +410,102 @@ const ORIGINS: [(&str, bool); 17] = [
     ),
 ];
 
+// What a client asks for first, with a line of its own in it.
+fn request<R: Abort>(rt: &R, alloc: Global, line: &str) -> String {
+    format!(in alloc;
+        "GET / HTTP/1.1\r\nHost: localhost\r\nUpgrade: websocket\r\nConnection: Upgrade\r\nSec-WebSocket-Version: 13\r\nSec-WebSocket-Key: dGhlIHNhbXBsZSBub25jZQ==\r\nSec-WebSocket-Extensions: permessage-deflate\r\n{line}\r\n"
+    ).expect(rt, "memory")
+}
+
+// How the answer to a request begins.
+fn answer(welcome: bool) -> &'static [u8] {
+    if welcome {
+        b"HTTP/1.1 101 "
+    } else {
+        b"HTTP/1.1 403 "
+    }
+}
+
+fn page_connects<R: Host>(rt: R, alloc: Global, origin: &str, welcome: bool, attended: bool) {
+    let mut front = listening(&rt, alloc, false, PATIENT);
+    let (mut stream, mut wire) = connected(&rt, alloc, &mut front, attended);
+    let head = request(&rt, alloc, origin);
+    write_bytes(&rt, &mut stream, head.as_bytes());
+    let answers = received(&rt, alloc, &mut wire, 3);
+    assert!(rt;
+        answers.as_str() == if welcome { "?" } else { "!" },
+        "{origin}, {attended}: {}",
+        answers.as_str()
+    );
+    drop(wire);
+    let told = read_bytes(&rt, alloc, &mut stream);
+    assert!(rt; told.as_slice().starts_with(answer(welcome)), "{origin}");
+    drop(front);
+}
+
 #[test]
 fn pages_of_other_machines_are_refused(rt: HostRuntime) {
+    names_streams(None);
     let alloc = rt.alloc();
-    let mut front = listening(&rt, alloc, false, PATIENT);
-    for (origin, welcome) in ORIGINS {
-        let (mut stream, mut wire) = connected(&rt, alloc, &mut front);
-        let head = format!(in alloc;
-            "GET / HTTP/1.1\r\nHost: localhost\r\nUpgrade: websocket\r\nConnection: Upgrade\r\nSec-WebSocket-Version: 13\r\nSec-WebSocket-Key: dGhlIHNhbXBsZSBub25jZQ==\r\nSec-WebSocket-Extensions: permessage-deflate\r\n{origin}\r\n"
-        ).expect(&rt, "memory");
-        write_bytes(&rt, &mut stream, head.as_bytes());
-        let answers = received(&rt, alloc, &mut wire, 1);
-        assert!(rt;
-            answers.as_str() == if welcome { "?" } else { "!" },
-            "{origin}: {}",
-            answers.as_str()
-        );
-        drop(wire);
-        let told = read_bytes(&rt, alloc, &mut stream);
-        let wanted: &[u8] = if welcome {
-            b"HTTP/1.1 101 "
-        } else {
-            b"HTTP/1.1 403 "
-        };
-        assert!(rt; told.as_slice().starts_with(wanted), "{origin}");
+    for attended in WAYS {
+        for (origin, welcome) in ORIGINS {
+            page_connects(rt, alloc, origin, welcome, attended);
+        }
     }
+}
+
+// In pieces of how many bytes a request comes, how many bytes of it, and whether the handshake is made in so many waits.
+const PIECES: [(usize, usize, u32, &str); 2] = [(16, 1000, 2000, "?"), (1, 40, 20, "!")];
+
+fn handshake_in_pieces<R: Host>(
+    rt: R,
+    alloc: Global,
+    piece: usize,
+    bytes: usize,
+    handshake_ticks: u32,
+    want: &str,
+    attended: bool,
+) {
+    let mut waits = PATIENT;
+    waits.handshake_ticks = handshake_ticks;
+    let mut front = listening(&rt, alloc, false, waits);
+    let (mut stream, mut wire) = connected(&rt, alloc, &mut front, attended);
+    let writer = thread::spawn(&rt, move || {
+        let head = request(&rt, alloc, "");
+        let sent = head.as_bytes().get(..bytes).unwrap_or(head.as_bytes());
+        for part in sent.chunks(piece.max(1)) {
+            if stream.write_all(part).is_err() {
+                break;
+            }
+            thread::sleep(&rt, Duration::from_millis(2));
+        }
+        stream
+    })
+    .expect(&rt, "a thread");
+    let answers = received(&rt, alloc, &mut wire, 30);
+    assert!(rt;
+        answers.as_str() == want,
+        "{piece}, {attended}: {}",
+        answers.as_str()
+    );
+    let mut stream = writer.join(&rt);
+    // the last pieces may have come later
+    let _ = received(&rt, alloc, &mut wire, 3);
+    drop(wire);
+    let told = read_bytes(&rt, alloc, &mut stream);
+    assert!(rt; told.as_slice().starts_with(answer(true)) == (want == "?"));
     drop(front);
+}
+
+#[test]
+fn a_handshake_comes_bit_by_bit(rt: HostRuntime) {
+    names_streams(None);
+    let alloc = rt.alloc();
+    for attended in WAYS {
+        for (piece, bytes, handshake_ticks, want) in PIECES {
+            handshake_in_pieces(rt, alloc, piece, bytes, handshake_ticks, want, attended);
+        }
+    }
 }
 
 // Short waits.
@@ -398,119 +517,160 @@ const HASTY: Waits = Waits {
     pings: 2,
 };
 
-#[test]
-fn a_peer_that_says_nothing_is_left(rt: HostRuntime) {
-    let alloc = rt.alloc();
+fn silence_is_heard<R: Host>(rt: R, alloc: Global, attended: bool) {
     for (lines, want) in [(false, "!"), (true, "?")] {
         let mut front = listening(&rt, alloc, lines, HASTY);
-        let (stream, mut wire) = connected(&rt, alloc, &mut front);
+        let (stream, mut wire) = connected(&rt, alloc, &mut front, attended);
         let answers = received(&rt, alloc, &mut wire, 40);
         assert!(rt;
             answers.as_str() == want,
-            "lines: {lines}, {}",
+            "lines: {lines}, {attended}: {}",
             answers.as_str()
         );
         drop(wire);
         drop(stream);
         drop(front);
     }
-    let mut waits = HASTY;
-    waits.handshake_ticks = 2000;
-    let mut front = listening(&rt, alloc, false, waits);
-    let (stream, mut wire) = connected(&rt, alloc, &mut front);
-    let mut peer = shaken(&rt, alloc, stream, &mut wire);
-    let answers = received(&rt, alloc, &mut wire, 1000);
-    assert!(rt; answers.as_str() == ".", "{}", answers.as_str());
-    let told = read_by_peer(&rt, alloc, &mut peer);
-    assert!(rt; told.as_str() == "ping ping ", "{}", told.as_str());
-    drop(wire);
-    drop(front);
 }
 
 #[test]
-fn a_send_to_a_peer_that_takes_nothing_fails(rt: HostRuntime) {
+fn a_peer_that_says_nothing_is_left(rt: HostRuntime) {
     let alloc = rt.alloc();
+    let mut waits = HASTY;
+    waits.handshake_ticks = 2000;
+    for attended in WAYS {
+        silence_is_heard(rt, alloc, attended);
+        let mut front = listening(&rt, alloc, false, waits);
+        let (stream, mut wire) = connected(&rt, alloc, &mut front, attended);
+        let mut peer = shaken(&rt, alloc, stream, &mut wire);
+        let answers = received(&rt, alloc, &mut wire, 1000);
+        assert!(rt; answers.as_str() == ".", "{}", answers.as_str());
+        let told = read_by_peer(&rt, alloc, &mut peer);
+        assert!(rt; told.as_str() == "ping ping ", "{}", told.as_str());
+        drop(wire);
+        drop(front);
+    }
+}
+
+// Whether sending fails to one who reads nothing. A wire that waits by itself says it when it sends, one at a station at its next
+// turns.
+fn send_fails<R: Host>(rt: &R, alloc: Global, wire: &mut Tended<R>, text: &str) -> bool {
+    let mut failed = false;
+    for _ in 0..2 {
+        failed = failed || wire.send(rt, alloc, text).is_err();
+    }
+    failed || matches!(received(rt, alloc, wire, 1000).as_str(), "!")
+}
+
+fn sends_fail<R: Host>(rt: R, alloc: Global, attended: bool) {
     let text = large(&rt, alloc);
     let mut waits = PATIENT;
     waits.send_ticks = HASTY.send_ticks;
     for lines in [true, false] {
         let mut front = listening(&rt, alloc, lines, waits);
-        let (stream, mut wire) = connected(&rt, alloc, &mut front);
-        let mut failed = false;
-        if lines {
-            for _ in 0..2 {
-                failed = failed || wire.send(&rt, alloc, text.as_str()).is_err();
-            }
-            drop(stream);
+        let (stream, mut wire) = connected(&rt, alloc, &mut front, attended);
+        let stream = if lines {
+            stream
         } else {
-            let peer = shaken(&rt, alloc, stream, &mut wire);
-            for _ in 0..2 {
-                failed = failed || wire.send(&rt, alloc, text.as_str()).is_err();
-            }
-            drop(peer);
-        }
-        assert!(rt; failed, "lines: {lines}");
+            shaken(&rt, alloc, stream, &mut wire).into_inner()
+        };
+        assert!(rt;
+            send_fails(&rt, alloc, &mut wire, text.as_str()),
+            "lines: {lines}, {attended}"
+        );
         assert!(rt;
             matches!(wire.recv(&rt, alloc), Ok(Recv::End)),
-            "lines: {lines}"
+            "lines: {lines}, {attended}"
         );
         drop(wire);
+        drop(stream);
         drop(front);
     }
+}
+
+#[test]
+fn a_send_to_a_peer_that_takes_nothing_fails(rt: HostRuntime) {
+    names_streams(None);
+    sends_fail(rt, rt.alloc(), false);
+}
+
+#[test]
+fn what_is_held_for_a_peer_that_takes_nothing_fails(rt: HostRuntime) {
+    names_streams(None);
+    sends_fail(rt, rt.alloc(), true);
 }
 
 // What a peer sends once and then without end.
-const ENDLESS: [(&str, &[u8], &[u8]); 2] = [
-    ("empty fragments", b"\x01\x80\0\0\0\0", b"\0\x80\0\0\0\0"),
-    ("empty pongs", b"", b"\x8a\x80\0\0\0\0"),
+const ENDLESS: [(&[u8], &[u8]); 2] = [
+    // empty fragments
+    (b"\x01\x80\0\0\0\0", b"\0\x80\0\0\0\0"),
+    // empty pongs
+    (b"", b"\x8a\x80\0\0\0\0"),
 ];
 
-#[test]
-fn a_peer_that_sends_without_end_keeps_nobody_waiting(rt: HostRuntime) {
-    let alloc = rt.alloc();
-    for (what, first, again) in ENDLESS {
-        let mut front = listening(&rt, alloc, false, PATIENT);
-        let (stream, mut wire) = connected(&rt, alloc, &mut front);
-        let mut peer = shaken(&rt, alloc, stream, &mut wire);
-        write_bytes(&rt, peer.get_mut(), first);
-        let writer = thread::spawn(&rt, move || {
-            let many = again.repeat(alloc, 10_000).expect(&rt, "memory");
-            let mut peer = peer;
-            for _ in 0..u32::MAX {
-                if peer.get_mut().write_all(many.as_slice()).is_err() {
-                    break;
-                }
+fn endless_is_quiet<R: Host>(
+    rt: R,
+    alloc: Global,
+    first: &[u8],
+    again: &'static [u8],
+    attended: bool,
+) {
+    let mut front = listening(&rt, alloc, false, PATIENT);
+    let (stream, mut wire) = connected(&rt, alloc, &mut front, attended);
+    let mut peer = shaken(&rt, alloc, stream, &mut wire);
+    write_bytes(&rt, peer.get_mut(), first);
+    let writer = thread::spawn(&rt, move || {
+        let many = again.repeat(alloc, 10_000).expect(&rt, "memory");
+        let mut peer = peer;
+        for _ in 0..u32::MAX {
+            if peer.get_mut().write_all(many.as_slice()).is_err() {
+                break;
             }
-        })
-        .expect(&rt, "a thread");
-        for _ in 0..3 {
-            assert!(rt; matches!(wire.recv(&rt, alloc), Ok(Recv::Quiet)), "{what}");
         }
-        drop(wire);
-        writer.join(&rt);
-        drop(front);
+    })
+    .expect(&rt, "a thread");
+    for _ in 0..3 {
+        assert!(rt;
+            matches!(wire.recv(&rt, alloc), Ok(Recv::Quiet)),
+            "{attended}"
+        );
     }
+    drop(wire);
+    writer.join(&rt);
+    drop(front);
 }
 
 #[test]
-fn pings_of_a_peer_that_reads_nothing_are_left_unread(rt: HostRuntime) {
+fn a_peer_that_sends_without_end_keeps_nobody_waiting(rt: HostRuntime) {
+    names_streams(None);
     let alloc = rt.alloc();
-    let mut front = listening(&rt, alloc, false, PATIENT);
-    let (stream, mut wire) = connected(&rt, alloc, &mut front);
-    let mut peer = shaken(&rt, alloc, stream, &mut wire);
-    let ping: [u8; 131] = {
-        let mut ping = [0u8; 131];
-        ping[0] = 0x89;
-        ping[1] = 0xfd;
-        ping
-    };
-    let many = ping.as_slice().repeat(alloc, 5000).expect(&rt, "memory");
-    assert!(rt; peer.get_ref().set_nonblocking(true).is_ok());
-    // the wire has stopped where, behind 50 quiet answers, the peer still can't write
+    for attended in WAYS {
+        for (first, again) in ENDLESS {
+            endless_is_quiet(rt, alloc, first, again, attended);
+        }
+    }
+}
+
+// A ping with as many bytes as it can have, and its mask.
+fn ping() -> [u8; 131] {
+    let mut ping = [0u8; 131];
+    ping[0] = 0x89;
+    ping[1] = 0xfd;
+    ping
+}
+
+// Whether the wire stops reading: behind 50 quiet answers the peer still can't write.
+fn stops_reading<R: Host>(
+    rt: &R,
+    alloc: Global,
+    peer: &mut TcpStream,
+    wire: &mut Tended<R>,
+) -> bool {
+    let many = ping().as_slice().repeat(alloc, 5000).expect(rt, "memory");
     let mut stopped = 0u32;
     let mut at = 0usize;
     for _ in 0..20_000 {
-        match peer.get_mut().write(many.get(at..).unwrap_or(&[])) {
+        match peer.write(many.get(at..).unwrap_or(&[])) {
             Ok(count) => {
                 at = at.saturating_add(count);
                 if at >= many.len() {
@@ -518,16 +678,29 @@ fn pings_of_a_peer_that_reads_nothing_are_left_unread(rt: HostRuntime) {
                 }
                 stopped = 0;
             }
-            Err(_) => {
-                stopped = stopped.saturating_add(1);
-                if stopped > 50 {
-                    break;
-                }
-            }
+            Err(_) => stopped = stopped.saturating_add(1),
         }
-        assert!(rt; matches!(wire.recv(&rt, alloc), Ok(Recv::Quiet)));
+        if stopped > 50 {
+            return true;
+        }
+        assert!(rt; matches!(wire.recv(rt, alloc), Ok(Recv::Quiet)));
     }
-    assert!(rt; stopped > 50, "the wire goes on reading");
-    drop(wire);
-    drop(front);
+    false
+}
+
+#[test]
+fn pings_of_a_peer_that_reads_nothing_are_left_unread(rt: HostRuntime) {
+    let alloc = rt.alloc();
+    for attended in WAYS {
+        let mut front = listening(&rt, alloc, false, PATIENT);
+        let (stream, mut wire) = connected(&rt, alloc, &mut front, attended);
+        let mut peer = shaken(&rt, alloc, stream, &mut wire);
+        assert!(rt; peer.get_ref().set_nonblocking(true).is_ok());
+        assert!(rt;
+            stops_reading(&rt, alloc, peer.get_mut(), &mut wire),
+            "the wire goes on reading: {attended}"
+        );
+        drop(wire);
+        drop(front);
+    }
 }
