@@ -50,9 +50,10 @@ class Server:
 
 
 def built(crate, words):
-    """The words of a proved program, which is built where it is missing."""
+    """The words of a proved program, which is built where it is missing or older than a source."""
     program = TOP / "crates" / crate / "out" / crate
-    if not program.exists():
+    sources = (TOP / "crates").glob("*/src/**/*.rt")
+    if not program.exists() or any(path.stat().st_mtime > program.stat().st_mtime for path in sources):
         print(f"proving and building {crate}, which takes some minutes", file=sys.stderr)
         subprocess.run(["rt", "run", "--", *words], cwd=TOP / "crates" / crate, stdin=subprocess.DEVNULL,
                        stdout=sys.stderr, check=True)

@@ -373,8 +373,11 @@ class Connection {
 
   isStuck() {
     const isStuck = this.wire.waiting() > WAITING_BYTES;
-    this.stuckSince = isStuck ? this.stuckSince || Date.now() : 0;
-    stuck[isStuck ? "add" : "delete"](this);
+    if (isStuck !== this.stuckSince > 0) {
+      this.stuckSince = isStuck ? Date.now() : 0;
+      stuck[isStuck ? "add" : "delete"](this);
+      watchStuck();
+    }
     return isStuck;
   }
 
@@ -442,18 +445,27 @@ class Connection {
 
   close() {
     stuck.delete(this);
+    watchStuck();
     if (!this.document?.connections.delete(this)) return;
     if (this.id !== null) this.document.leave(this.id);
   }
 }
 
 setInterval(() => documents.forEach((document) => document.sweep(Date.now())), 1000);
-setInterval(() => {
+
+// Looks after those that are stuck each 20 ms, and not at all while nobody is.
+let watch = null;
+function watchStuck() {
+  if (stuck.size > 0) watch ??= setInterval(lookAfterStuck, 20);
+  else { clearInterval(watch); watch = null; }
+}
+
+function lookAfterStuck() {
   for (const connection of stuck) {
     if (!connection.isStuck()) connection.document?.flush();
     else if (Date.now() - connection.stuckSince > PATIENCE) connection.wire.end();
   }
-}, 20);
+}
 
 // ---- sockets
 
