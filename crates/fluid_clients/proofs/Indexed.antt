@@ -21,9 +21,6 @@ hit-same n x same = ap (λ b. cond b 1 0) (eq-eqb x n same)
 pub hit-other : (n x : ℕ) → (x ≡ n → ⊥) → hit n x ≡ 0
 hit-other n x ne = ap (λ b. cond b 1 0) (ne_eqb x n ne)
 
-times-one : (n x : ℕ) (xs : List ℕ) → times n (x ∷ xs) ≡ hit n x + times n xs
-times-one n x xs = refl
-
 pub times-append : (n : ℕ) (xs : List ℕ) (y : ℕ) → times n (xs ++ y ∷ []) ≡ times n xs + hit n y
 times-append n [] y = omega arith
 times-append n (x ∷ xs) y = let rest = times-append n xs y in omega (arith, rest)

@@ -138,14 +138,6 @@ module _ (seats : List Seat) (index : List (Option ℕ)) (free : List ℕ) (room
   pub least-others : (o : Option ℕ) → IsLeastHeld itself (set index s.slot None) o → o ≡ least (finite.remove (rows_in seats) id)
   least-others o least_is = least-indexed (remove seats at) (set index s.slot None) (free ++ s.slot ∷ []) o kept-left.order kept-left.indexed least_is ∙ ap least rows-left
 
-  -- where there is a seat there is one slot more than there are free ones
-  pub free-room : length free < more
-  free-room =
-      let count = kept.indexed.count in
-      let le = kept.freed in
-      let lt = is.in_range in
-      omega (arith, count, le, lt)
-
   pub slots-count : length index ≡ len (rows_in seats) + length free
   slots-count = let count = kept.indexed.count in omega (arith, count, count_of seats kept.order)
 

@@ -231,10 +231,6 @@ named_read t n h = of (item 0 t) h
 
 -- ---- a connection
 
-mode_found : (m : Mode) → find (λ b. bytes_eq (mode_word m) (mode_word b)) modes ≡ Some m
-mode_found mode.Read = refl
-mode_found mode.Write = refl
-
 abbrev IsMode : Bool → Option Tree → Type 0
 IsMode write value = MatchOption value (write ≡ true) (λ m. m ≡ text (mode_word (cond write mode.Write mode.Read)))
 

@@ -22,9 +22,6 @@ pub bind_ok : {A B : Type 0} (m : Read A) (k : A → Read B) (b : B) → (m >>= 
 bind_ok (Ok a) k b h = (a, refl, h)
 bind_ok (Err e) k b h = cc
 
-pub ok_bind : {A B : Type 0} (m : Read A) (k : A → Read B) (a : A) (b : B) → m ≡ Ok a → k a ≡ Ok b → (m >>= k) ≡ Ok b
-ok_bind m k a b h g = rw h g
-
 pub ok_same : {A : Type 0} (x a : A) (r : Read A) → r ≡ Ok x → r ≡ Ok a → x ≡ a
 ok_same x a r p q = cc
 

@@ -120,11 +120,6 @@ not_two (act.Summary asked) b acts is = is
 not_two (act.GetObject id) b acts is = is
 not_two (act.PutObject bytes) b acts is = is
 
-pub apart_sole : (acts : List Act) → AreAskedApart acts → AreSole acts
-apart_sole [] is = tt
-apart_sole (a ∷ []) is = tt
-apart_sole (a ∷ b ∷ acts) is = absurd (not_two a b acts is)
-
 -- ---- the choice
 
 fitting : (acts : List Act) → AreSubmitActs acts → All IsFitting acts → AreSubmissions acts
@@ -180,11 +175,3 @@ question_some acts a begins asked same =
   where
     head_same : (x y : Act) → x ∷ [] ≡ y ∷ [] → x ≡ y
     head_same x y same = cc
-
-pub question_none : (acts : List Act) → begin_with_entry acts ≡ false → AreAskedAtOnce acts → acts ≡ [] → ⊥
-question_none acts begins asked same =
-    let q = question_chosen acts begins asked in
-    none_one q.0 (sym same ∙ q.1.0)
-  where
-    none_one : (x : Act) → [] ≡ x ∷ [] → ⊥
-    none_one x same = cc

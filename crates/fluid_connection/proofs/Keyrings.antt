@@ -137,15 +137,3 @@ reached_service k m name handed (Err NoMemory) split h =
     keeps name NoMemory (keyed k) (keyed m) a (no_steps_memory (is_opened name (entries a.before)) (refusal (entries a.before)) name)
 
 -- ---- by the visit that was handed in
-
-pub reached_handed : (k : AKey) (name : List ℕ) (handed : Option Visiting) (visit : Visiting) → Splits name handed (Some (Ok visit)) → ReachesBy name handed k k (Ok visit)
-reached_handed k name None visit split = absurd split
-reached_handed k name (Some first) visit split = record {
-  named = ap (λ d. d.name) split.1.0.door ∙ split.0;
-  new = split.1.0.pass.1;
-  begins = λ same. ([], split.1.0.pass.0 ∙ sym (append-nil first.pass.seen));
-  through = inl (record { named = ap Some split.0; limits = ap (λ t. t.fixed.limits) split.1.1; told = ap (λ t. t.fixed.told) split.1.1; key = refl });
-}
-
-pub reached_nothing : (k : AKey) (name : List ℕ) (handed : Option Visiting) → ReachesBy name handed k k (Err NoMemory)
-reached_nothing k name handed = record { same = record { limits = refl; told = refl; number = refl }; seen = ([], sym (append-nil k.seen)); mine = refl }

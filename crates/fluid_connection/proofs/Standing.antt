@@ -71,9 +71,6 @@ has_visit t is joined none =
     let named : None ≡ document_name t.voice = subst (λ v. (pass_of v).name ≡ document_name t.voice) none (is.named joined) in
     false≢true (ap (λ (o : Option (List ℕ)). is_some o) named ∙ joined)
 
-pub visit_named : (t : Talked) (visit : Visiting) → IsTalk t → is_connected t.voice ≡ true → t.visit ≡ Some visit → document_name t.voice ≡ Some visit.door.name
-visit_named t visit is joined some = sym (subst (λ v. (pass_of v).name ≡ document_name t.voice) some (is.named joined))
-
 pub visit_within : (t : Talked) (visit : Visiting) → IsTalk t → is_connected t.voice ≡ true → t.visit ≡ Some visit → visit.pass.turn.fixed.told ≡ true → next_number t.voice ≤ number_behind_last visit.pass.seen
 visit_within t visit is joined some = subst (λ v. (pass_of v).told ≡ true → next_number t.voice ≤ number_behind_last (pass_of v).seen) some (is.next joined)
 

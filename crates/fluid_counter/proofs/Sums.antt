@@ -54,9 +54,6 @@ module _ {total : ℤ} {pending : List ℤ} {sum_kept : ℤ} {size_kept : ℕ} (
   pub local-fits : FitsSigned w128 (sum_kept +ℤ amount)
   local-fits = fits (sum_kept +ℤ amount) (omega (arith, room, kept.size_is, size-sum_kept kept, size-add sum_kept amount))
 
-  pub kept-remote : AreTotals (total +ℤ amount) pending sum_kept size_kept
-  kept-remote = record { sum_is = kept.sum_is; size_is = kept.size_is; bounded = omega (arith, room, kept.size_is, size-add total amount) }
-
   pub kept-local : AreTotals total (pending ++ amount ∷ []) (sum_kept +ℤ amount) (size_kept + unsigned_abs amount)
   kept-local = record {
     sum_is = omega (arith, ints, kept.sum_is, sum_of-push pending amount);
@@ -74,9 +71,6 @@ module _ {total : ℤ} {pending : List ℤ} {sum_kept : ℤ} {size_kept : ℕ} (
 
   left : sum_kept -ℤ amount ≡ sum_of rest
   left = omega (arith, ints, sums)
-
-  pub amount_le-size : unsigned_abs amount ≤ size_kept
-  amount_le-size = omega (arith, sizes)
 
   pub acknowledged-fits : FitsSigned w128 (total +ℤ amount)
   acknowledged-fits = fits (total +ℤ amount) (omega (arith, sizes, kept.bounded, kept.size_is, size-add total amount))

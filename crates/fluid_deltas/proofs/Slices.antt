@@ -42,11 +42,6 @@ join order s e b le =
 
 -- ---- the messages in memory
 
--- the order reaches as far as they were pushed
-part_length : (d : Pushed) (order : List Message) → ArePartOf d order → pushed d ≤ length order
-part_length d order part =
-    omega (arith, ap length part.splits, length-append part.first (d.held ++ part.behind), length-append d.held part.behind, part.before)
-
 held_of : (d : Pushed) (order : List Message) → ArePartOf d order → d.held ≡ take (length d.held) (drop d.before order)
 held_of d order part =
     sym (

@@ -46,9 +46,6 @@ document_at documents name new q = ap (λ o. unwrap_or o new_document) (get_inse
 same_name : (name : List ℕ) → bytes_eq name name ≡ true
 same_name name = (bytes_eq-Decides name name).1 refl
 
-at_same : {A : Type 0} (name : List ℕ) (a b : A) → cond (bytes_eq name name) a b ≡ a
-at_same name a b = ap (λ c. cond c a b) (same_name name)
-
 -- ---- a step on an open document
 
 -- what a desk is behind a step on one document: the same, with another lane under its name

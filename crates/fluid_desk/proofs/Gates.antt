@@ -62,14 +62,6 @@ worn {A = A} old new rules may gate no_cause = by (is_worn old) refl
     by true is = (is, (gate.worn is).1)
     by false is = absurd (no_cause (gate.refuses is))
 
--- no rules
-pub unruled : {A : Type 0} (old new : Standing) (fault : LaneFault) (may : LaneFault → Type 0) → IsGated {A = A} old new [] may (Err fault) → (fault ≡ Worn → ⊥) → may fault
-unruled {A = A} old new fault may gate fresh = by (is_worn old) refl
-  where
-    by : (b : Bool) → is_worn old ≡ b → may fault
-    by true is = absurd (fresh (same_fault {A = A} fault Worn (gate.worn is).0))
-    by false is = gate.refuses is
-
 -- the same behind one rule
 pub worn_one : {A : Type 0} (old new : Standing) (own : LaneFault) (may : LaneFault → Type 0) (b : Bool) → IsGated {A = A} old new ((b, own) ∷ []) may (Err Worn) → (Worn ≡ own → ⊥) → (may Worn → ⊥)
     → (is_worn old ≡ true) × (new ≡ old)

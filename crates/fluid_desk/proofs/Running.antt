@@ -163,10 +163,6 @@ pub ready_runs : (before steps : ℕ) (o n : Opened) (name : List ℕ) (moment :
     → StopsFor before steps n stop
 ready_runs before steps o n name moment fault stop uses run is = subst (RunsOn before steps n) (sym is) (unopened_runs before steps o n name moment run fault uses)
 
-pub many_runs : (before steps : ℕ) (o n : Opened) (name : List ℕ) (moment : ℕ) (fault : DoorFault) → Uses {A = Unit {0}} name moment o n (Err fault) → HasRun before steps o → (done : Unit {0}) → Ok done ≡ turned_by fault
-    → HasRun before steps n
-many_runs before steps o n name moment fault uses run done is = subst (RunsOn before steps n) (sym is) (unopened_runs before steps o n name moment run fault uses)
-
 -- ---- with the store
 
 module _ (first steps : ℕ) (o : Opened) (name : List ℕ) (old new : Standing) (before now : Storing) (run : HasRun first steps o) (there : get o.lanes name ≡ Some old) (out : IsSome (get o.shelving.out name))

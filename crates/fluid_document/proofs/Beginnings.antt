@@ -25,7 +25,7 @@ use Rattle.fluid_scribe.proofs.Sequenced.{legal-sequenced, sequenced-numbered}
 use Rattle.fluid_document.specs.Kept.{checkpoint_state, IsKept}
 use Rattle.fluid_document.specs.Taking.{StandsAt, IsResumed}
 use Rattle.fluid_document.proofs.Orders.{order-keepable}
-use Rattle.fluid_document.proofs.Saying.{says_before, entries_back, sequence-entries_of, length-entries_of, begun_beyond}
+use Rattle.fluid_document.proofs.Saying.{says_before, entries_back, sequence-entries_of, length-entries_of}
 use Rattle.fluid_document.proofs.Reloading.{nothing-entries_of}
 use Rattle.fluid_document.specs.Loading.{entries_in, entered_in, begun_from, begun, log_folded, folded_behind, loaded, SaysAs, IsSaid, IsBadAs, IsLoaded, HasRead, ReadsBehind}
 
@@ -71,14 +71,6 @@ pub begun_with : {A : Type 0} (view : A → Entries) (result : Result A LoadFaul
     → IsLoaded view result (begun_from number deltas s) → IsLoaded view result (begun content (Some number))
 begun_with view result content number deltas s is within same loaded =
     subst (IsLoaded view result) (ap (λ n. begun_from number n s) same ∙ sym (begun_two content number s is within)) loaded
-
--- what of a state isn't within the order and the deltas is refused
-pub refused_beyond : (number deltas : ℕ) (s : Checkpoint) (fault : LoadFault) → min s.entered deltas < s.sequencer.sequence → (fault ≡ NoMemory) ⊎ (fault ≡ BadCheckpoint number (BadField (codes "sequence")))
-    → IsBadAs (begun_from number deltas s) fault
-refused_beyond number deltas s fault high answer =
-    ⊎_elim (λ (none : fault ≡ NoMemory). subst (IsBadAs (begun_from number deltas s)) (sym none) tt)
-    (λ (bad : fault ≡ BadCheckpoint number (BadField (codes "sequence"))). subst (IsBadAs (begun_from number deltas s)) (sym bad) (begun_beyond number deltas s high))
-    answer
 
 -- all records behind the beginning were read
 pub reads_behind : (told : Option Content) (from : Option ℕ) (f : Entries) (records mid_records before mid now : ℕ) → mid_records ≡ records → mid ≡ before

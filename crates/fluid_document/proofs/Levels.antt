@@ -14,10 +14,7 @@ use Rattle.fluid_core.specs.Entering.{State, verdict_in, after}
 use Rattle.fluid_core.specs.Entering as entering
 use Rattle.fluid_core.proofs.Entered.{parts_of}
 use Rattle.fluid_document.specs.Entries.{Entries, most, counts, nothing_entered, taken_up, IsLevelled}
-use Rattle.fluid_document.proofs.Onwards.{after-sequence, messages-numbered, messages-keepable, start-sound, sound-after}
-
-pub start-levelled : (d : Pushed) → pushed d ≡ 0 → IsLevelled nothing_entered d
-start-levelled d none = record { level = sym none; sequenced = omega arith; counts = omega arith; few = omega arith; sound = start-sound }
+use Rattle.fluid_document.proofs.Onwards.{after-sequence, messages-numbered, messages-keepable, sound-after}
 
 counts_one : (b : Bool) → cond b 1 0 ≤ 1
 counts_one true = omega arith

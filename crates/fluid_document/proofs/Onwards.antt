@@ -62,9 +62,6 @@ messages-numbered s raw = next (verdict_in s raw) refl
 
 -- ---- sound states
 
-pub start-sound : IsSound start.sequencer
-start-sound = record { few = omega arith; rows = λ id row there. absurd (none-some _ (sym (get-empty byte_order id) ∙ there)) }
-
 pub sound-after : (s : State) (raw : Raw) → IsSound s.sequencer → s.sequencer.sequence < 2 ^ 53 - 1 → IsSound (after s raw (verdict_in s raw)).sequencer
 unfolding after verdict_in
 sound-after s raw sound few = sound_after s.sequencer sound (answer_for s raw) raw _ refl few

@@ -83,9 +83,6 @@ length-entries_of l = refl
 pub begun_within : (number deltas : ℕ) (s : Checkpoint) → s.sequencer.sequence ≤ min s.entered deltas → begun_from number deltas s ≡ Ok (entries_in s)
 begun_within number deltas s low = rw (le-leb s.sequencer.sequence (min s.entered deltas) low) refl
 
-pub begun_beyond : (number deltas : ℕ) (s : Checkpoint) → min s.entered deltas < s.sequencer.sequence → begun_from number deltas s ≡ Err (BadCheckpoint number (BadField (codes "sequence")))
-begun_beyond number deltas s high = rw (lt-leb s.sequencer.sequence (min s.entered deltas) high) refl
-
 pub begun_kept : (number deltas : ℕ) (l : Ledger) → IsLegal l → length l ≤ most → seq l ≤ deltas → begun_from number deltas (checkpoint_state (entries_of l)) ≡ Ok (entries_of l)
 begun_kept number deltas l legal few reached =
     let low = seq-le_length l in

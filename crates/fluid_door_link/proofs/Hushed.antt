@@ -8,21 +8,11 @@ use Rattle.fluid_store.specs.declared.fault.ObjectFault.TheVariants.{Failed, NoM
 use Rattle.fluid_store.proofs.Short.{short_more}
 use Rattle.fluid_door_link.specs.Hushing.{hushed, IsShortAsTold}
 
-pub gets_hushed : (may : Bool) (id : List ℕ) (old new : Storing) (result : Result (Option (List ℕ)) ObjectFault) → Gets id old new result → Gets id (hushed may old) (hushed may new) result
-gets_hushed true id old new result gets = gets
-gets_hushed false id old new (Ok found) gets = record { content = refl; gets = gets.gets; later = gets.later; says = tt }
-gets_hushed false id old new (Err Failed) gets = record { content = refl; gets = gets.gets; later = gets.later; says = gets.says }
-gets_hushed false id old new (Err NoMemory) gets = record { content = refl; gets = gets.gets; later = gets.later; says = tt }
-
 pub puts_hushed : (may : Bool) (id bytes : List ℕ) (old new : Storing) (result : Result (Unit {0}) ObjectFault) → Puts id bytes old new result → Puts id bytes (hushed may old) (hushed may new) result
 puts_hushed true id bytes old new result puts = puts
 puts_hushed false id bytes old new (Ok done) puts = record { gets = puts.gets; later = puts.later; does = refl }
 puts_hushed false id bytes old new (Err Failed) puts = record { gets = puts.gets; later = puts.later; does = (puts.does.0, inl refl) }
 puts_hushed false id bytes old new (Err NoMemory) puts = record { gets = puts.gets; later = puts.later; does = refl }
-
-pub faults_hushed : (may : Bool) (store : Storing) → (hushed may store).faults ≡ store.faults
-faults_hushed true store = refl
-faults_hushed false store = refl
 
 same_held : (a b : Held) → ◌≡◌ {A = Option Held} (Some a) (Some b) → a ≡ b
 same_held a b same = cc
@@ -47,9 +37,6 @@ short_put id bytes old new few put short held is = by old.content refl (sym put 
     by : (o : Option Held) → old.content ≡ o → option_map (λ k. insert k id bytes) o ≡ Some held → IsShort held
     by None e k = absurd (no_held held k)
     by (Some kept) e k = subst IsShort (same_held (insert kept id bytes) held k) (short_more kept id bytes (short kept e) few)
-
-pub short_gets : (id : List ℕ) (old new : Storing) (result : Result (Option (List ℕ)) ObjectFault) → Gets id old new result → IsShortAsTold old → IsShortAsTold new
-short_gets id old new result gets short = short_same old new gets.content short
 
 pub short_puts : (id bytes : List ℕ) (old new : Storing) (result : Result (Unit {0}) ObjectFault) → length bytes < 2 ^ 53 → Puts id bytes old new result → IsShortAsTold old → IsShortAsTold new
 short_puts id bytes old new (Ok done) few puts short = short_put id bytes old new few puts.does short

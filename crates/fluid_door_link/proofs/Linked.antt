@@ -173,18 +173,6 @@ module _ (client : List ℕ) (moment : ℕ) (messages : List ℕ) (objects : Lis
       uploads_so old new a a x x handles later t u (Ok id) (omega arith) (omega arith) counts
       (is, (both_so (PutsAll node base id) _ (λ d e h. h.tree) old new by, both_so (PutsAll node base id) _ (λ d e h. h.stands) old new by))
 
-  pub unuploaded : (old new : Option Document) (a b x y : ℕ) (handles later : List ℕ) (t u : ℕ) (fault answer : LinkFault) → UploadsBy node base old new (Err fault) → TreesBy node base old new t u (Err fault) → answer ≡ fault → IsCounted fault a b x y
-      → Uploads node base (linked client moment messages objects handles t old a x taken) (linked client moment messages objects later u new b y taken) (Err answer)
-  unuploaded old new a b x y handles later t u fault answer by counts same is =
-      subst (λ f. Uploads node base (linked client moment messages objects handles t old a x taken) (linked client moment messages objects later u new b y taken) (Err f)) (sym same)
-      (uploads_so old new a b x y handles later t u (Err fault) (counts_up fault a b x y is).0 (counts_up fault a b x y is).1 counts (of fault by is))
-    where
-      of : (f : LinkFault) → UploadsBy node base old new (Err f) → IsCounted f a b x y
-          → UploadSays node base (linked client moment messages objects handles t old a x taken) (linked client moment messages objects later u new b y taken) (Err f)
-      of Failed by is = (is.0, by)
-      of (Clash id kept bytes) by is = (is.0, by)
-      of NoMemory by is = by
-
 -- ---- calls that read
 
 module _ (client : List ℕ) (moment : ℕ) (trees : ℕ) (handles : List ℕ) (taken : List Submission) where
@@ -211,21 +199,6 @@ module _ (client : List ℕ) (moment : ℕ) (trees : ℕ) (handles : List ℕ) (
     pub got : (found : Option (List ℕ)) (a x : ℕ) → GetsBy id old new (Ok found) → Gets id (reader old a x messages objects) (reader new a x messages (objects ++ id ∷ [])) (Ok found)
     got found a x by = record { later = omega arith; says = (ap (λ t. reader t a x messages (objects ++ id ∷ [])) by.0, by.1) }
 
-    pub got_unkept : (found : Option (List ℕ)) (a x : ℕ) (later : List (List ℕ)) → GetsBy id old new (Ok found) → later ≡ objects → Gets id (reader old a x messages objects) (reader new a x messages later) (Err NoMemory)
-    got_unkept found a x later by same =
-        record { later = omega arith; says = (ap (λ t. reader t a x messages later) by.0 ∙ ap (λ l. reader old a x messages l) same, tt) }
-
-    pub ungot : (fault answer : LinkFault) (a b x y : ℕ) → GetsBy id old new (Err fault) → answer ≡ fault → IsCounted fault a b x y → Gets id (reader old a x messages objects) (reader new b y messages objects) (Err answer)
-    ungot fault answer a b x y by same is = subst (λ f. Gets id (reader old a x messages objects) (reader new b y messages objects) (Err f)) (sym same) (of fault by is)
-      where
-        of : (f : LinkFault) → GetsBy id old new (Err f) → IsCounted f a b x y → Gets id (reader old a x messages objects) (reader new b y messages objects) (Err f)
-        of Failed by is = record { later = is.1.0; says = (left old new messages objects a b x y by is.1.1, is.0) }
-        of (Clash other kept bytes) by is = absurd by
-        of NoMemory by is = record { later = omega (arith, is.0); says = (left old new messages objects a b x y by is.1, tt) }
-
-  pub nothing_got : (id : List ℕ) (told : Option Document) (messages : List ℕ) (objects : List (List ℕ)) (a x : ℕ) → Gets id (reader told a x messages objects) (reader told a x messages objects) (Err NoMemory)
-  nothing_got id told messages objects a x = record { later = omega arith; says = (refl, tt) }
-
   module _ (from : ℕ) (old new : Option Document) (objects : List (List ℕ)) (numbers : List ℕ) where
     pub fetched : (messages : List Message) (later : List ℕ) (a x : ℕ) → ReadsBy from old new (Ok messages) → later ≡ numbers ++ map (λ m. m.number) messages
         → Fetches from (reader old a x numbers objects) (reader new a x later objects) (Ok messages)
@@ -233,23 +206,6 @@ module _ (client : List ℕ) (moment : ℕ) (trees : ℕ) (handles : List ℕ) (
       later = omega arith;
       says = (ap (λ t. reader t a x later objects) by.0 ∙ ap (λ l. reader old a x l objects) is, (by.1.numbered, (by.1.few, by.1.are)));
     }
-
-    pub fetched_unkept : (messages : List Message) (later : List ℕ) (a x : ℕ) → ReadsBy from old new (Ok messages) → later ≡ numbers
-        → Fetches from (reader old a x numbers objects) (reader new a x later objects) (Err NoMemory)
-    fetched_unkept messages later a x by is =
-        record { later = omega arith; says = (ap (λ t. reader t a x later objects) by.0 ∙ ap (λ l. reader old a x l objects) is, tt) }
-
-    pub unfetched : (fault answer : LinkFault) (a b x y : ℕ) → ReadsBy from old new (Err fault) → answer ≡ fault → IsCounted fault a b x y
-        → Fetches from (reader old a x numbers objects) (reader new b y numbers objects) (Err answer)
-    unfetched fault answer a b x y by same is = subst (λ f. Fetches from (reader old a x numbers objects) (reader new b y numbers objects) (Err f)) (sym same) (of fault by is)
-      where
-        of : (f : LinkFault) → ReadsBy from old new (Err f) → IsCounted f a b x y → Fetches from (reader old a x numbers objects) (reader new b y numbers objects) (Err f)
-        of Failed by is = record { later = is.1.0; says = (left old new numbers objects a b x y by is.1.1, is.0) }
-        of (Clash other kept bytes) by is = absurd by
-        of NoMemory by is = record { later = omega (arith, is.0); says = (left old new numbers objects a b x y by is.1, tt) }
-
-  pub nothing_fetched : (from : ℕ) (told : Option Document) (numbers : List ℕ) (objects : List (List ℕ)) (a x : ℕ) → Fetches from (reader told a x numbers objects) (reader told a x numbers objects) (Err NoMemory)
-  nothing_fetched from told numbers objects a x = record { later = omega arith; says = (refl, tt) }
 
 -- ---- acknowledged summaries
 

@@ -33,49 +33,11 @@ use Rattle.fluid_door_link.proofs.Walked.{known, went_store}
 
 -- ---- what is told over a store
 
--- a fact on what is told of a lane over one content and another
-told_both : (P : Document → Document → Type 0) (good : Bool) (s : Standing) → (good ≡ true → IsKnown s) → (store now : Storing)
-    → ((l : Ledger) (limit : ℕ) → good ≡ true → BothTell P (option_map (document_of l limit) store.content) (option_map (document_of l limit) now.content))
-    → BothTell P (told_by good s store) (told_by good s now)
-told_both P false s known store now both = tt
-told_both P true s known store now both =
-    let at = known refl in
-    subst (λ o. BothTell P o (told_by true s now)) (sym (told_of s at store))
-    (subst (λ o. BothTell P (option_map (document_of (ledger at.list) s.limits.entries) store.content) o) (sym (told_of s at now))
-    (both (ledger at.list) s.limits.entries refl))
-
 -- ---- getting
-
--- what is held tells what is told
-same_over : (good : Bool) (s : Standing) → (good ≡ true → IsKnown s) → (store now : Storing) → now.content ≡ store.content → told_by good s now ≡ told_by good s store
-same_over false s known store now same = refl
-same_over true s known store now same =
-    told_of s (known refl) now ∙ ap (λ o. option_map (document_of (ledger (known refl).list) s.limits.entries) o) same ∙ sym (told_of s (known refl) store)
-
-held_told : (l : Ledger) (limit : ℕ) (P : Held → Type 0) (o : Option Held) → Tells o P → Tells (option_map (document_of l limit) o) (λ d. P d.held)
-held_told l limit P None is = tt
-held_told l limit P (Some held) is = is
-
-of_held : (P : Held → Type 0) (good : Bool) (s : Standing) → (good ≡ true → IsKnown s) → (store : Storing) → Tells store.content P → Tells (told_by good s store) (λ d. P d.held)
-of_held P false s known store is = tt
-of_held P true s known store is =
-    subst (λ o. Tells o (λ d. P d.held)) (sym (told_of s (known refl) store)) (held_told (ledger (known refl).list) s.limits.entries P store.content is)
 
 module _ (good : Bool) (began : Standing) (before : Storing) (at : Along) (along : IsAlong good began before at) (none : at.stop ≡ None) (id : List ℕ) (new : Storing) where
   pub got_along : (r : Result (Option (List ℕ)) ObjectFault) → Gets id at.store new r → IsAlong good began before (record { lane = at.lane; store = new; stop = None })
   got_along r gets = went_store good began before at along none new None gets.later (ap is_some gets.content) (λ is. tt) tt
-
-  pub ungot_along : (note : FaultNote) → note.before ≡ at.store.faults → note.after ≡ new.faults → Gets id at.store new (Err Failed)
-      → IsAlong good began before (record { lane = at.lane; store = new; stop = Some (Store (StoreFailed note)) })
-  ungot_along note first last gets =
-      went_store good began before at along none new (Some (Store (StoreFailed note))) gets.later (ap is_some gets.content) (λ is. tt)
-      (record { before = omega (arith, first); after = last; rose = subst (λ n. Rose n note.after) (sym first) (subst (λ n. Rose at.store.faults n) (sym last) gets.says) })
-
-  pub got_same : (r : Result (Option (List ℕ)) ObjectFault) → Gets id at.store new r → told_by good at.lane new ≡ told_by good at.lane at.store
-  got_same r gets = same_over good at.lane (known good began before at along) at.store new gets.content
-
-  pub got_told : (found : Option (List ℕ)) → Gets id at.store new (Ok found) → GetsBy id (told_by good at.lane at.store) (told_by good at.lane new) (Ok found)
-  got_told found gets = (got_same (Ok found) gets, of_held (λ held. found ≡ get held id) good at.lane (known good began before at along) at.store gets.says)
 
 -- ---- putting
 

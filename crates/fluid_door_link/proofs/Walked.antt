@@ -136,9 +136,6 @@ module _ (good : Bool) (began : Standing) (before : Storing) (at : Along) (along
 pub at_kept : (a : Along) (lane : Standing) (store : Storing) (stop : Option LentFault) → a ≡ record { lane = lane; store = store; stop = stop } → a ≡ record { lane = lane; store = store; stop = a.stop }
 at_kept a lane store stop is = is ∙ ap (λ s. record { lane = lane; store = store; stop = s }) (sym (ap (λ (x : Along). x.stop) is))
 
-pub at_none : (a : Along) (lane : Standing) (store : Storing) → a ≡ record { lane = lane; store = store; stop = a.stop } → a.stop ≡ None → a ≡ record { lane = lane; store = store; stop = None }
-at_none a lane store is none = is ∙ ap (λ s. record { lane = lane; store = store; stop = s }) none
-
 pub none_of : (stop : Option LentFault) (b : Bool) → MatchOption stop (b ≡ false) (λ _. b ≡ true) → b ≡ false → stop ≡ None
 none_of None b is still = refl
 none_of (Some fault) b is still = absurd (apart (sym is ∙ still))

@@ -57,10 +57,6 @@ pub told_is : {A : Type 0} (o : Option A) (Q : Type 0) → is_some o ≡ true �
 told_is None Q is tells = absurd (false≢true is)
 told_is (Some a) Q is tells = tells
 
-told_content : {A : Type 0} (o : Option A) (P : A → Type 0) → is_some o ≡ true → Tells o P → (a : A) × P a
-told_content None P is tells = absurd (false≢true is)
-told_content (Some a) P is tells = (a, tells)
-
 -- ---- faults
 
 pub outside_not_worn : (f : LaneFault) → IsOutside f → IsNotWorn f

@@ -36,9 +36,6 @@ continues old new added goes = record {
   list = goes.list;
 }
 
-pub continues_same : (s : Standing) → Continues s s []
-continues_same s = record { terms = refl; later = omega arith; list = λ l stands. subst (LaneStands s) (sym (append-nil l)) stands }
-
 -- ---- the pass
 
 entries_length : (l : List (Numbered Step)) → length (entries l) ≡ length l

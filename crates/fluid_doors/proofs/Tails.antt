@@ -134,17 +134,9 @@ begun s old new from l law stands bound first few (inl (same, reached)) was = su
 begun s old new from l law stands bound first few (inr anew) was =
     subst (λ t. IsTailOf (terms_of s).told t l) (sym anew) (empty_tail (terms_of s).told from l first (omega (arith, few, bound)) (reaches_to s l from law stands few))
 
-pub begun_low : (old new : ATail) (from : ℕ) → old.from ≤ from → Begins old new from → new.from ≤ from
-begun_low old new from low (inl (same, reached)) = subst (λ (t : ATail). t.from ≤ from) (sym same) low
-begun_low old new from low (inr anew) = subst (λ (t : ATail). t.from ≤ from) (sym anew) (omega arith)
-
 pub begun_high : (old new : ATail) (from : ℕ) → Begins old new from → from ≤ new.from + length new.messages
 begun_high old new from (inl (same, reached)) = subst (λ (t : ATail). from ≤ t.from + length t.messages) (sym same) reached
 begun_high old new from (inr anew) = subst (λ (t : ATail). from ≤ t.from + length t.messages) (sym anew) (omega arith)
-
-pub begun_short : (old new : ATail) (from : ℕ) → Begins old new from → length new.messages ≤ length old.messages
-begun_short old new from (inl (same, reached)) = subst (λ (t : ATail). length t.messages ≤ length old.messages) (sym same) (omega arith)
-begun_short old new from (inr anew) = subst (λ (t : ATail). length t.messages ≤ length old.messages) (sym anew) (omega arith)
 
 -- ---- tails that lose or get messages
 
@@ -187,15 +179,6 @@ extended told old new to ms l is bound numbers sliced was = subst (λ t. IsTailO
     ordered = let c = numbers.count in omega (arith, c)
 
 -- ---- what is gathered
-
--- memory was wanting
-pub collects_refused : (s : Standing) (l : List Step) (next atmost : ℕ) → LaneSays → LaneStands s l → Collects gathered (terms_of s) next atmost (Err NoMemory) l
-collects_refused s l next atmost law stands = record {
-  worn = λ w. absurd w;
-  given = tt;
-  faults = tt;
-  told = λ is. let says = told_is s.keeping.content (SaysOf s (ledger l)) is (law s l stands) in record { legal = says.legal; given = tt; faults = tt };
-}
 
 -- an event with the messages of a tail
 pub collects_event : (s : Standing) (t : ATail) (name : List ℕ) (event : Reply) (l : List Step) (next to atmost : ℕ) → LaneSays → LaneStands s l → IsTailOf (terms_of s).told t l → s.entries.state.sequencer.sequence ≤ most
@@ -314,10 +297,6 @@ apart_tail s l next atmost len from to t law stands bound first is at ends some 
     let low : from ≤ len + 1 = omega (arith, at, ends, high, some) in
     subst (λ u. IsTailOf (terms_of s).told u l) (sym begins)
     (empty_tail (terms_of s).told from l (omega (arith, at, first)) (omega (arith, low, bound)) (reaches_to s l from law stands (omega (arith, low, is))))
-
--- an event of the document of this name
-pub event_under : (name : List ℕ) (event : Reply) (ms : List Message) → event ≡ Ops name ms → 0 < length ms → IsEventUnder name (Some event)
-event_under name event ms is some = subst (λ e. IsEventUnder name (Some e)) (sym is) (refl, some)
 
 -- the numbers that the cursor's range has
 pub collects_numbers : (s : Standing) (l : List Step) (next atmost len from to : ℕ) (result : Result (Option Reply) DeltaFault) → len ≡ s.entries.state.sequencer.sequence → from ≡ next → to ≡ next + min atmost (len + 1 - next)

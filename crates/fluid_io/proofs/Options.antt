@@ -8,14 +8,3 @@ pub appends_both : (front more : List ℕ) (old mid new : Option (List ℕ)) →
 appends_both front more None mid new first second = second ∙ ap (option_map (λ b. b ++ more)) first
 appends_both front more (Some b) mid new first second =
     second ∙ ap (option_map (λ b. b ++ more)) first ∙ ap Some (append_assoc b front more)
-
--- bytes that are given twice are given together
-pub gives_both : (front more : List ℕ) (old mid new : Option (List ℕ)) → Gives front old mid → Gives more mid new → Gives (front ++ more) old new
-gives_both front more old mid None first second = first ∙ ap (option_map (λ b. front ++ b)) second
-gives_both front more old mid (Some b) first second =
-    first ∙ ap (option_map (λ b. front ++ b)) second ∙ ap Some (sym (append_assoc front more b))
-
--- appending nothing
-pub appends_nothing : (old : Option (List ℕ)) → Appends [] old old
-appends_nothing None = refl
-appends_nothing (Some b) = ap Some (sym (append-nil b))

@@ -59,22 +59,6 @@ puts_on d one other new same puts = record {
   };
 }
 
-rooms_on : (d : Pushed) (one other new : Keeping) → KeepsSame one other → KeepsSame (roomed d other) new → KeepsSame (roomed d one) new
-rooms_on d one other new same kept = record {
-  content = kept.content ∙ ap₂ (λ n o. option_map (put_behind (for_room d n)) o) same.deltas same.content;
-  records = kept.records ∙ same.records;
-  deltas = kept.deltas ∙ ap (λ n. n + length (for_room d n)) same.deltas;
-  checkpoints = kept.checkpoints ∙ same.checkpoints;
-}
-
-record_on : (d : Pushed) (bytes : List ℕ) (one other new : Keeping) → KeepsSame one other → KeepsSame (with_record bytes (roomed d other)) new → KeepsSame (with_record bytes (roomed d one)) new
-record_on d bytes one other new same kept = record {
-  content = kept.content ∙ ap₂ (λ n o. option_map (add_record bytes) (option_map (put_behind (for_room d n)) o)) same.deltas same.content;
-  records = kept.records ∙ ap (λ n. n + 1) same.records;
-  deltas = kept.deltas ∙ ap (λ n. n + length (for_room d n)) same.deltas;
-  checkpoints = kept.checkpoints ∙ same.checkpoints;
-}
-
 -- ---- calls that enter
 
 pub enters_worn : {A : Type 0} (raw : Raw) (old new : Standing) → new ≡ old → Enters {A = A} raw old new (Err Worn)
@@ -121,85 +105,7 @@ enters_early raw old new (BadCheckpoint number bad) early same entries level rea
 enters_early raw old new (TooLarge bytes) early same entries level reads = absurd early
 enters_early raw old new Worn early same entries level reads = absurd early
 
--- the cut was made, and the entry was given to the log
-pub enters_on : {A : Type 0} (raw : Raw) (old mid new : Standing) (result : Result A LaneFault) → KeepsSame (cut_back old) mid.keeping → mid.entries ≡ old.entries → mid.messages ≡ old.messages → mid.keeping.reads ≡ old.keeping.reads
-    → old.keeping.faults ≤ mid.keeping.faults → TakesUp mid.entries new.entries raw result → OwesBy new result → IfErr result IsOutside → IfErr result (IsCausedBy mid.keeping.faults new.keeping.faults) → new.keeping.reads ≡ mid.keeping.reads
-    → AddKept raw mid mid.keeping new.keeping result → Enters raw old new result
-enters_on raw old mid new (Ok a) same entries messages reads later takes owes outside cause more kept = record {
-  entries = takes ∙ ap (λ e. taken_up e raw) entries;
-  owes = owes;
-  cause = tt;
-  reads = more ∙ reads;
-  kept = record_on old.messages (raw_printed raw) (cut_back old) mid.keeping new.keeping same (subst (λ d. KeepsSame (with_record (raw_printed raw) (roomed d mid.keeping)) new.keeping) messages kept);
-}
-enters_on {A = A} raw old mid new (Err fault) same entries messages reads later takes owes outside cause more kept = record {
-  entries = takes ∙ entries;
-  owes = owes;
-  cause = caused_earlier old.keeping.faults mid.keeping.faults new.keeping.faults fault later cause;
-  reads = more ∙ reads;
-  kept = by fault outside kept;
-}
-  where
-    some : PutsSome (for_room mid.messages mid.keeping.deltas) mid.keeping new.keeping → PutsSome (for_room old.messages (cut_back old).deltas) (cut_back old) new.keeping
-    some puts = puts_on old.messages (cut_back old) mid.keeping new.keeping same (subst (λ d. PutsSome (for_room d mid.keeping.deltas) mid.keeping new.keeping) messages puts)
-
-    torn : KeepsSame (roomed mid.messages mid.keeping) new.keeping ⊎ KeepsSame (with_record (raw_printed raw) (roomed mid.messages mid.keeping)) new.keeping
-        → KeepsSame (roomed old.messages (cut_back old)) new.keeping ⊎ KeepsSame (with_record (raw_printed raw) (roomed old.messages (cut_back old))) new.keeping
-    torn (inl left) = inl (rooms_on old.messages (cut_back old) mid.keeping new.keeping same (subst (λ d. KeepsSame (roomed d mid.keeping) new.keeping) messages left))
-    torn (inr left) = inr (record_on old.messages (raw_printed raw) (cut_back old) mid.keeping new.keeping same (subst (λ d. KeepsSame (with_record (raw_printed raw) (roomed d mid.keeping)) new.keeping) messages left))
-
-    by : (f : LaneFault) → IsOutside f → AddKept {A = A} raw mid mid.keeping new.keeping (Err f) → EnterKept {A = A} raw old new (Err f)
-    by (LogFailed note) out is = inr (torn is)
-    by (Full n) out is = absurd out
-    by (BadRecord place) out is = absurd out
-    by (NoCheckpoint asked stored) out is = absurd out
-    by CheckpointsFull out is = absurd out
-    by TooManyClients out is = absurd out
-    by (DeltaFailed note) out is = some is
-    by NoMemory out is = some is
-    by (BadCheckpoint number bad) out is = absurd out
-    by (TooLarge bytes) out is = absurd out
-    by Worn out is = absurd out
-
 -- ---- calls that store
-
-pub stores_worn : (old new : Standing) → new ≡ old → Stores old new (Err Worn)
-stores_worn old new same = record {
-  same = (ap (λ s. s.entries) same, ap (λ s. s.messages) same);
-  settled_by = tt;
-  cause = tt;
-  reads = ap (λ s. s.keeping.reads) same;
-  kept = subst (λ s. KeepsSame old.keeping s.keeping) (sym same) (same_itself old.keeping);
-  stored = tt;
-}
-
-pub stores_cut : (old new : Standing) (fault : LaneFault) → IsLogFailed fault → IsCutFailed old new → (new.entries ≡ old.entries) × (new.messages ≡ old.messages) → new.keeping.reads ≡ old.keeping.reads → IsCausedBy old.keeping.faults new.keeping.faults fault → Stores old new (Err fault)
-stores_cut old new (LogFailed note) log cut same reads cause = record { same = same; settled_by = tt; cause = cause; reads = reads; kept = inl cut; stored = tt }
-stores_cut old new (Full n) log cut same reads cause = absurd log
-stores_cut old new (BadRecord place) log cut same reads cause = absurd log
-stores_cut old new (NoCheckpoint asked stored) log cut same reads cause = absurd log
-stores_cut old new CheckpointsFull log cut same reads cause = absurd log
-stores_cut old new TooManyClients log cut same reads cause = absurd log
-stores_cut old new (DeltaFailed note) log cut same reads cause = absurd log
-stores_cut old new NoMemory log cut same reads cause = absurd log
-stores_cut old new (BadCheckpoint number bad) log cut same reads cause = absurd log
-stores_cut old new (TooLarge bytes) log cut same reads cause = absurd log
-stores_cut old new Worn log cut same reads cause = absurd log
-
-pub stores_full : (old new : Standing) → KeepsSame (cut_back old) new.keeping → (new.entries ≡ old.entries) × (new.messages ≡ old.messages) → new.owed ≡ false → new.keeping.reads ≡ old.keeping.reads → Stores old new (Err CheckpointsFull)
-stores_full old new kept same level reads = record { same = same; settled_by = level; cause = tt; reads = reads; kept = kept; stored = tt }
-
--- what a flush put behind the cut
-lacks_on : (d : Pushed) (one other new : Keeping) → KeepsSame one other → PutsSome (lacking d other.deltas) other new → PutsSome (lacking d one.deltas) one new
-lacks_on d one other new same puts = record {
-  count = puts.count;
-  kept = record {
-    content = puts.kept.content ∙ ap₂ (λ n o. option_map (put_behind (take puts.count (lacking d n))) o) same.deltas same.content;
-    records = puts.kept.records ∙ same.records;
-    deltas = puts.kept.deltas ∙ ap (λ n. n + length (take puts.count (lacking d n))) same.deltas;
-    checkpoints = puts.kept.checkpoints ∙ same.checkpoints;
-  };
-}
 
 deltas_stay : (s : Standing) → (cut_back s).deltas ≡ s.keeping.deltas
 deltas_stay s = by s.owed
@@ -207,11 +113,6 @@ deltas_stay s = by s.owed
     by : (b : Bool) → (if b then cut_to s.entries.entered s.keeping else s.keeping).deltas ≡ s.keeping.deltas
     by true = refl
     by false = refl
-
-missing_on : (old mid new : Standing) → KeepsSame (cut_back old) mid.keeping → mid.messages ≡ old.messages → PutsSome (missing mid) mid.keeping new.keeping → PutsSome (missing old) (cut_back old) new.keeping
-missing_on old mid new same messages puts =
-    subst (λ n. PutsSome (lacking old.messages n) (cut_back old) new.keeping) (deltas_stay old)
-    (lacks_on old.messages (cut_back old) mid.keeping new.keeping same (subst (λ d. PutsSome (lacking d mid.keeping.deltas) mid.keeping new.keeping) messages puts))
 
 pub flushed_on : (old mid new : Standing) → KeepsSame (cut_back old) mid.keeping → mid.messages ≡ old.messages → KeepsSame (with_deltas (missing mid) mid.keeping) new.keeping → KeepsSame (flushed old) new.keeping
 flushed_on old mid new same messages kept =
@@ -223,22 +124,6 @@ flushed_on old mid new same messages kept =
       deltas = all.deltas ∙ ap₂ (λ n m. n + length (lacking old.messages m)) same.deltas count;
       checkpoints = all.checkpoints ∙ same.checkpoints;
     }
-
-pub stores_flush : (old mid new : Standing) (fault : LaneFault) → IsFlushFault fault → KeepsSame (cut_back old) mid.keeping → mid.messages ≡ old.messages → PutsSome (missing mid) mid.keeping new.keeping
-    → (new.entries ≡ old.entries) × (new.messages ≡ old.messages) → new.owed ≡ false → new.keeping.reads ≡ old.keeping.reads → IsCausedBy old.keeping.faults new.keeping.faults fault → Stores old new (Err fault)
-stores_flush old mid new (LogFailed note) flush settles messages puts same level reads cause = absurd flush
-stores_flush old mid new (Full n) flush settles messages puts same level reads cause = absurd flush
-stores_flush old mid new (BadRecord place) flush settles messages puts same level reads cause = absurd flush
-stores_flush old mid new (NoCheckpoint asked stored) flush settles messages puts same level reads cause = absurd flush
-stores_flush old mid new CheckpointsFull flush settles messages puts same level reads cause = absurd flush
-stores_flush old mid new TooManyClients flush settles messages puts same level reads cause = absurd flush
-stores_flush old mid new (DeltaFailed note) flush settles messages puts same level reads cause =
-    record { same = same; settled_by = level; cause = cause; reads = reads; kept = missing_on old mid new settles messages puts; stored = tt }
-stores_flush old mid new NoMemory flush settles messages puts same level reads cause =
-    record { same = same; settled_by = level; cause = tt; reads = reads; kept = missing_on old mid new settles messages puts; stored = tt }
-stores_flush old mid new (BadCheckpoint number bad) flush settles messages puts same level reads cause = absurd flush
-stores_flush old mid new (TooLarge bytes) flush settles messages puts same level reads cause = absurd flush
-stores_flush old mid new Worn flush settles messages puts same level reads cause = absurd flush
 
 -- all of them were put
 all_put : (ms : List Message) (old new : Keeping) → KeepsSame (with_deltas ms old) new → PutsSome ms old new
@@ -254,9 +139,6 @@ all_put ms old new same = record {
 -- memory was wanting behind a flush
 pub stores_memory : (old new : Standing) → KeepsSame (flushed old) new.keeping → (new.entries ≡ old.entries) × (new.messages ≡ old.messages) → new.owed ≡ false → new.keeping.reads ≡ old.keeping.reads → Stores old new (Err NoMemory)
 stores_memory old new kept same level reads = record { same = same; settled_by = level; cause = tt; reads = reads; kept = all_put (missing old) (cut_back old) new.keeping kept; stored = tt }
-
-pub stores_large : (old new : Standing) (bytes : ℕ) → KeepsSame (flushed old) new.keeping → (new.entries ≡ old.entries) × (new.messages ≡ old.messages) → new.owed ≡ false → new.keeping.reads ≡ old.keeping.reads → Stores old new (Err (TooLarge bytes))
-stores_large old new bytes kept same level reads = record { same = same; settled_by = level; cause = tt; reads = reads; kept = kept; stored = tt }
 
 checkpoints_stay : (s : Standing) → (flushed s).checkpoints ≡ s.keeping.checkpoints
 checkpoints_stay s = by s.owed
@@ -307,56 +189,7 @@ stores_on old mid new text (Err fault) is short flush kept next there fails caus
     by (TooLarge bytes) out caused = absurd out
     by Worn out caused = absurd out
 
--- the steps of a call that flushed and then stored
-pub goes_stored : (s t u : Standing) (more : List Step) → Goes s t [] → ((l : List Step) → LaneStands s l → Tells t.keeping.content (AreAll (order (ledger l)))) → IsBeside t u more
-    → ((l : List Step) → Tells t.keeping.content (AreAll (order (ledger l))) → LaneStands t l → LaneStands u (l ++ more)) → Goes s u more
-goes_stored s t u more first whole beside list = record {
-  limits = beside.limits ∙ first.limits;
-  opened = beside.opened ∙ first.opened;
-  told = beside.told ∙ first.told;
-  later = omega (arith, first.later, beside.later);
-  entered = omega (arith, first.entered, beside.entered);
-  sides = omega (arith, first.sides, beside.sides);
-  last = beside.last ∙ ap (option_or (last_side more)) first.last;
-  list = λ l stands. list l (whole l stands) (subst (LaneStands t) (append-nil l) (first.list l stands));
-}
-
 -- ---- calls that restart
-
-pub restarts_worn : {A : Type 0} (number : ℕ) (old new : Standing) → new ≡ old → Restarts {A = A} number old new (Err Worn)
-restarts_worn number old new same = record {
-  stays = (ap (λ s. s.entries) same, ap (λ s. s.messages) same);
-  settled_by = tt;
-  cause = tt;
-  kept = subst (λ s. KeepsSame old.keeping s.keeping) (sym same) (same_itself old.keeping);
-  loads = tells_each (cut_back old).content _ (λ c. tt);
-  early = tt;
-  lacked = omega (arith, ap (λ s. s.keeping.deltas) same);
-  at_deltas = tt;
-}
-
-pub restarts_cut : {A : Type 0} (number : ℕ) (old new : Standing) (fault : LaneFault) → IsLogFailed fault → IsCutFailed old new → (new.entries ≡ old.entries) × (new.messages ≡ old.messages) → IsCausedBy old.keeping.faults new.keeping.faults fault
-    → Restarts {A = A} number old new (Err fault)
-restarts_cut number old new (LogFailed note) log cut same cause = record {
-  stays = same;
-  settled_by = tt;
-  cause = cause;
-  kept = inl cut;
-  loads = tells_each (cut_back old).content _ (λ c. tt);
-  early = tt;
-  lacked = omega (arith, cut.kept.deltas);
-  at_deltas = tt;
-}
-restarts_cut number old new (Full n) log cut same cause = absurd log
-restarts_cut number old new (BadRecord place) log cut same cause = absurd log
-restarts_cut number old new (NoCheckpoint asked stored) log cut same cause = absurd log
-restarts_cut number old new CheckpointsFull log cut same cause = absurd log
-restarts_cut number old new TooManyClients log cut same cause = absurd log
-restarts_cut number old new (DeltaFailed note) log cut same cause = absurd log
-restarts_cut number old new NoMemory log cut same cause = absurd log
-restarts_cut number old new (BadCheckpoint bad why) log cut same cause = absurd log
-restarts_cut number old new (TooLarge bytes) log cut same cause = absurd log
-restarts_cut number old new Worn log cut same cause = absurd log
 
 pub restarts_none : {A : Type 0} (number : ℕ) (old new : Standing) (asked stored : ℕ) → KeepsSame (cut_back old) new.keeping → (new.entries ≡ old.entries) × (new.messages ≡ old.messages) → new.owed ≡ false → Restarts {A = A} number old new (Err (NoCheckpoint asked stored))
 restarts_none number old new asked stored kept same level = record {
@@ -384,49 +217,6 @@ deltas_on one other new same puts = record {
     checkpoints = puts.kept.checkpoints ∙ same.checkpoints;
   };
 }
-
-pub restarts_bad : {A : Type 0} (number : ℕ) (old mid new : Standing) (fault : LaneFault) → IsReadFault fault → KeepsSame (cut_back old) mid.keeping → PutsDeltas mid.keeping new.keeping → mid.entries ≡ old.entries → (new.entries ≡ old.entries) × (new.messages ≡ old.messages)
-    → new.owed ≡ false → old.keeping.faults ≤ mid.keeping.faults → IsCausedBy mid.keeping.faults new.keeping.faults fault → Tells mid.keeping.content (λ content. RefusesRestart number mid.entries content fault)
-    → PutsFew mid.entries.entered mid.keeping new.keeping → IsAtDeltas mid.entries.entered fault → Restarts {A = A} number old new (Err fault)
-restarts_bad {A = A} number old mid new fault read kept puts entries same level later cause loads lacked at = record {
-  stays = same;
-  settled_by = settles fault;
-  cause = caused_earlier old.keeping.faults mid.keeping.faults new.keeping.faults fault later cause;
-  kept = by fault read;
-  loads = tells_along _ _ (λ content. RefusesRestart number old.entries content fault) kept.content (subst (λ e. Tells mid.keeping.content (λ content. RefusesRestart number e content fault)) entries loads);
-  early = tt;
-  lacked = omega (arith, lacked, kept.deltas, deltas_stay old, ap (λ e. e.entered) entries);
-  at_deltas = subst (λ e. IsAtDeltas e.entered fault) entries at;
-}
-  where
-    put : PutsDeltas (cut_back old) new.keeping
-    put = deltas_on (cut_back old) mid.keeping new.keeping kept puts
-
-    settles : (f : LaneFault) → SettledBy {A = A} new (Err f)
-    settles (LogFailed note) = tt
-    settles (Full n) = level
-    settles (BadRecord place) = level
-    settles (NoCheckpoint asked stored) = level
-    settles CheckpointsFull = level
-    settles TooManyClients = level
-    settles (DeltaFailed note) = level
-    settles NoMemory = level
-    settles (BadCheckpoint bad why) = level
-    settles (TooLarge bytes) = level
-    settles Worn = tt
-
-    by : (f : LaneFault) → IsReadFault f → RestartKept {A = A} old new (Err f)
-    by (LogFailed note) is = inr (level, put)
-    by (Full n) is = absurd is
-    by (BadRecord place) is = put
-    by (NoCheckpoint asked stored) is = absurd is
-    by CheckpointsFull is = absurd is
-    by TooManyClients is = absurd is
-    by (DeltaFailed note) is = put
-    by NoMemory is = put
-    by (BadCheckpoint bad why) is = put
-    by (TooLarge bytes) is = absurd is
-    by Worn is = absurd is
 
 pub restarts_on : (number : ℕ) (old mid new : Standing) → KeepsSame (cut_back old) mid.keeping → PutsDeltas mid.keeping new.keeping → mid.entries ≡ old.entries → mid.keeping.reads ≡ old.keeping.reads → mid.keeping.records ≡ old.entries.entered
     → (new.entries.entered ≡ old.entries.entered) × (keys new.entries.state.sequencer.rows ≡ keys old.entries.state.sequencer.rows) → new.owed ≡ false → Tells mid.keeping.content (λ content. loaded content (Some number) ≡ Ok new.entries)

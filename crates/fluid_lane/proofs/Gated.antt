@@ -48,16 +48,6 @@ gated_cut {A = A} old new rules may fault worn log cut ok reads = record {
     by None = ok
     by (Some refusal) = inr (log, cut)
 
-pub gated_refused : {A : Type 0} (old new : Standing) (rules : List (Bool × LaneFault)) (may : LaneFault → Type 0) (fault : LaneFault) → is_worn old ≡ false → first_refusal rules ≡ Some fault → (old.owed ≡ false → new ≡ old) → new.keeping.reads ≡ old.keeping.reads
-    → IsGated {A = A} old new rules may (Err fault)
-gated_refused {A = A} old new rules may fault worn first unasked reads = record {
-  worn = λ is. absurd (false≢true (sym worn ∙ is));
-  passes = tt;
-  refuses = λ _. subst (λ o. IsCause old new may o fault) (sym first) (inl refl);
-  unasked = λ _ level. unasked level;
-  unread = λ _. reads;
-}
-
 pub gated_on : {A : Type 0} (old new : Standing) (rules : List (Bool × LaneFault)) (may : LaneFault → Type 0) (result : Result A LaneFault) → is_worn old ≡ false → first_refusal rules ≡ None → IfErr result may → IsGated old new rules may result
 gated_on {A = A} old new rules may result worn none ok = record {
   worn = λ is. absurd (false≢true (sym worn ∙ is));

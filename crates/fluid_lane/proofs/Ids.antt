@@ -48,11 +48,6 @@ below i n lt = omega_cases i n lt
     omega_cases (suc i) zero lt = absurd (omega (arith, lt))
     omega_cases (suc i) (suc n) lt = ⊎_elim (λ less. inl (omega (arith, less))) (λ same. inr (ap suc same)) (omega_cases i n (omega (arith, lt)))
 
--- one place more
-pub same_more : (one other : Rows) (place : ℕ) → AreSameUpTo one other place → slice_get (keys one) place ≡ slice_get (keys other) place → AreSameUpTo one other (place + 1)
-same_more one other place each here = λ i lt.
-    ⊎_elim (λ less. each i less) (λ is. subst (λ j. slice_get (keys one) j ≡ slice_get (keys other) j) (sym is) here) (below i place lt)
-
 -- what names the ids of the one names those of the other
 pub named_same : (n : ℕ) (one other : Rows) → keys one ≡ keys other → AreNamed n one → AreNamed n other
 named_same n one other same named = λ id there.

@@ -24,16 +24,6 @@ asides-append [] more = omega arith
 asides-append (Entered raw verdict ∷ l) more = asides-append l more
 asides-append (Aside side ∷ l) more = omega (arith, asides-append l more)
 
-pub last-entered : (l : List Step) (raw : Raw) (verdict : Verdict) → last_side (l ++ Entered raw verdict ∷ []) ≡ last_side l
-last-entered [] raw verdict = refl
-last-entered (Entered r v ∷ l) raw verdict = last-entered l raw verdict
-last-entered (Aside side ∷ l) raw verdict = ap (λ o. option_or o (Some side)) (last-entered l raw verdict)
-
-pub last-aside : (l : List Step) (side : Side) → last_side (l ++ Aside side ∷ []) ≡ Some side
-last-aside [] side = refl
-last-aside (Entered r v ∷ l) side = last-aside l side
-last-aside (Aside other ∷ l) side = ap (λ o. option_or o (Some other)) (last-aside l side)
-
 noted_in_more : (n m : ℕ) (side : Side) → n ≤ m → IsNotedIn n side → IsNotedIn m side
 noted_in_more n m (Failed note) le noted = omega arith
 noted_in_more n m (Stored number) le noted = tt
@@ -48,12 +38,6 @@ pub noted-append : (n : ℕ) (l more : List Step) → AreNoted n l → AreNoted 
 noted-append n [] more a b = b
 noted-append n (Entered raw verdict ∷ l) more a b = noted-append n l more a b
 noted-append n (Aside side ∷ l) more a b = (a.0, noted-append n l more a.1 b)
-
--- every step is an entry or a side step
-pub counted_steps : (l : List Step) → length l ≡ length (ledger l) + asides l
-counted_steps [] = refl
-counted_steps (Entered raw verdict ∷ l) = omega (arith, counted_steps l)
-counted_steps (Aside side ∷ l) = omega (arith, counted_steps l)
 
 pub last-append : (l more : List Step) → last_side (l ++ more) ≡ option_or (last_side more) (last_side l)
 last-append [] more = none_or (last_side more)

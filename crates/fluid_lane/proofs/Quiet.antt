@@ -97,9 +97,6 @@ one_at rows place heard lt is =
 pub record IsQuiet (moment silence : ℕ) (rows : Rows) (place : ℕ) : Type 0 where
   pub rest : first_silent moment silence rows ≡ first_by (is_silent moment silence rows) (drop place (keys rows))
 
-pub quiet_first : (moment silence : ℕ) (rows : Rows) → IsQuiet moment silence rows 0
-quiet_first moment silence rows = record { rest = refl }
-
 silent_at : (moment silence : ℕ) (rows : Rows) (id : List ℕ) (row : Row) (b : Bool) → get rows id ≡ Some row → nat_lt (row.heard + silence) moment ≡ b → is_silent moment silence rows id ≡ b
 silent_at moment silence rows id row b there is = ap (λ o. option_map_or (λ r. nat_lt (r.heard + silence) moment) o false) there ∙ is
 

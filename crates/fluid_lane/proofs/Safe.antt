@@ -32,10 +32,6 @@ safe_same s t same entries messages owed sides limits safe =
 pub not_worn : (entered sides : ℕ) → nat_le most (entered + sides) ≡ false → entered + sides < most
 not_worn entered sides is = leb-false most (entered + sides) is
 
--- one more side step, for which there is room
-pub room_aside : (entered sides : ℕ) → nat_le most (entered + sides) ≡ false → entered + (sides + 1) ≤ most
-room_aside entered sides worn = omega (arith, not_worn entered sides worn)
-
 taken-entered : (e : Entries) (raw : Raw) → (taken_up e raw).entered ≡ e.entered + 1
 unfolding taken_up
 taken-entered e raw = refl

@@ -114,27 +114,3 @@ ends_later name (Some before) old closed ended = ended.back.later
 
 rose_earlier : (first before now : ℕ) → first ≤ before → Rose before now → Rose first now
 rose_earlier first before now le rose = omega (arith, le, rose)
-
-noted_earlier : (first before now : ℕ) (note : FaultNote) → first ≤ before → IsNoted before now note → IsNoted first now note
-noted_earlier first before now note le is = record { first = omega (arith, le, is.first); last = is.last; rose = is.rose }
-
-for_earlier : (first before now : ℕ) (fault : LaneFault) → first ≤ before → IsRisenFor before now fault → IsRisenFor first now fault
-for_earlier first before now (lane.LogFailed note) le is = (rose_earlier first before now le is.0, is.1)
-for_earlier first before now (lane.Full entries) le is = absurd is
-for_earlier first before now (lane.BadRecord place) le is = tt
-for_earlier first before now (lane.NoCheckpoint asked stored) le is = absurd is
-for_earlier first before now lane.CheckpointsFull le is = absurd is
-for_earlier first before now lane.TooManyClients le is = absurd is
-for_earlier first before now (lane.DeltaFailed note) le is = (rose_earlier first before now le is.0, is.1)
-for_earlier first before now lane.NoMemory le is = absurd is
-for_earlier first before now (lane.BadCheckpoint number bad) le is = tt
-for_earlier first before now (lane.TooLarge bytes) le is = absurd is
-for_earlier first before now lane.Worn le is = tt
-
-pub risen_since : {A : Type 0} (name : List ℕ) (moment : ℕ) (old closed new : Opened) (result : Result A DoorFault) → old.shelving.faults ≤ closed.shelving.faults → Uses name moment closed new result
-    → IfErr result (IsRisen old.shelving.faults new.shelving.faults)
-risen_since name moment old closed new (Ok done) le uses = tt
-risen_since name moment old closed new (Err (ShelfFailed note)) le uses = noted_earlier _ _ _ note le uses.cause
-risen_since name moment old closed new (Err (Lane fault)) le uses = for_earlier _ _ _ fault le uses.cause
-risen_since name moment old closed new (Err (TooManyDocuments count)) le uses = tt
-risen_since name moment old closed new (Err NoMemory) le uses = tt

@@ -70,6 +70,3 @@ stops_in_front r client old now next messages ahead rest m left (inl same) f =
     on_err_always r (of_front client old next messages ahead (subst (λ c. Front client old c messages ahead) (sym same) f))
 stops_in_front r client old now next messages ahead rest m left (inr is) f =
     on_err_always r (of_front client old next messages rest (front_more client old now next messages ahead rest m left is f))
-
-pub none_ahead : (client : List ℕ) (old now : AContainer) (messages ahead : List Message) → ahead ≡ [] → Front client old now messages ahead → now ≡ behind client old messages
-none_ahead client old now messages ahead none f = f.1.1 ∙ ap (behind client old) (sym (f.1.0 ∙ ap (λ l. f.0 ++ l) none ∙ append-nil f.0))

@@ -126,9 +126,6 @@ module _ (back : IsReadBack) (held : Held) where
   abbrev pub pair : Summary → Summary → Children
   pair content kind = child content_name content (child kind_name kind no_children)
 
-  channel_is : (channel : Channel) → channel_node channel ≡ tree (pair (blob (content_of channel)) (blob (kind_word (kind_of channel))))
-  channel_is channel = refl
-
   pub two_names : AllUtf8 (content_name ∷ kind_name ∷ [])
   two_names = (plain_utf8 content_name refl, (plain_utf8 kind_name refl, tt))
 

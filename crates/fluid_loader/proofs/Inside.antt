@@ -26,9 +26,6 @@ all_both P (x ∷ xs) ys h k = (h.0, all_both P xs ys h.1 k)
 pub none_fetched : (inside : Document → List ℕ → Type 0) (old new : Linked) → new.objects ≡ old.objects → FetchesIn inside old new
 none_fetched inside old new same = record { ids = []; fetched = same ∙ sym (append-nil old.objects); are = tells_all old.told (λ d. AllByRecursion (inside d) []) (λ d. tt) }
 
-pub one_fetched : (id : List ℕ) (old new : Linked) → new.objects ≡ old.objects ++ id ∷ [] → FetchesIn (λ d one. one ≡ id) old new
-one_fetched id old new is = record { ids = id ∷ []; fetched = is; are = tells_all old.told (λ d. AllByRecursion (λ one. one ≡ id) (id ∷ [])) (λ d. (refl, tt)) }
-
 -- such ones as by what is told
 pub fetched_so : (inside other : Document → List ℕ → Type 0) (old new : Linked) → Tells old.told (λ d. (one : List ℕ) → inside d one → other d one) → FetchesIn inside old new → FetchesIn other old new
 fetched_so inside other old new f h = record {

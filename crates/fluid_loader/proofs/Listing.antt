@@ -22,9 +22,6 @@ use Rattle.fluid_loader.specs.declared.link.Given.TheVariants.{Taken, Nacked}
 same_document : (order : List Message) (held : Held) → listed order held ≡ listed (order ++ []) held
 same_document order held = ap (λ o. listed o held) (sym (append-nil order))
 
-pub taken_enters : (raw : Raw) (order : List Message) (held : Held) → Enters raw Taken (listed order held) (listed order held)
-taken_enters raw order held = inl (tt, (verdict.Dropped, (refl, same_document order held)))
-
 pub nacked_enters : (raw : Raw) (nack : Nack) (order : List Message) (held : Held) → Enters raw (Nacked nack) (listed order held) (listed order held)
 nacked_enters raw nack order held = inl (tt, (verdict.Nacked nack, (refl, same_document order held)))
 

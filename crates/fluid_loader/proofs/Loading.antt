@@ -30,15 +30,6 @@ read_answers f old mid new (Refused nack) le h = absurd h
 read_answers f old mid new NoMemory le h = tt
 read_answers f old mid new (Clash id kept bytes) le h = absurd h
 
-pub picked_stops : (pick : Pick) (old new : Linked) (fault : LoadFault) → PickedSays pick old new (Err fault) → ReadStops old new fault
-picked_stops pick old new (LinkFailed note) h = h
-picked_stops pick old new NoSummary h = h
-picked_stops pick old new (BadSummary path) h = h
-picked_stops pick old new (Edit fault) h = h
-picked_stops pick old new (Refused nack) h = h
-picked_stops pick old new NoMemory h = h
-picked_stops pick old new (Clash id kept bytes) h = h
-
 pub handed_on : {A : Type 0} (f : Document → Result A LoadFault) (old new : Linked) (r : Result A LoadFault) (fault : LoadFault) → IsErrAnd r (λ e. e ≡ fault) → Answers f old new (Err fault) → Answers f old new r
 handed_on f old new (Ok a) fault h s = absurd h
 handed_on f old new (Err e) fault h s = subst (λ x. Answers f old new (Err x)) (sym h) s
@@ -52,43 +43,6 @@ begun_with pick document = begun_picked document.held (picked pick document.orde
 
 pub none_picked : (pick : Pick) (old new : Linked) → Tells old.told (λ d. None ≡ picked pick d.order) → Answers (begun_with pick) old new (Err NoSummary)
 none_picked pick old new h = tells_then old.told (λ d. None ≡ picked pick d.order) (λ d. begun_with pick d ≡ Err NoSummary) (λ d is. ap (begun_picked d.held) (sym is)) h
-
--- what is read of the picked summary, behind the call that picked it
-pub picked_then : (pick : Pick) (s : SummaryRef) (old mid new : Linked) (r : Result AContainer LoadFault) → mid.told ≡ old.told → old.faults ≤ mid.faults → Tells old.told (λ d. Some s ≡ picked pick d.order)
-    → Sees (λ held. begun_of s.number (version_at held s)) mid new r → Answers (begun_with pick) old new r
-picked_then pick s old mid new (Ok c) same le is h =
-    tells_both old.told (λ d. Some s ≡ picked pick d.order) (λ d. Ok c ≡ begun_of s.number (version_at d.held s)) (λ d. begun_with pick d ≡ Ok c)
-    (λ d k m. ap (begun_picked d.held) (sym k) ∙ ap or_bad (sym m)) is (tells_of old.told mid.told _ same h)
-picked_then pick s old mid new (Err (BadSummary path)) same le is h =
-    tells_both old.told (λ d. Some s ≡ picked pick d.order) (λ d. Err path ≡ begun_of s.number (version_at d.held s)) (λ d. begun_with pick d ≡ Err (BadSummary path))
-    (λ d k m. ap (begun_picked d.held) (sym k) ∙ ap or_bad (sym m)) is (tells_of old.told mid.told _ same h)
-picked_then pick s old mid new (Err (LinkFailed note)) same le is h = record { before = omega (arith, le, h.before); after = h.after; rose = h.rose }
-picked_then pick s old mid new (Err NoSummary) same le is h = absurd h
-picked_then pick s old mid new (Err (Edit fault)) same le is h = absurd h
-picked_then pick s old mid new (Err (Refused nack)) same le is h = absurd h
-picked_then pick s old mid new (Err NoMemory) same le is h = tt
-picked_then pick s old mid new (Err (Clash id kept bytes)) same le is h = absurd h
-
-pub reads_then : (old mid new : Linked) → Reads old mid → LoadReads mid new → LoadReads old new
-reads_then old mid new h k = record {
-  same = k.same ∙ ap (λ (l : Linked). record l { faults = new.faults; objects = new.objects }) h.same;
-  later = omega (arith, h.later, k.later);
-}
-
-pub loads_then : (old mid new : Linked) → LoadReads old mid → PumpReads mid new → LoadsOnly old new
-loads_then old mid new h k =
-    let held : mid.objects ≡ new.objects = sym (ap (λ (l : Linked). l.objects) k.same) in
-    record {
-      same =
-          k.same ∙ ap (λ (l : Linked). record l { faults = new.faults; messages = new.messages }) h.same
-          ∙ (λ i. record old { faults = new.faults; objects = held i; messages = new.messages });
-      later = omega (arith, h.later, k.later);
-    }
-
-pub only_begun : (old mid : Linked) → LoadReads old mid → LoadsOnly old mid
-only_begun old mid h =
-    let none : old.messages ≡ mid.messages = sym (ap (λ (l : Linked). l.messages) h.same) in
-    record { same = h.same ∙ (λ i. record old { faults = mid.faults; objects = mid.objects; messages = none i }); later = h.later }
 
 pub loaded_by : (pick : Pick) (old mid new : Linked) (first c : AContainer) (number : ℕ) → LoadReads old mid → Tells old.told (λ d. begun_in pick d ≡ Ok first) → PumpDoes first c mid new (Ok number)
     → FetchesIn (λ d. IsOfVersion d.held (picked pick d.order)) old mid → Loaded pick old new c

@@ -79,6 +79,3 @@ between_more low n order front ahead le is =
 pub between_longer : (low n : ℕ) (order more : List Message) → low ≤ n → n ≤ length order → between low n (order ++ more) ≡ between low n order
 between_longer low n order more le within =
     ap (take (n - low)) (drop-append-le low order more (omega (arith, le, within))) ∙ take-append-le (n - low) (drop low order) more (omega (arith, le, within, length-drop low order))
-
-pub between_all : (low : ℕ) (order : List Message) → low ≤ length order → between low (length order) order ≡ drop low order
-between_all low order le = take_all (length order - low) (drop low order) (omega (arith, le, length-drop low order))

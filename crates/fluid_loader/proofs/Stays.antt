@@ -130,9 +130,6 @@ uploads_grow node base old new (Err NoMemory) h = both_so _ Grows (some_grow nod
 
 -- ---- a container of it
 
-abreast_then : (a b c : AContainer) → AreAbreast a b → AreAbreast b c → AreAbreast a c
-abreast_then a b c h k = record { channels = h.channels ∙ k.channels; quorum = h.quorum ∙ k.quorum; number = h.number ∙ k.number; head = h.head ∙ k.head }
-
 abreast_behind : (client : List ℕ) (c d : AContainer) (ms : List Message) → AreAbreast c d → AreAbreast (behind client c ms) (behind client d ms)
 abreast_behind client c d [] h = h
 abreast_behind client c d (m ∷ ms) h =

@@ -16,10 +16,6 @@ one_added more bytes (Some c) = ap (λ log. Some (record c { log = log })) (appe
 
 -- ---- keepers
 
--- none at all
-pub with_none : (k : Keeping) → KeepsSame (with_records [] k) k
-with_none k = record { content = nothing_added k.content; records = omega arith; deltas = refl; checkpoints = refl }
-
 -- one more behind these
 pub with_more : (more : List (List ℕ)) (bytes : List ℕ) (old mid new : Keeping) → KeepsSame (with_records more old) mid → KeepsSame (with_record bytes mid) new → KeepsSame (with_records (more ++ bytes ∷ []) old) new
 with_more more bytes old mid new first next = record {
@@ -27,22 +23,4 @@ with_more more bytes old mid new first next = record {
   records = omega (arith, next.records, first.records, length-append more (bytes ∷ []));
   deltas = next.deltas ∙ first.deltas;
   checkpoints = next.checkpoints ∙ first.checkpoints;
-}
-
--- a keeper that keeps the same before them
-pub with_before : (more : List (List ℕ)) (old mid new : Keeping) → KeepsSame old mid → KeepsSame (with_records more mid) new → KeepsSame (with_records more old) new
-with_before more old mid new same behind = record {
-  content = behind.content ∙ ap (option_map (add_records more)) same.content;
-  records = omega (arith, behind.records, same.records);
-  deltas = behind.deltas ∙ same.deltas;
-  checkpoints = behind.checkpoints ∙ same.checkpoints;
-}
-
--- and one that does behind them
-pub with_behind : (more : List (List ℕ)) (old mid new : Keeping) → KeepsSame (with_records more old) mid → KeepsSame mid new → KeepsSame (with_records more old) new
-with_behind more old mid new behind same = record {
-  content = same.content ∙ behind.content;
-  records = same.records ∙ behind.records;
-  deltas = same.deltas ∙ behind.deltas;
-  checkpoints = same.checkpoints ∙ behind.checkpoints;
 }

@@ -177,31 +177,11 @@ module _ (pending : List MapOp) (cleared : ℕ) (latest : table.Values Latest) (
 
 -- ---- the oldest change is gone
 
-fewer-clear : (op : MapOp) (ops : List MapOp) → EndsInClear (op ∷ ops) → EndsInClear ops
-fewer-clear op [] ends = tt
-fewer-clear op (next ∷ ops) ends = ends
-
 abbrev tail : List MapOp → List MapOp
 tail [] = []
 tail (op ∷ ops) = ops
 
 module _ (op : MapOp) (rest : List MapOp) (cleared : ℕ) (latest : table.Values Latest) where
-  uncounted : (earlier later : List MapOp) → op ∷ rest ≡ earlier ++ later → cleared ≡ length earlier → EndsInClear earlier → AreKeyed later → ((key : List ℕ) → get latest key ≡ latest_of key later) → 0 < cleared
-      → IsLaid rest (cleared - 1) latest
-  uncounted [] later parts counted clear keyed kept some = absurd (omega (arith, counted))
-  uncounted (first ∷ earlier) later parts counted clear keyed kept some = record {
-    earlier = earlier;
-    later = later;
-    parts = ap tail parts;
-    counted = omega (arith, counted);
-    clear = fewer-clear first earlier clear;
-    keyed = keyed;
-    kept = kept;
-  }
-
-  pub uncounted-laid : IsLaid (op ∷ rest) cleared latest → 0 < cleared → IsLaid rest (cleared - 1) latest
-  uncounted-laid laid some = uncounted laid.earlier laid.later laid.parts laid.counted laid.clear laid.keyed laid.kept some
-
   none_cleared : (earlier later : List MapOp) → op ∷ rest ≡ earlier ++ later → cleared ≡ length earlier → cleared ≡ 0 → op ∷ rest ≡ later
   none_cleared [] later parts counted is = parts
   none_cleared (first ∷ earlier) later parts counted is = absurd (omega (arith, counted, is))
@@ -211,9 +191,6 @@ module _ (op : MapOp) (rest : List MapOp) (cleared : ℕ) (latest : table.Values
   all_kept laid is =
       let same : op ∷ rest ≡ laid.later = none_cleared laid.earlier laid.later laid.parts laid.counted is in
       (subst AreKeyed (sym same) laid.keyed, λ key. laid.kept key ∙ ap (latest_of key) (sym same))
-
-  pub oldest_keyed : IsLaid (op ∷ rest) cleared latest → cleared ≡ 0 → op ≡ Clear → ⊥
-  oldest_keyed laid is clear = (all_kept laid is).0.0 clear
 
   module _ (laid : IsLaid (op ∷ rest) cleared latest) (is_zero : cleared ≡ 0) (key : List ℕ) (value : Option Tree) (of_key : SaysOf op key value) where
     own : says key op ≡ Some value

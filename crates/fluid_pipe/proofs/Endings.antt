@@ -192,14 +192,6 @@ unfailed input source output sink (Err (stop.Failed fault)) not h = h.written
 
 -- ---- the line of a refused line
 
-pub adds-line : (Sort : List ℕ → List ℕ → Type 0) (line waiting waiting' : List ℕ) (input old now : Option (List ℕ)) →
-    Owes (λ bytes text. Sort bytes (text ++ line)) input old now waiting → waiting' ≡ waiting ++ line → Owes Sort input old now waiting'
-adds-line Sort line waiting waiting' input old now owes is = record {
-  gone = owes.gone;
-  appended = owes.appended;
-  sort = subst (λ t. Tells input (λ bytes. Sort bytes t)) (append_assoc owes.gone waiting line ∙ ap (λ w. owes.gone ++ w) (sym is)) owes.sort;
-}
-
 -- ---- what was written when it is handed on
 
 wrote-told : (Sort : List ℕ → List ℕ → Type 0) (input old now : Option (List ℕ)) (output : List ℕ) → Appends output old now →

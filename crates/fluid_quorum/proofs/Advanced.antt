@@ -100,20 +100,6 @@ high_parted low high k ps le parted =
     ∙ filter-append (is_due high) (filter (is_due low) ps) (filter (λ p. not (is_due low p)) ps)
     ∙ ap (λ l. l ++ filter (is_due high) (filter (λ p. not (is_due low p)) ps)) (low_first low high ps le)
 
--- those that are due at the higher one are those due at the lower one and then more
-pub shares : (low high k j i : ℕ) (ps rest : List Proposal) → low ≤ high → k ≤ length ps → IsParted low k ps → j ≤ length ps → take j ps ≡ filter (is_due high) ps →
-    rest ≡ drop k ps → i ≤ length rest → take i rest ≡ filter (is_due high) rest → j ≡ k + i
-shares low high k j i ps rest le k_le parted j_le j_is rest_is i_le i_is =
-    omega (
-      arith,
-      counted (is_due low) ps k k_le parted.due,
-      counted (is_due high) ps j j_le j_is,
-      counted (is_due high) rest i i_le i_is,
-      ap (λ l. length (filter (is_due high) l)) (rest_is ∙ parted.rest),
-      ap length (high_parted low high k ps le parted),
-      length-append (filter (is_due low) ps) (filter (is_due high) (filter (λ p. not (is_due low p)) ps)),
-    )
-
 pub no_more : (low high k j : ℕ) (ps : List Proposal) → low ≤ high → k ≤ length ps → IsParted low k ps → j ≤ length ps → take j ps ≡ filter (is_due high) ps → k ≤ j
 no_more low high k j ps le k_le parted j_le j_is =
     omega (

@@ -37,12 +37,6 @@ still_seated m n (Some x) l alone idle seat = subst (λ p. HasPlace p x.id) (sym
 -- ---- one after another
 
 module _ {A B : Type 0} (f : B → A → B) where
-  pub fold-one : (b : B) (xs rest : List A) (x : A) → xs ≡ x ∷ rest → fold f b (take 1 xs) ≡ f b x
-  fold-one b xs rest x is = rw is refl
-
-  pub fold-none : (b : B) (xs : List A) → xs ≡ [] → fold f b (take 1 xs) ≡ b
-  fold-none b xs is = rw is refl
-
   pub fold-more : (b : B) (i : ℕ) (xs : List A) → fold f (fold f b (take i xs)) (take 1 (drop i xs)) ≡ fold f b (take (i + 1) xs)
   fold-more b zero xs = refl
   fold-more b (suc i) [] = let e : suc i + 1 ≡ suc (i + 1) = omega arith in rw e refl

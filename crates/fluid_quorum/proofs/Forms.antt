@@ -24,10 +24,6 @@ module _ {A : Type 0} (form : Tree → Option A) where
   each_more done a None = refl
   each_more done a (Some bs) = ap Some (sym (append_assoc done (a ∷ []) bs))
 
-  pub each_read : (done : List A) (a : A) (t : Tree) (ts : List Tree) → form t ≡ Some a
-      → option_map (λ vs. done ++ vs) (each form (trees (t ∷ ts))) ≡ option_map (λ vs. (done ++ a ∷ []) ++ vs) (each form (trees ts))
-  each_read done a t ts is = rw is (each_more done a (each form (trees ts)))
-
   pub each_fails : (done : List A) (t : Tree) (ts : List Tree) → form t ≡ None → option_map (λ vs. done ++ vs) (each form (trees (t ∷ ts))) ≡ None
   each_fails done t ts is = rw is refl
 

@@ -173,15 +173,9 @@ pub or_none : {A : Type 0} (o : Option A) → option_or o None ≡ o
 or_none None = refl
 or_none (Some a) = refl
 
-pub no_place : {V : Type 0} (m : Places V) (q : List ℕ) → m.entries ≡ [] → get_by_text m q ≡ None
-no_place m q none = ap (lookup (is_at (text_cmp q))) none
-
 -- what is left, and then what is copied, answers as all did
 abbrev pub Copies : {V : Type 0} → Entries V → Places V → Places V → Type 0
 Copies left copies all = (q : List ℕ) → option_or (lookup (is_at (text_cmp q)) left) (get_by_text copies q) ≡ get_by_text all q
-
-pub copied-start : {V : Type 0} (copies all : Places V) → copies.entries ≡ [] → Copies all.entries copies all
-copied-start copies all none q = ap (option_or (get_by_text all q)) (no_place copies q none) ∙ or_none (get_by_text all q)
 
 pub copied-on : {V : Type 0} (s : String Global) (key : List ℕ) (o : Option V) (es left : Entries V) (m n all : Places V) → left ≡ (s, o) ∷ es → key ≡ string_bytes s
     → IsStrictlySortedBy string_cmp (keys_of left) → ((q : List ℕ) → get_by_text n q ≡ cond (bytes_eq key q) (Some o) (get_by_text m q)) → Copies left m all → Copies es n all

@@ -35,17 +35,6 @@ left r (l ∷ ls) = by (nat_le r l) refl
     by true is = let same : (r == r) ≡ true = grind arith in rw same refl
     by false is = let other : (r == l) ≡ false = grind arith in rw other refl
 
-popped-lows : (m : Message) (ms : List Message) → without_first (reference_of m) (lows (m ∷ ms)) ≡ lows ms
-popped-lows m ms = left (reference_of m) (lows ms)
-
-pub popped : (m : Message) (ms : List Message) (before behind : Lows) → IsOf (m ∷ ms) before → behind.list.items ≡ without_first (reference_of m) before.list.items → behind.newest ≡ before.newest →
-    IsOf ms behind
-popped m ms before behind of list newest = record {
-  rising = of.rising.1;
-  newest = rw newest of.newest.1;
-  lows = list ∙ ap (without_first (reference_of m)) of.lows ∙ popped-lows m ms;
-}
-
 -- ---- one is put at the end
 
 cut-none : (r q : ℕ) → with_first q (r ∷ []) ≡ unless_above r q [] ++ r ∷ []
@@ -132,10 +121,6 @@ cut-on r ls x there is lt = sym (ap (cut r) (last-part ls x there is) ∙ above-
 
 pub cut-end : (r : ℕ) (ls : List ℕ) (x : ℕ) → 0 < length ls → x ≡ slice_index_or ls (length ls - 1) x → x ≤ r → ls ≡ cut r ls
 cut-end r ls x there is le = let whole = last-part ls x there is in whole ∙ sym (below-last r (take (length ls - 1) ls) x le) ∙ ap (cut r) (sym whole)
-
-pub cut-empty : (r : ℕ) (ls : List ℕ) → length ls ≤ 0 → ls ≡ cut r ls
-cut-empty r [] le = refl
-cut-empty r (l ∷ ls) le = absurd (omega (arith, le))
 
 -- ---- what is answered
 

@@ -59,11 +59,6 @@ sequenced-push [] n low m are next = (next-same (n + 0) n low low m (omega arith
 sequenced-push (x ∷ ms) n low m are next =
     (are.0, sequenced-push ms (suc n) x.minimum m are.1 (next-same (n + suc (length ms)) (suc n + length ms) _ _ m (omega arith) refl next))
 
--- the last minimum is no lower than the first, and no message is below it
-pub last-risen : (ms : List Message) (n low : ℕ) → AreSequenced n low ms → low ≤ last_of low ms
-last-risen [] n low are = omega arith
-last-risen (m ∷ ms) n low are = omega (arith, are.0.risen, last-risen ms (suc n) m.minimum are.1)
-
 pub last-bounded : (ms : List Message) (n low : ℕ) → AreSequenced n low ms → low ≤ n → last_of low ms ≤ n + length ms
 last-bounded [] n low are le = omega (arith, le)
 last-bounded (m ∷ ms) n low are le = omega (arith, last-bounded ms (suc n) m.minimum are.1 (omega (arith, are.0.bounded)))

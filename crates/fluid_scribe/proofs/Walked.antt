@@ -31,29 +31,8 @@ drop-past (suc i) (x ∷ xs) le = drop-past i xs (omega (arith, le))
 
 -- ---- changes of the minimum
 
-pub risen-on : (number i : ℕ) (q p : Quorum) (cs : Minima) (c : ℕ × ℕ) → i < length cs → c ≡ slice_index_or cs i c → c.0 ≤ number → p ≡ advanced q c.0 c.1 →
-    risen number p (drop (i + 1) cs) ≡ risen number q (drop i cs)
-risen-on number i q p cs c lt is le advanced_is = rw (drop-at i cs c lt is, le-leb c.0 number le, advanced_is) refl
-
-pub risen-stop : (number i : ℕ) (q : Quorum) (cs : Minima) (c : ℕ × ℕ) → i < length cs → c ≡ slice_index_or cs i c → number < c.0 →
-    risen number q (drop i cs) ≡ record { quorum = q; minima = drop i cs }
-risen-stop number i q cs c lt is above = rw (drop-at i cs c lt is, not_le c.0 number above) refl
-
-pub risen-end : (number i : ℕ) (q : Quorum) (cs : Minima) → length cs ≤ i → risen number q (drop i cs) ≡ record { quorum = q; minima = drop i cs }
-risen-end number i q cs le = rw (drop-past i cs le) refl
-
 abbrev reached-of : ℕ → Reached → Reached
 reached-of number r = record { quorum = advanced r.quorum number r.quorum.minimum; minima = r.minima }
-
--- what was risen is as far as what it came from
-pub reached-way : (number : ℕ) (q p : Quorum) (cs ds : Minima) → risen number p ds ≡ risen number q cs → reached number p ds ≡ reached number q cs
-reached-way number q p cs ds way = ap (reached-of number) way
-
-pub reached-done : (number i j : ℕ) (q p r : Quorum) (cs : Minima) → risen number p (drop j cs) ≡ risen number q (drop i cs) →
-    risen number p (drop j cs) ≡ record { quorum = p; minima = drop j cs } → r ≡ advanced p number p.minimum → IsReached number cs q i (λ s. s) r j
-reached-done number i j q p r cs way done is =
-    let both = ap (reached-of number) (sym done ∙ way) in
-    record { quorum = is ∙ ap (λ (s : Reached). s.quorum) both; left = ap (λ (s : Reached). s.minima) both }
 
 -- ---- a message
 
@@ -115,53 +94,6 @@ take-way (Ok done) number q p r cs ds same quorum_is left_is = tt
 take-way (Err refused) number q p r cs ds same quorum_is left_is = rw (same, quorum_is, left_is) (reached-again number q cs)
 
 -- ---- messages
-
--- one that is reached
-brought-on : (number : ℕ) (q : Quorum) (m : Message) (ms : List Message) (cs : Minima) → m.number ≤ number →
-    brought number q (m ∷ ms) cs ≡ brought number (with_next (reached (m.number - 1) q cs).quorum m) ms (reached (m.number - 1) q cs).minima
-brought-on number q m ms cs le = rw (le-leb m.number number le) refl
-
--- taken in
-pub brought-taken : (number i j k : ℕ) (q p : Quorum) (m : Message) (ms : List Message) (cs : Minima) → i < length ms → m ≡ slice_index_or ms i m → m.number ≤ number →
-    IsReached (m.number - 1) cs q j (λ s. with_next s m) p k → brought number p (drop (i + 1) ms) (drop k cs) ≡ brought number q (drop i ms) (drop j cs)
-brought-taken number i j k q p m ms cs lt is le r =
-    rw (drop-at i ms m lt is) (rw (r.quorum, r.left) (sym (brought-on number q m (drop (i + 1) ms) (drop j cs) le)))
-
--- not taken in
-pub brought-way : (number i j k : ℕ) (q p : Quorum) (m : Message) (ms : List Message) (cs : Minima) → i < length ms → m ≡ slice_index_or ms i m → m.number ≤ number →
-    reached (m.number - 1) p (drop k cs) ≡ reached (m.number - 1) q (drop j cs) → brought number p (drop i ms) (drop k cs) ≡ brought number q (drop i ms) (drop j cs)
-brought-way number i j k q p m ms cs lt is le way =
-    rw (drop-at i ms m lt is)
-    (brought-on number p m (drop (i + 1) ms) (drop k cs) le
-    ∙ ap (λ (r : Reached). brought number (with_next r.quorum m) (drop (i + 1) ms) r.minima) way
-    ∙ sym (brought-on number q m (drop (i + 1) ms) (drop j cs) le))
-
-pub past-at : (number i : ℕ) (m : Message) (ms : List Message) → i < length ms → m ≡ slice_index_or ms i m → number < m.number → IsPast number (drop i ms)
-past-at number i m ms lt is above = rw (drop-at i ms m lt is) (not_le m.number number above)
-
-pub past-end : (number i : ℕ) (ms : List Message) → length ms ≤ i → IsPast number (drop i ms)
-past-end number i ms le = rw (drop-past i ms le) tt
-
--- where no message is left, the rest is a matter of the minimum
-past-brought : (number : ℕ) (q : Quorum) (ms : List Message) (cs : Minima) → IsPast number ms →
-    brought number q ms cs ≡ record { quorum = (reached number q cs).quorum; behind = ms; minima = (reached number q cs).minima }
-past-brought number q [] cs past = refl
-past-brought number q (m ∷ ms) cs past = rw past refl
-
-pub brought-done : (number : ℕ) (q p r : Quorum) (from at to : Place) (ms : List Message) (cs : Minima) → IsPast number (drop at.messages ms) →
-    brought number p (drop at.messages ms) (drop at.changes cs) ≡ brought number q (drop from.messages ms) (drop from.changes cs) →
-    IsReached number cs p at.changes (λ s. s) r to.changes → to.messages ≡ at.messages → IsBrought number ms cs q from r to
-brought-done number q p r from at to ms cs past way reached_it same = record {
-  is =
-      ap (λ n. record { quorum = r; behind = drop n ms; minima = drop to.changes cs }) same
-      ∙ ap₂ (λ s rest. record { quorum = s; behind = drop at.messages ms; minima = rest }) reached_it.quorum reached_it.left
-      ∙ sym (past-brought number p (drop at.messages ms) (drop at.changes cs) past)
-      ∙ way;
-}
-
-pub past-way : (number : ℕ) (q p : Quorum) (ms : List Message) (cs ds : Minima) → IsPast number ms → reached number p ds ≡ reached number q cs → brought number p ms ds ≡ brought number q ms cs
-past-way number q p ms cs ds past way =
-    past-brought number p ms ds past ∙ ap (λ (r : Reached). record { quorum = r.quorum; behind = ms; minima = r.minima }) way ∙ sym (past-brought number q ms cs past)
 
 -- ---- copies
 

@@ -10,9 +10,3 @@ use Rattle.fluid_service.proofs.Standings.{rest_continues}
 module _ (name : List ℕ) (moment : ℕ) (fault : DoorFault) (old mid new : Shelved) (fails : FailsToStart name moment old mid fault) where
   pub lost_continues : GoesOn old.shelving mid.shelving → new ≡ mid → Continues old new []
   lost_continues on is = subst (λ t. Continues old t []) (sym is) (rest_continues old mid on fails.rest)
-
-  pub kept_does : new ≡ with_failure name fault mid → OpenDoes old.limits name moment old.shelving new.shelving (Err fault)
-  kept_does is = subst (λ (t : Shelved). OpenDoes old.limits name moment old.shelving t.shelving (Err fault)) (sym is) fails.does
-
-  pub kept_few : old.failed + length old.visits < most → mid.failed + length mid.visits < most
-  kept_few few = subst (λ (t : Shelved). t.failed + length t.visits < most) (sym fails.rest) few

@@ -33,9 +33,6 @@ shelf_out s shelf = record {
   kept = shelf.kept;
 }
 
-pub shelf_only : (s : Shelved) → IsShelf s → AreOnly s.shelving s.visits
-shelf_only s shelf name out = sym (shelf.out name) ∙ out
-
 -- the last one is out
 pub last_out : (s : Shelving) (visits rest : List Visiting) (visit : Visiting) (name : List ℕ) → AreOut s visits → visits ≡ rest ++ visit ∷ [] → name ≡ name_of visit → is_some (get s.out name) ≡ true
 last_out s visits rest visit name out last named =

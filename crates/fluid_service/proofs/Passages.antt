@@ -82,14 +82,8 @@ module _ (terms : ShelfTerms) (name : List ℕ) (refused : Option DoorFault) whe
   pub no_memory_steps : (seat : AKey) → None ≡ refused → seat ≡ adding (visit_steps_by false refused name (failing NoMemory)) seat
   no_memory_steps seat is = adding_none seat ∙ ap (λ r. adding (visit_steps_by false r name (failing NoMemory)) seat) is
 
-  pub no_memory_new : None ≡ refused → OpensNew terms name refused (Err NoMemory)
-  no_memory_new is = subst (λ r. OpensNew terms name r (Err NoMemory)) is (record { answer = tt; visit = tt })
-
   pub opened_steps : (result : Result Visiting DoorFault) (seat : AKey) → None ≡ refused → adding (opening_steps name result) seat ≡ adding (visit_steps_by false refused name result) seat
   opened_steps result seat is = ap (λ r. adding (visit_steps_by false r name result) seat) is
-
-  pub opened_new : (result : Result Visiting DoorFault) → None ≡ refused → IfErr result (IsOpeningFault terms.told) → IfOk result (IsVisitOf terms name) → OpensNew terms name refused result
-  opened_new result is faults visit = subst (λ r. OpensNew terms name r result) is (record { answer = faults; visit = visit })
 
 -- what a key has seen is no longer than the steps that were counted
 entries_length : (l : List (Numbered ShelfStep)) → length (entries l) ≡ length l

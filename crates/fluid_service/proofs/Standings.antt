@@ -49,9 +49,6 @@ open_is s l name stands = ap (is_among name) stands.names
 pub opened_is : (s : Shelved) (l : List ShelfStep) → ShelfStands s l → length s.visits ≡ length (opened l)
 opened_is s l stands = sym (length-map s.visits name_of) ∙ ap length stands.names
 
-pub refusal-worn : (l : List ShelfStep) → most ≤ length l → refusal l ≡ Some (Lane lane.Worn)
-refusal-worn l worn = ap (λ b. refusal_by b (is_full l)) (le-leb most (length l) worn)
-
 refusal_none : (worn full : Bool) → refusal_by worn full ≡ None → (worn ≡ false) × (full ≡ false)
 refusal_none true full none = absurd (some_none none)
   where
@@ -70,10 +67,6 @@ has_room s l stands none =
     let worn = leb-false most (length l) both.0 in let full = leb-false MOST_DOCUMENTS (length (opened l)) both.1 in
     let count = opened_is s l stands in let number = number_is s l stands in
     (omega (arith, full, count), omega (arith, worn, number))
-
-pub refusal-full : (l : List ShelfStep) → length l < most → MOST_DOCUMENTS ≤ length (opened l) → refusal l ≡ Some (TooManyDocuments MOST_DOCUMENTS)
-refusal-full l few full =
-    ap (λ b. refusal_by b (is_full l)) (lt-leb most (length l) few) ∙ ap (refusal_by false) (le-leb MOST_DOCUMENTS (length (opened l)) full)
 
 pub refusal-none : (l : List ShelfStep) → length l < most → length (opened l) < MOST_DOCUMENTS → refusal l ≡ None
 refusal-none l few room =
@@ -186,18 +179,6 @@ more_shelf s new visit given shelf closed room few out kept on served = record {
   small = shelf.small;
 }
 
--- one opening more has failed
-pub failed_shelf : (s : Shelved) (name : List ℕ) (fault : DoorFault) → IsShelf s → s.failed + length s.visits < most → IsShelf (with_failure name fault s)
-failed_shelf s name fault shelf few = record {
-  out = shelf.out;
-  distinct = shelf.distinct;
-  served = shelf.served;
-  kept = shelf.kept;
-  few = shelf.few;
-  numbered = omega (arith, few);
-  small = shelf.small;
-}
-
 -- ---- the list behind a step
 
 pub stands_same : (s : Shelved) (new : Shelving) (l : List ShelfStep) → GoesOn s.shelving new → ShelfStands s l → ShelfStands (shelved s new) (l ++ [])
@@ -250,9 +231,6 @@ opens_visit name moment old new visit keeps =
         new = (split.pass.0 ∙ own.new.0 ∙ ap (λ (d : Doorway). of_nobody d.turn.began) (sym split.door), split.pass.1);
       };
     }
-
-pub is_visit : (name : List ℕ) (moment : ℕ) (old new : Shelved) (visit : Visiting) → KeepsVisit name moment old new visit → IsVisitOf (terms_of old) name visit
-is_visit name moment old new visit keeps = split_in (terms_of old) name keeps.own visit keeps.opens.door.name_is keeps.served keeps.split
 
 -- ---- an opening whose lane was started
 

@@ -68,10 +68,6 @@ none_found held id fault h = by_bytes (get held id) h
     by_bytes None e = refl
     by_bytes (Some bytes) e = by_read (object_read bytes) e
 
-pub read_through : (id : List ℕ) (r x : Result Object TreeFault) → IsUnless Memory r x → IsUnless NoMemory (read_as id r) (read_as id x)
-read_through id r x (inl m) = inl (ap (read_as id) m)
-read_through id r x (inr q) = inr (ap (read_as id) q)
-
 -- ---- answers
 
 module _ (old mid new : Storing) (same : mid.content ≡ old.content) (later : old.faults ≤ mid.faults) where
@@ -112,58 +108,13 @@ pub handed : {A : Type 0} (f : Held → Result A StoreFault) (old new : Storing)
 handed f old new (Ok a) e h s = absurd h
 handed f old new (Err x) e h s = subst (λ y. Answers f old new (Err y)) (sym h) s
 
--- looking up stops an answer, whatever it is
-pub look_stops : {A : Type 0} (f : Held → Result A StoreFault) (id : List ℕ) (old new : Storing) (e : StoreFault) → LookSays id old new (Err e) → Answers f old new (Err e)
-look_stops f id old new (StoreFailed note) h = h
-look_stops f id old new (Missing other) h = absurd h
-look_stops f id old new (BadObject other place) h = absurd h
-look_stops f id old new (OfTree fault) h = absurd h
-look_stops f id old new (Clash other kept bytes) h = absurd h
-look_stops f id old new (NoPath path) h = absurd h
-look_stops f id old new NoMemory h = tt
-
-pub none_under : (id : List ℕ) (old new : Storing) → LookSays id old new (Ok None) → Answers (λ held. found held id) old new (Err (Missing id))
-none_under id old new h = tells_then old.content (λ held. None ≡ get held id) (λ held. Err (Missing id) ≡ found held id) (λ held k. ap (found_as id) k) h
-
-as_read : (id : List ℕ) (old new : Storing) (b : Result Object TreeFault) → Tells old.content (λ held. read_as id b ≡ found held id) → Answers (λ held. found held id) old new (read_as id b)
-as_read id old new (Ok o) k = k
-as_read id old new (Err (BadName name)) k = k
-as_read id old new (Err TooDeep) k = k
-as_read id old new (Err (LeavesGrammar place)) k = k
-as_read id old new (Err (HandleLeft path)) k = k
-as_read id old new (Err Attachment) k = k
-as_read id old new (Err BadForm) k = k
-as_read id old new (Err Memory) k = tt
-
-pub some_under : (id bytes : List ℕ) (old new : Storing) (r : Result Object StoreFault) → LookSays id old new (Ok (Some bytes)) → IsUnless NoMemory r (read_as id (object_read bytes)) → Answers (λ held. found held id) old new r
-some_under id bytes old new r h (inl m) = subst (Answers (λ held. found held id) old new) (sym m) tt
-some_under id bytes old new r h (inr q) =
-    subst (Answers (λ held. found held id) old new) (sym q)
-    (as_read id old new (object_read bytes) (tells_then old.content (λ held. Some bytes ≡ get held id) (λ held. read_as id (object_read bytes) ≡ found held id) (λ held k. ap (found_as id) k) h))
-
 -- ---- an entry
-
-pub not_of_kind : (a b : Bool) (o : Object) → a ≡ is_tree_object o → not (beq a b) ≡ true → is_of_kind b o ≡ false
-not_of_kind true true o is h = cc
-not_of_kind true false o is h = ap not (sym is)
-not_of_kind false true o is h = sym is
-not_of_kind false false o is h = cc
 
 pub of_kind : (a b : Bool) (o : Object) → a ≡ is_tree_object o → not (beq a b) ≡ false → is_of_kind b o ≡ true
 of_kind true true o is h = sym is
 of_kind true false o is h = cc
 of_kind false true o is h = cc
 of_kind false false o is h = ap not (sym is)
-
-module _ (held : Held) (node : Object → Result Summary StoreFault) (entry : ObjectEntry) where
-  pub child_goes : (o : Object) → is_of_kind entry.tree o ≡ true → Ok o ≡ found held entry.id → node o ≡ child_by held node entry
-  child_goes o kind h = sym (ap (λ b. cond b (node o) (Err (BadObject entry.id 0))) kind) ∙ ap (λ r. r >>= λ object. cond (is_of_kind entry.tree object) (node object) (Err (BadObject entry.id 0))) h
-
-  pub child_differs : (o : Object) → is_of_kind entry.tree o ≡ false → Ok o ≡ found held entry.id → Err (BadObject entry.id 0) ≡ child_by held node entry
-  child_differs o kind h = sym (ap (λ b. cond b (node o) (Err (BadObject entry.id 0))) kind) ∙ ap (λ r. r >>= λ object. cond (is_of_kind entry.tree object) (node object) (Err (BadObject entry.id 0))) h
-
-pub bind_fails : {A B : Type 0} (r : Result A StoreFault) (f : A → Result B StoreFault) (e : StoreFault) → Err e ≡ r → Err e ≡ (r >>= f)
-bind_fails r f e h = ap (λ x. x >>= f) h
 
 -- ---- the entries of a tree, one after the other
 

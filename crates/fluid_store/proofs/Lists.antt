@@ -33,28 +33,6 @@ use Rattle.fluid_store.proofs.Fetched.{tells_then, tells_both, tells_of, tells_a
 
 -- ---- what a call that looks a tree over answers
 
-pub of_answers : {A : Type 0} (f : Held → Result A StoreFault) (old new : Storing) (r : Result A StoreFault) → Answers f old new r → Lists f old new r
-of_answers f old new (Ok a) s = s
-of_answers f old new (Err (StoreFailed note)) s = s
-of_answers f old new (Err (Missing id)) s = s
-of_answers f old new (Err (BadObject id place)) s = s
-of_answers f old new (Err (Tree fault)) s = s
-of_answers f old new (Err (Clash id kept bytes)) s = absurd s
-of_answers f old new (Err (NoPath path)) s = absurd s
-of_answers f old new (Err NoMemory) s = tt
-
--- an answer of no call is told wherever the store tells what it holds
-pub pure : {A : Type 0} (f : Held → Result A StoreFault) (old new : Storing) (r : Result A StoreFault) → ((id kept bytes : List ℕ) → r ≢ Err (Clash id kept bytes))
-    → ((note : _) → r ≢ Err (StoreFailed note)) → ((held : Held) → r ≡ f held) → Lists f old new r
-pure f old new (Ok a) clash failed is = tells_all old.content _ is
-pure f old new (Err (StoreFailed note)) clash failed is = absurd (failed note refl)
-pure f old new (Err (Missing id)) clash failed is = tells_all old.content _ is
-pure f old new (Err (BadObject id place)) clash failed is = tells_all old.content _ is
-pure f old new (Err (Tree fault)) clash failed is = tells_all old.content _ is
-pure f old new (Err (NoPath path)) clash failed is = tells_all old.content _ is
-pure f old new (Err (Clash id kept bytes)) clash failed is = absurd (clash id kept bytes refl)
-pure f old new (Err NoMemory) clash failed is = tt
-
 module _ (old mid new : Storing) (same : mid.content ≡ old.content) (later : old.faults ≤ mid.faults) where
   noted_since : (note : _) → IsNoted mid new note → IsNoted old new note
   noted_since note n = record { before = omega (arith, later, n.before); after = n.after; rose = n.rose }
@@ -195,11 +173,6 @@ nodes_end leads levels ms i done le inv =
     sym (inv ∙ ap (λ r. r >>= λ rest. Ok (done ++ rest)) (at_drop_all (λ l. parts_within leads levels (children l)) ms i le ∙ no_part leads levels) ∙ ap Ok (append-nil done))
 
 -- ---- a tree
-
-pub names_fail : (leads : Leads) (levels : ℕ) (nodes : Children) (fault : StoreFault) → IsUnless NoMemory (Err fault) (unrefused (first_refused [] (names nodes)))
-    → (fault ≡ NoMemory) ⊎ (Err fault ≡ tree_within leads levels nodes)
-names_fail leads levels nodes fault (inl e) = inl cc
-names_fail leads levels nodes fault (inr e) = inr (ap (λ r. r >>= λ ok. parts_within leads levels nodes >>= λ parts. Ok (tree_part parts)) e)
 
 pub names_pass : (leads : Leads) (levels : ℕ) (nodes : Children) (u : Unit {0}) → IsUnless NoMemory (Ok u) (unrefused (first_refused [] (names nodes)))
     → (parts_within leads levels nodes >>= λ parts. Ok (tree_part parts)) ≡ tree_within leads levels nodes

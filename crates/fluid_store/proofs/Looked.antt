@@ -219,24 +219,6 @@ pub record Looked (trees : ℕ) (level left next : List (List ℕ)) (old new : S
   pub are_held : Tells old.content (λ held. AllHeld held done)
   pub answer : Tells old.content (λ held. all_complete held (suc trees) done ≡ all_complete held trees next)
 
-trivially : (content : Option Held) (P : Held → Type 0) → ((held : Held) → P held) → Tells content P
-trivially None P f = tt
-trivially (Some held) P f = f held
-
-none_next : (held : Held) (trees : ℕ) → true ≡ all_complete held trees []
-none_next held zero = refl
-none_next held (suc n) = refl
-
-pub looked_start : (trees : ℕ) (level next : List (List ℕ)) (old : Storing) → next ≡ [] → Looked trees level level next old old
-looked_start trees level next old empty = record {
-  done = [];
-  splits = refl;
-  reads = record { content = refl; faults = omega arith; gets = omega arith };
-  gets = omega arith;
-  are_held = trivially old.content _ (λ held. tt);
-  answer = subst (λ ks. Tells old.content (λ held. true ≡ all_complete held trees ks)) (sym empty) (trivially old.content _ (λ held. none_next held trees));
-}
-
 held_more : (held : Held) (done : List (List ℕ)) (id : List ℕ) → AllHeld held done → IsSome (get held id) → AllHeld held (done ++ id ∷ [])
 held_more held [] id h some = (some, tt)
 held_more held (k ∷ ks) id h some = (h.0, held_more held ks id h.1 some)
@@ -302,29 +284,9 @@ looked_bound trees level left next old mid new sorted looked most =
     let apart = apart_front looked.done left (subst AreApart looked.splits (apart_from level sorted)) in
     tells_then old.content (λ held. AllHeld held looked.done) _ (λ held h. omega (arith, few_held looked.done held apart h, looked.gets, most)) looked.are_held
 
-pub looked_end : (trees : ℕ) (level next : List (List ℕ)) (old new : Storing) → Looked trees level [] next old new → Tells old.content (λ held. all_complete held (suc trees) level ≡ all_complete held trees next)
-looked_end trees level next old new looked =
-    tells_then old.content (λ held. all_complete held (suc trees) looked.done ≡ all_complete held trees next) _
-    (λ held h. ap (list_all (is_complete held trees)) (looked.splits ∙ append-nil looked.done) ∙ h) looked.answer
-
 -- ---- level by level
 
 module _ (id : List ℕ) (old mid new : Storing) (above : ℕ) (level : List (List ℕ)) (lt : above < 33) (same : mid.content ≡ old.content) where
-  level_is : (held : Held) → all_complete held (33 - above) level ≡ all_complete held (suc (33 - 1 - above)) level
-  level_is held = let e : 33 - above ≡ suc (33 - 1 - above) = omega arith in ap (λ n. all_complete held n level) e
-
-  pub level_more : (next : List (List ℕ)) → Tells old.content (λ held. is_complete held 32 id ≡ all_complete held (33 - above) level)
-      → Tells mid.content (λ held. all_complete held (suc (33 - 1 - above)) level ≡ all_complete held (33 - 1 - above) next) → Tells old.content (λ held. is_complete held 32 id ≡ all_complete held (33 - (above + 1)) next)
-  level_more next h k =
-      tells_both old.content (λ held. is_complete held 32 id ≡ all_complete held (33 - above) level) (λ held. all_complete held (suc (33 - 1 - above)) level ≡ all_complete held (33 - 1 - above) next) _
-      (λ held a b. a ∙ level_is held ∙ b ∙ (let e : 33 - 1 - above ≡ 33 - (above + 1) = omega arith in ap (λ n. all_complete held n next) e)) h (tells_of old.content mid.content _ same k)
-
-  pub level_none : Tells old.content (λ held. is_complete held 32 id ≡ all_complete held (33 - above) level) → Tells mid.content (λ held. all_complete held (suc (33 - 1 - above)) level ≡ false)
-      → Tells old.content (λ held. false ≡ is_complete held 32 id)
-  level_none h k =
-      tells_both old.content (λ held. is_complete held 32 id ≡ all_complete held (33 - above) level) (λ held. all_complete held (suc (33 - 1 - above)) level ≡ false) _
-      (λ held a b. sym (a ∙ level_is held ∙ b)) h (tells_of old.content mid.content _ same k)
-
   pub gets_more : Tells old.content (λ held. mid.gets ≤ old.gets + above * (len held + 1)) → Tells mid.content (λ held. new.gets ≤ mid.gets + (len held + 1)) → Tells old.content (λ held. new.gets ≤ old.gets + (above + 1) * (len held + 1))
   gets_more h k =
       tells_both old.content (λ held. mid.gets ≤ old.gets + above * (len held + 1)) (λ held. new.gets ≤ mid.gets + (len held + 1)) (λ held. new.gets ≤ old.gets + (above + 1) * (len held + 1))

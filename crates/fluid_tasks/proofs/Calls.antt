@@ -31,9 +31,6 @@ no_task m past d is none quiet = record {
 }
 
 module _ (m : Message) (past : Past) (numbered : IsNumbered (m ∷ past)) where
-  pub items_still : (d : Said) → said m ≡ d → adds d ≡ None → ((n : ℕ) → status (m ∷ past) n ≡ status past n) → SameItems past (m ∷ past)
-  items_still d is none same = same_items m past d is numbered none same
-
   -- nothing is said
   pub kept_nothing : said m ≡ Nothing → (items : BTreeMap ℕ Item) (queues : Named Queue) (tasks : Named Candidates) (noting : Clients) → IsKept items queues tasks noting past → IsKept items queues tasks noting (m ∷ past)
   kept_nothing is items queues tasks noting kept =
@@ -165,9 +162,6 @@ module _ (m : Message) (past : Past) (numbered : IsNumbered (m ∷ past)) where
       kept_done m past c queue item is numbered (held_so c queue item queues true (kept.queues_are queue) own) (no_task m past _ is (λ u. refl) (λ u e h before. refl)) items new_items queues new_queues tasks noting new_noting updates changed noted kept
 
   -- ---- tasks
-
-  still_items : (d : Said) → said m ≡ d → adds d ≡ None → ((n : ℕ) → status (m ∷ past) n ≡ status past n) → SameItems past (m ∷ past)
-  still_items d is none same = same_items m past d is numbered none same
 
   pub volunteer_nothing : (c own : List ℕ) → said m ≡ Does c (Volunteer own) → is_some (standing_since past own c) ≡ true → (items : BTreeMap ℕ Item) (queues : Named Queue) (tasks : Named Candidates) (noting : Clients)
       → IsKept items queues tasks noting past → IsKept items queues tasks noting (m ∷ past)

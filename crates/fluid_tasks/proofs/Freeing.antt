@@ -115,10 +115,6 @@ of_one past queue q i own = elim (cases_Bool (bytes_eq queue q)) [
 ]
 
 module _ (m : Message) (past : Past) (c queue : List ℕ) (is : said m ≡ Does c (Acquire queue)) (numbered : IsNumbered (m ∷ past)) where
-  -- nothing is free
-  pub free-nothing : first (free past queue) ≡ None → (q : List ℕ) → free (m ∷ past) q ≡ free past q
-  free-nothing none = free-kept m past _ is numbered refl (λ s i. ap (is_free_since s) (status-step m past _ is i ∙ ap (λ o. cond (is_number o i) (Held c) (status past i)) none))
-
   -- the first is given
   pub free-given : (g : ℕ) (rest : List ℕ) → free past queue ≡ g ∷ rest → (q : List ℕ) → free (m ∷ past) q ≡ cond (bytes_eq queue q) rest (free past q)
   free-given g rest given q =

@@ -81,34 +81,7 @@ makes Is key m n w none updates is q = of (bytes_eq (string_bytes key) q) refl
         inr (subst (λ o. MadeAt Is o (at n q)) (sym here) (w, (step ∙ ap (λ b. cond b (Some w) (at m q)) same, is)))
     of false other = inl (step ∙ ap (λ b. cond b (Some w) (at m q)) other)
 
-pub makes_it : {V : Type 0} (key : String Global) (m n : Named V) (w : V) → UpdatesBy string_cmp (string_cmp key) m n (Some w) → is_some (at n (string_bytes key)) ≡ true
-makes_it key m n w updates =
-    ap is_some (btree_map_updates_text (string_bytes key) m n (Some w) updates (string_bytes key) ∙ ap (λ b. cond b (Some w) (at m (string_bytes key))) ((bytes_eq-Decides (string_bytes key) (string_bytes key)).1 refl))
-
-pub makes_nothing : {V : Type 0} (Is : V → Type 0) (m : Named V) → Makes Is m m
-makes_nothing Is m q = inl refl
-
 -- ---- what is noted of clients
-
-pub same_clients : (m : Clients) → SameClients m m
-same_clients m = record { items = λ c n is. is; tasks = λ c u. refl }
-
-pub clients_on : (m n k : Clients) → SameClients m n → SameClients n k → SameClients m k
-clients_on m n k one two = record { items = λ c x is. two.items c x (one.items c x is); tasks = λ c u. two.tasks c u ∙ one.tasks c u }
-
--- a place without anything in it
-pub made_clients : (m n : Clients) → Makes IsEmptyHoldings m n → SameClients m n
-made_clients m n made = record { items = λ c x is. item c x (at m c) refl (made c) is; tasks = λ c u. task c u (at m c) refl (made c) }
-  where
-    item : (c : List ℕ) (x : ℕ) (o : Option Holdings) → at m c ≡ o → (at n c ≡ o) ⊎ MadeAt IsEmptyHoldings o (at n c) → has_item o x ≡ true → has_item (at n c) x ≡ true
-    item c x o was (inl same) is = ap (λ p. has_item p x) same ∙ is
-    item c x None was (inr new) is = absurd (let wrong : false ≡ true = is in cc)
-    item c x (Some h) was (inr new) is = absurd new
-
-    task : (c u : List ℕ) (o : Option Holdings) → at m c ≡ o → (at n c ≡ o) ⊎ MadeAt IsEmptyHoldings o (at n c) → task_at (at n c) u ≡ task_at o u
-    task c u o was (inl same) = ap (λ p. task_at p u) same
-    task c u None was (inr new) = ap (λ p. task_at p u) new.1.0 ∙ new.1.1.tasks u
-    task c u (Some h) was (inr new) = absurd new
 
 module _ (client : List ℕ) (m n : Clients) (old w : Holdings) (was : at m client ≡ Some old) (updates : UpdatesBy string_cmp (λ k. slice_cmp nat_cmp client (string_bytes k)) m n (Some w)) where
   here : (c : List ℕ) → bytes_eq client c ≡ true → at m c ≡ Some old

@@ -177,10 +177,6 @@ shown_names : {V : Type 0} (value : V → Option Tree) (f : List ℕ → Option 
 shown_names value f [] all = refl
 shown_names value f (e ∷ es) all = ap₂ (λ o l. cons_option (option_map (λ tree. (string_bytes e.0, tree)) o) l) all.0 (shown_names value f es all.1)
 
-both_any : (a b : Bool) → (a || b) ≡ true → (a ≡ true) ⊎ (b ≡ true)
-both_any true b is = inl refl
-both_any false b is = inr is
-
 shown_any : (free : List ℕ) (held : List (ℕ × List ℕ)) → is_some (shown_queue free held) ≡ true → (is_any free ≡ true) ⊎ (is_any held ≡ true)
 shown_any [] [] is = absurd (let wrong : false ≡ true = is in cc)
 shown_any [] (h ∷ held) is = inr refl
@@ -242,9 +238,6 @@ kept_queue past q None is i own shown_so =
     nothing : (ns : List ℕ) → said_of (held_by past q) ns ≡ []
     nothing [] = refl
     nothing (n ∷ ns) = ap (λ o. cons_option (option_map {U = ℕ × List ℕ} (λ c. (n, c)) o) (said_of (held_by past q) ns)) (is.held n) ∙ nothing ns
-
-some_value : {X : Type 0} (o : Option X) (x : X) → o ≡ Some x → is_some o ≡ true
-some_value o x is = ap is_some is
 
 pub queues_text : (past : Past) → IsNumbered past → (kept : Named Queue) → IsOrdered string_cmp kept → IsFoundEach kept
     → ((q : List ℕ) → IsQueue past q (at kept q)) → shown_in queue_shown kept.entries ≡ shown (λ q. shown_queue (free past q) (held past q)) (queues past)

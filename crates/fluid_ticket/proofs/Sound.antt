@@ -35,14 +35,6 @@ joined_minimum s id row n none at =
     ap (λ o. unwrap_or o n) (least-insert id row s.rows ∙ ap (λ r. lesser (Some row.reference) (least r)) (remove-absent s.rows id none) ∙ ap (λ m. lesser (Some m) (least s.rows)) at)
     ∙ lesser_itself (least s.rows) s.sequence n
 
-lesser_of : (r d : ℕ) (o : Option ℕ) → unwrap_or (lesser (Some r) o) d ≡ min r (unwrap_or o r)
-lesser_of r d None = omega arith
-lesser_of r d (Some n) = refl
-
--- the minimum with another reference of one client
-pub changed_minimum : (rows : Rows) (id : List ℕ) (row : Row) (n : ℕ) → unwrap_or (least (insert rows id row)) n ≡ min row.reference (unwrap_or (least (remove rows id)) row.reference)
-changed_minimum rows id row n = ap (λ o. unwrap_or o n) (least-insert id row rows) ∙ lesser_of row.reference n (least (remove rows id))
-
 held_at : (r d n m : ℕ) (o : Option ℕ) → m ≡ unwrap_or (lesser (Some r) o) d → unwrap_or (lesser (Some m) o) n ≡ m
 held_at r d n m None is = refl
 held_at r d n m (Some other) is = omega arith

@@ -10,20 +10,10 @@ use Rattle.fluid_store.specs.Listed.{object_of}
 use Rattle.fluid_store.specs.declared.listing.StoredObject.{StoredObject}
 use Rattle.fluid_versions.specs.Versions.{content_of, contents, blobs_in, version_tree, version_objects}
 
-pub some_content : (s : Summary) (content : List ℕ) → Some content ≡ as_blob s → content ≡ content_of s
-some_content (blob own) content is = same_Some _ _ is
-some_content (tree nodes) content is = absurd (none-some _ (sym is))
-some_content (handle path) content is = absurd (none-some _ (sym is))
-
 pub no_content : (s : Summary) → None ≡ as_blob s → [] ≡ content_of s
 no_content (blob own) is = absurd (none-some _ is)
 no_content (tree nodes) is = refl
 no_content (handle path) is = refl
-
-pub some_nodes : (s : Summary) (nodes : Children) → Some nodes ≡ as_children s → contents nodes ≡ blobs_in s
-some_nodes (blob own) nodes is = absurd (none-some _ (sym is))
-some_nodes (tree own) nodes is = ap contents (same_Some _ _ is)
-some_nodes (handle path) nodes is = absurd (none-some _ (sym is))
 
 pub no_nodes : (s : Summary) → None ≡ as_children s → [] ≡ blobs_in s
 no_nodes (blob own) is = refl

@@ -50,13 +50,6 @@ reads-none by app words Usage is = inr (sym (ap (λ o. or_usage (option_and_then
 
 -- ---- a command without arguments
 
-pub are-words : (app : App) (words : List Text) (m : ArgMatches) → IsFound app words (Ok m) → AreWordsOf app words (Ok tt)
-are-words app words m is = (rows_of (found_of m), is)
-
-pub are-none : (app : App) (words : List Text) (f : WordsFault) → IsFound app words (Err f) → AreWordsOf app words (Err f)
-are-none app words NoMemory is = tt
-are-none app words Usage is = is
-
 pub asks : (wanted : Command) (app : App) (words : List Text) → AreWordsOf app words (Ok tt) →
     IsUnless NoMemory (Ok wanted) (or_usage (option_map (λ rows. wanted) (found app words)))
 asks wanted app words is = inr (sym (ap (λ (o : Option (List Row)). or_usage (option_map (λ rows. wanted) o)) is.1))
