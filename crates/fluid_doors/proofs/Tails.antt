@@ -1,9 +1,9 @@
 -- The tail of a document's order, as its list grows, and what is gathered out of it.
-use Rattle.std.proofs.Common.{◌≡◌, ℕ, ◌+◌, ◌-◌, ◌<◌, ◌≤◌, true, false, Bool, List, [], ◌++◌, length, take, drop, min, is_some, inl, inr, Option, Some, Result, Ok, Err, refl, sym, ap, subst, ◌∙◌, length-append, length-drop, arith}
+use Rattle.std.proofs.Common.{◌≡◌, ℕ, ◌+◌, ◌-◌, ◌<◌, ◌≤◌, true, false, Bool, List, [], ◌∷◌, ◌++◌, length, take, drop, min, is_some, inl, inr, Option, Some, Result, Ok, Err, refl, sym, ap, subst, ◌∙◌, length-append, length-drop, arith}
 use Rattle.std.specs.Prelude.{⊤, IfOk, IfErr}
 use Rattle.std.proofs.Math.Nat.{min-le_left, min-le_right}
 use Rattle.std.proofs.Math.Seq.{take-add}
-use Rattle.std.proofs.lemmas.List.{take-take, drop-drop, drop-take, take-append-le, drop-append-le}
+use Rattle.std.proofs.lemmas.List.{take-take, drop_at, drop-drop, drop-take, take-append-le, drop-append-le}
 use Rattle.fluid_types.specs.Ledger.{order}
 use Rattle.fluid_types.specs.Order.{AreNumberedFrom}
 use Rattle.fluid_types.specs.declared.messages.Message.{Message}
@@ -18,7 +18,12 @@ use Rattle.fluid_codec.specs.declared.replies.Reply.{Reply}
 use Rattle.fluid_codec.specs.declared.replies.Reply.TheVariants.{Ops}
 use Rattle.fluid_feed.specs.Tails.{ATail, stretch, with_more, too_many, IsTrimmed}
 use Rattle.fluid_lane.specs.declared.steps.Step.{Step}
-use Rattle.fluid_lane.specs.Steps.{ledger}
+use Rattle.fluid_types.specs.declared.entries.Raw.{Raw}
+use Rattle.fluid_types.specs.declared.verdicts.Verdict.{Verdict}
+use Rattle.fluid_types.specs.declared.verdicts.Verdict.TheVariants.{Sequenced, Nacked, Dropped, Absorbed}
+use Rattle.fluid_lane.specs.declared.fault.LaneFault.{LaneFault}
+use Rattle.fluid_lane.specs.declared.steps.Step.TheVariants.{Entered}
+use Rattle.fluid_lane.specs.Steps.{ledger, steps_of, fault_steps, entered_by}
 use Rattle.fluid_lane.proofs.Listed.{ledger-append}
 use Rattle.fluid_lane.specs.Standing.{Standing, LaneStands, is_worn}
 use Rattle.fluid_lane.specs.Ranges.{Ranges}
@@ -29,7 +34,7 @@ use Rattle.fluid_doors.specs.Terms.{terms_of}
 use Rattle.fluid_doors.specs.Passing.{Continues}
 use Rattle.fluid_doors.specs.Answers.{is_worn_behind}
 use Rattle.fluid_doors.specs.Collecting.{gathered, IsEventUnder, IsReadCause, IsReadFault, IsWornDelta, IsFaultIn, Collects}
-use Rattle.fluid_doors.specs.Tailed.{IsIn, IsTailOf, BenchStands, Begins}
+use Rattle.fluid_doors.specs.Tailed.{IsIn, IsTailOf, BenchStands, Begins, KeepsUp, KeepsUpBy}
 use Rattle.fluid_doors.proofs.Answering.{told_is}
 use Rattle.fluid_doors.proofs.Reading.{seq_is, fault_worn, sliced_right, sliced_faults, fault_in}
 
@@ -98,6 +103,14 @@ stands_anew old new u added l goes lane tail short = record {
   short = short;
   lane = goes.list l lane;
   tail = subst (λ (t : Terms). IsTailOf t.told u (l ++ added)) (sym goes.terms) (tail_grows (terms_of old).told u l added tail);
+}
+
+-- behind a call that kept the tail up with its step
+pub stands_kept : (old new : Standing) (u : ATail) (added l : List Step) → Continues old new added → LaneStands old l → IsTailOf (terms_of old).told u (l ++ added) → length u.messages < too_many → BenchStands new u (l ++ added)
+stands_kept old new u added l goes lane tail short = record {
+  short = short;
+  lane = goes.list l lane;
+  tail = subst (λ (t : Terms). IsTailOf t.told u (l ++ added)) (sym goes.terms) tail;
 }
 
 pub stands_on : (old new : Standing) (t u : ATail) (added l : List Step) → u ≡ t → Continues old new added → BenchStands old t l → BenchStands new u (l ++ added)
@@ -177,6 +190,67 @@ extended told old new to ms l is bound numbers sliced was = subst (λ t. IsTailO
 
     ordered : old.from + length old.messages ≤ to
     ordered = let c = numbers.count in omega (arith, c)
+
+-- ---- the message that was sequenced last
+
+slice-last : (o : List Message) (m : Message) (n : ℕ) → n ≡ length o + 1 → m ∷ [] ≡ slice (o ++ m ∷ []) n (n + 1)
+slice-last o m n is =
+    let one : n + 1 - n ≡ 1 = omega arith in
+    let place : length o ≡ n - 1 = omega (arith, is) in
+    sym (ap (λ k. take k (drop (n - 1) (o ++ m ∷ []))) one ∙ ap (take 1) (drop_at o (m ∷ []) (n - 1) place))
+
+order-one : (raw : Raw) (m : Message) → order (ledger (Entered raw (Sequenced m) ∷ [])) ≡ m ∷ []
+unfolding order
+order-one raw m = refl
+
+kept_up : (old new : Standing) (last : ℕ) (t u : ATail) (raw : Raw) (m : Message) (l : List Step) → LaneSays → Continues old new (Entered raw (Sequenced m) ∷ []) → last ≡ new.entries.state.sequencer.sequence → last ≤ most → KeepsUp last m t u
+    → BenchStands old t l → IsTailOf (terms_of old).told u (l ++ Entered raw (Sequenced m) ∷ [])
+kept_up old new last t u raw m l law goes is bound (inl same) stands =
+    subst (λ v. IsTailOf (terms_of old).told v (l ++ Entered raw (Sequenced m) ∷ [])) (sym same) (tail_grows (terms_of old).told t l (Entered raw (Sequenced m) ∷ []) stands.tail)
+kept_up old new last t u raw m l law goes is bound (inr put) stands =
+    trimmed (terms_of old).told (with_more (m ∷ []) t) u behind put.1.1
+    (extended (terms_of old).told t (with_more (m ∷ []) t) (m.number + 1) (m ∷ []) behind refl (let n = put.1.0 in omega (arith, n, bound)) numbers sliced (tail_grows (terms_of old).told t l (Entered raw (Sequenced m) ∷ []) stands.tail))
+  where
+    behind : List Step
+    behind = l ++ Entered raw (Sequenced m) ∷ []
+
+    numbers : AreNumbersOf (t.from + length t.messages) (m.number + 1) (m ∷ [])
+    numbers = record { numbered = (sym put.0, tt); count = ap (λ n. n + 1) put.0 }
+
+    grown : order (ledger behind) ≡ order (ledger l) ++ m ∷ []
+    grown = order-more l (Entered raw (Sequenced m) ∷ []) ∙ ap (λ o. order (ledger l) ++ o) (order-one raw m)
+
+    sliced : (terms_of old).told ≡ true → (m ∷ [] ≡ slice (order (ledger behind)) (t.from + length t.messages) (m.number + 1)) × (m.number + 1 ≤ length (order (ledger behind)) + 1)
+    sliced told =
+        let says = told_is new.keeping.content (SaysOf new (ledger behind)) (ap (λ (d : Terms). d.told) goes.terms ∙ told) (law new behind (goes.list l stands.lane)) in
+        let reached : m.number ≡ length (order (ledger behind)) = put.1.0 ∙ is ∙ says.seq ∙ seq_is (ledger behind) in
+        let long : length (order (ledger behind)) ≡ length (order (ledger l)) + 1 = ap length grown ∙ length-append (order (ledger l)) (m ∷ []) in
+        let at : m.number ≡ length (order (ledger l)) + 1 = reached ∙ long in (
+          slice-last (order (ledger l)) m m.number at ∙ ap (λ o. slice o m.number (m.number + 1)) (sym grown) ∙ ap (λ n. slice (order (ledger behind)) n (m.number + 1)) (sym put.0),
+          omega (arith, reached),
+        )
+
+same_short : (old new : ATail) → new ≡ old → length old.messages < too_many → length new.messages < too_many
+same_short old new same short = subst (λ (t : ATail). length t.messages < too_many) (sym same) short
+
+kept_short : (last : ℕ) (m : Message) (old new : ATail) → KeepsUp last m old new → length old.messages < too_many → length new.messages < too_many
+kept_short last m old new (inl same) short = same_short old new same short
+kept_short last m old new (inr put) short = put.1.1.short
+
+pub kept_short_by : (last : ℕ) (result : Result Verdict LaneFault) (old new : ATail) → KeepsUpBy last result old new → length old.messages < too_many → length new.messages < too_many
+kept_short_by last (Ok (Sequenced m)) old new keeps short = kept_short last m old new keeps short
+kept_short_by last (Ok (Nacked nack)) old new same short = same_short old new same short
+kept_short_by last (Ok Dropped) old new same short = same_short old new same short
+kept_short_by last (Ok Absorbed) old new same short = same_short old new same short
+kept_short_by last (Err fault) old new same short = same_short old new same short
+
+pub kept_up_by : (old new : Standing) (last : ℕ) (t u : ATail) (raw : Raw) (result : Result Verdict LaneFault) (l : List Step) → LaneSays → Continues old new (steps_of (entered_by raw) result) → last ≡ new.entries.state.sequencer.sequence → last ≤ most
+    → KeepsUpBy last result t u → BenchStands old t l → IsTailOf (terms_of old).told u (l ++ steps_of (entered_by raw) result)
+kept_up_by old new last t u raw (Ok (Sequenced m)) l law goes is bound keeps stands = kept_up old new last t u raw m l law goes is bound keeps stands
+kept_up_by old new last t u raw (Ok (Nacked nack)) l law goes is bound same stands = subst (λ v. IsTailOf (terms_of old).told v (l ++ entered_by raw (Nacked nack))) (sym same) (tail_grows (terms_of old).told t l (entered_by raw (Nacked nack)) stands.tail)
+kept_up_by old new last t u raw (Ok Dropped) l law goes is bound same stands = subst (λ v. IsTailOf (terms_of old).told v (l ++ entered_by raw Dropped)) (sym same) (tail_grows (terms_of old).told t l (entered_by raw Dropped) stands.tail)
+kept_up_by old new last t u raw (Ok Absorbed) l law goes is bound same stands = subst (λ v. IsTailOf (terms_of old).told v (l ++ entered_by raw Absorbed)) (sym same) (tail_grows (terms_of old).told t l (entered_by raw Absorbed) stands.tail)
+kept_up_by old new last t u raw (Err fault) l law goes is bound same stands = subst (λ v. IsTailOf (terms_of old).told v (l ++ fault_steps fault)) (sym same) (tail_grows (terms_of old).told t l (fault_steps fault) stands.tail)
 
 -- ---- what is gathered
 

@@ -1,12 +1,15 @@
 -- The last messages of a document's order, printed, beside its lane.
-use Rattle.std.specs.Prelude.{◌≡◌, ◌⊎◌, ⊤, ℕ, ◌+◌, ◌<◌, ◌≤◌, Bool, true, List, [], length, Result, Ok, Err, IfErr}
+use Rattle.std.specs.Prelude.{◌≡◌, ◌⊎◌, ⊤, ℕ, ◌+◌, ◌<◌, ◌≤◌, Bool, true, List, [], ◌∷◌, length, Result, Ok, Err, IfErr}
 use Rattle.fluid_types.specs.Ledger.{order}
 use Rattle.fluid_types.specs.Order.{AreNumberedFrom}
 use Rattle.fluid_types.specs.declared.messages.Message.{Message}
 use Rattle.fluid_deltas.specs.Pushed.{slice}
 use Rattle.fluid_deltas.specs.declared.fault.DeltaFault.{DeltaFault}
 use Rattle.fluid_document.specs.Entries.{most}
-use Rattle.fluid_feed.specs.Tails.{ATail, too_many}
+use Rattle.fluid_feed.specs.Tails.{ATail, too_many, with_more, IsTrimmed}
+use Rattle.fluid_types.specs.declared.verdicts.Verdict.{Verdict}
+use Rattle.fluid_types.specs.declared.verdicts.Verdict.TheVariants.{Sequenced}
+use Rattle.fluid_lane.specs.declared.fault.LaneFault.{LaneFault}
 use Rattle.fluid_lane.specs.declared.steps.Step.{Step}
 use Rattle.fluid_lane.specs.Steps.{ledger}
 use Rattle.fluid_lane.specs.Standing.{Standing, LaneStands}
@@ -37,6 +40,15 @@ pub record BenchStands (s : Standing) (t : ATail) (l : List Step) : Type 0 where
 -- it is as it was, where it reaches to this number, or else it begins there and has no messages
 abbrev pub Begins : (old new : ATail) → ℕ → Type 0
 Begins old new from = ((new ≡ old) × (from ≤ old.from + length old.messages)) ⊎ (new ≡ record { from = from; messages = [] })
+
+-- the message of the last number was put behind it, and perhaps some of the first were let go; or it is as it was
+abbrev pub KeepsUp : (last : ℕ) → Message → (old new : ATail) → Type 0
+KeepsUp last m old new = (new ≡ old) ⊎ ((old.from + length old.messages ≡ m.number) × ((m.number ≡ last) × IsTrimmed (with_more (m ∷ []) old) new))
+
+-- whatever the answer: of one that isn't a sequenced message the tail is as it was
+abbrev pub KeepsUpBy : (last : ℕ) → Result Verdict LaneFault → (old new : ATail) → Type 0
+KeepsUpBy last (Ok (Sequenced m)) old new = KeepsUp last m old new
+KeepsUpBy last other old new = new ≡ old
 
 -- it has the messages from one number to before another
 pub record ReachesTo (t : ATail) (from to : ℕ) : Type 0 where

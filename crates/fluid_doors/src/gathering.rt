@@ -6,14 +6,15 @@ ghost use Rattle.fluid_lane.specs.Steps.{range_steps};
 ghost use Rattle.fluid_doors.specs.Terms.{terms_of};
 ghost use Rattle.fluid_doors.specs.Passing.{Continues};
 ghost use Rattle.fluid_doors.specs.Collecting.{Collects, IsEventUnder, IsReadCause, gathered};
-ghost use Rattle.fluid_doors.specs.Tailed.{IsTailOf, Begins, IsNoLonger, ReachesTo, ReadsUpTo};
+ghost use Rattle.fluid_document.specs.Entries.{most};
+ghost use Rattle.fluid_doors.specs.Tailed.{IsTailOf, Begins, KeepsUp, KeepsUpBy, IsNoLonger, ReachesTo, ReadsUpTo};
 ghost use Rattle.fluid_feed.specs.Tails.{too_many};
 
 use fluid_deltas::DeltaFault;
 use fluid_feed::{EventText, Tail};
-use fluid_lane::{Lane, lanes_say_their_ledgers};
+use fluid_lane::{Lane, LaneFault, lanes_say_their_ledgers};
 use fluid_log::Keeper;
-use fluid_types::DocName;
+use fluid_types::{DocName, Message, Verdict};
 use std::alloc::Global;
 
 /// The messages from one number to before another, in an event under this name. What the tail lacks of them is read and printed, once
@@ -82,6 +83,37 @@ fn read_up_to<K: Keeper>(
             *tail = Tail::new(alloc, 1);
             Err(DeltaFault::NoMemory)
         }
+    }
+}
+
+/// Prints the message that an entry got, where it has the last number and the tail reaches to it, and puts it there.
+pub(crate) fn keep_up(
+    alloc: Global,
+    last: u64,
+    tail: &mut Tail,
+    answer: &Result<Verdict, LaneFault>,
+)
+    requires { last ≤ most }
+    ensures { KeepsUpBy last answer.now tail.old tail.new }
+{
+    match answer {
+        Ok(Verdict::Sequenced(message)) => put_last(alloc, last, tail, message),
+        Ok(Verdict::Nacked(_)) | Ok(Verdict::Dropped) | Ok(Verdict::Absorbed) => {}
+        Err(_) => {}
+    }
+}
+
+// Where memory is wanting, the tail stays as it was, and what it lacks is read later.
+fn put_last(alloc: Global, last: u64, tail: &mut Tail, message: &Message)
+    requires { last ≤ most }
+    ensures { KeepsUp last message.now tail.old tail.new }
+{
+    if tail.end() != message.number || message.number != last {
+        return;
+    }
+    match tail.push(alloc, message) {
+        Ok(()) => tail.trim(),
+        Err(_) => {}
     }
 }
 

@@ -1,6 +1,6 @@
 //! What is done to a document by whoever has its lane in hand. `says` speaks of every list of steps for which the lane stands, and
 //! `gate` of the lane itself: by it a call that a rule refuses fails at the log only where a cut was owed.
-ghost use Rattle.std.specs.Prelude.{◌≡◌, ℕ, ◌<◌, ◌≤◌, List, [], ◌∷◌, length, IfOk, IfErr, IfSome};
+ghost use Rattle.std.specs.Prelude.{◌≡◌, ℕ, ◌<◌, ◌≤◌, List, [], ◌∷◌, ◌++◌, length, IfOk, IfErr, IfSome};
 ghost use Rattle.fluid_types.specs.Fits.{Fits};
 ghost use Rattle.fluid_types.specs.Names.{entry_name};
 ghost use Rattle.fluid_document.specs.Entries.{most};
@@ -22,7 +22,7 @@ ghost use Rattle.fluid_doors.specs.Looking.{IsLook, Looks};
 ghost use Rattle.fluid_doors.specs.Scribing.{IsJobOf};
 
 use crate::bench::Bench;
-use crate::gathering::gather;
+use crate::gathering::{gather, keep_up};
 use crate::looking::{messages_asked, summary};
 use fluid_cast::Cursor;
 use fluid_deltas::DeltaFault;
@@ -36,19 +36,23 @@ use fluid_voice::{Act, ActEnd};
 use std::alloc::Global;
 
 impl<K: Keeper> Bench<K> {
-    /// Enters a leave or a submission.
+    /// Enters a leave or a submission. Its message is printed at once where the tail reaches to it, as the one that is at hand.
     pub fn submit(&mut self, alloc: Global, raw: &Raw) -> Result<Verdict, LaneFault>
         requires fits { Fits raw.now }
         requires kind { IsLeaveOrSubmission raw.now }
         ensures goes { Continues self.old.lane self.new.lane (steps_of (entered_by raw.now) result) }
-        ensures tail { self.new.tail ≡ self.old.tail }
+        ensures tail { (l : List AStep) → BenchStands self.old.lane self.old.tail l → IsTailOf (terms_of self.old.lane).told self.new.tail (l ++ steps_of (entered_by raw.now) result) }
+        ensures short { length self.old.tail.messages < too_many → length self.new.tail.messages < too_many }
         ensures cause { IfErr result (IsCausedBy self.old.lane.keeping.faults self.new.lane.keeping.faults) }
         ensures gate { IsGated self.old.lane self.new.lane (is_full_for self.old.lane raw.now ∷ []) IsOutside result }
         ensures says { (l : List AStep) → LaneStands self.old.lane l → Submits (terms_of self.old.lane) raw.now result l }
     {
         // (a law, and no work: its clause is for the proof)
         lanes_say_their_ledgers();
-        self.lane.submit(alloc, raw)
+        let answer = self.lane.submit(alloc, raw);
+        let last = self.lane.seq();
+        keep_up(alloc, last, &mut self.tail, &answer);
+        answer
     }
 
     /// Enters a join under the id `c` and the number of the entry.

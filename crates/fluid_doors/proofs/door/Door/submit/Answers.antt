@@ -4,11 +4,12 @@ use Rattle.fluid_lane.specs.Steps.{steps_of, entered_by}
 use Rattle.fluid_doors.specs.Passing.{Grows}
 use Rattle.fluid_doors.specs.Entering.{Submits}
 use Rattle.fluid_doors.proofs.Passes.{grows_by}
-use Rattle.fluid_doors.proofs.Tails.{stands_on}
+use Rattle.fluid_doors.proofs.Tails.{stands_kept}
 use Rattle.fluid_doors.proofs.door.Door.submit.Goals as goal
 
 pub close_entered-requires-clause-stands : goal.close_entered-requires-clause-stands
-close_entered-requires-clause-stands g c = stands_on _ _ _ _ _ _ c.submit-answer.ensures.tail c.submit-answer.ensures.goes c.take_noted-held.ensures.stands
+close_entered-requires-clause-stands g c =
+    let s = c.take_noted-held.ensures.stands in let a = c.submit-answer.ensures in stands_kept _ _ _ _ _ a.goes s.lane (a.tail _ s) (a.short s.short)
 
 pub returns : goal.returns
 returns g c =
