@@ -22,7 +22,7 @@ use Rattle.fluid_steps.specs.declared.refusal.LineWhy.{LineWhy}
 use Rattle.fluid_voice.specs.declared.ends.ActEnd.{ActEnd}
 use Rattle.fluid_voice.specs.declared.ends.ActEnd.TheVariants.{Entered, FullNow}
 use Rattle.fluid_voice.specs.Ends.{entry_end}
-use Rattle.fluid_transcript.specs.World.{Container, Name, connection, container, used_up, World, document, is_open, changed}
+use Rattle.fluid_transcript.specs.World.{Container, Name, connection, container, roamer, used_up, World, document, is_open, changed}
 use Rattle.fluid_transcript.specs.Connections.{voice_of}
 use Rattle.fluid_transcript.specs.Steps.{refusal}
 use Rattle.fluid_transcript.specs.Transcript.{done}
@@ -49,6 +49,7 @@ goes_on_first : (k : Container) → IsFirst k → (new : Option Name) → GoesOn
 goes_on_first k is None goes = absurd goes
 goes_on_first k is (Some (connection voice)) goes = absurd goes
 goes_on_first k is (Some (container later)) goes = (later, (refl, record { document = goes.document ∙ is.document; from = goes.from ∙ is.from; base = goes.base ∙ is.base }))
+goes_on_first k is (Some (roamer later)) goes = absurd goes
 goes_on_first k is (Some used_up) goes = absurd goes
 
 first_stays : (old new : World) → ChangesOneName old new → HasFirst old → HasFirst new

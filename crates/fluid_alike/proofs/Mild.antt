@@ -29,7 +29,7 @@ use Rattle.fluid_edits.specs.declared.edit.Edit.{Edit as AnEdit}
 use Rattle.fluid_runtime.specs.Refused.{answer}
 use Rattle.fluid_runtime.specs.declared.fault.EditFault.{EditFault}
 use Rattle.fluid_steps.specs.declared.steps.Step.{Step}
-use Rattle.fluid_steps.specs.declared.steps.Step.TheVariants.{Send, Collect, Close, Scribe, Checkpoint, Restart, Reopen, Sweep, Count, Tasks, Load, Pump, Edit, Beat, Summarize, Show}
+use Rattle.fluid_steps.specs.declared.steps.Step.TheVariants.{Send, Collect, Close, Scribe, Checkpoint, Restart, Reopen, Sweep, Count, Tasks, Load, Pump, Edit, Beat, Summarize, Show, Roam, Say, Lose, Back, Acked}
 use Rattle.fluid_steps.specs.declared.refusal.LineWhy.{LineWhy}
 use Rattle.fluid_voice.specs.declared.states.VoiceState.{VoiceState}
 use Rattle.fluid_voice.specs.declared.states.VoiceState.TheVariants.{Fresh, Reading, Writing, Used}
@@ -258,6 +258,11 @@ mild_effect limits (Tasks name) is r d = absurd is
 mild_effect limits (Beat p) is r d = absurd is
 mild_effect limits (Summarize p) is r d = absurd is
 mild_effect limits (Show p) is r d = absurd is
+mild_effect limits (Roam q name) is r d = absurd is
+mild_effect limits (Say q op) is r d = absurd is
+mild_effect limits (Lose q) is r d = absurd is
+mild_effect limits (Back q) is r d = absurd is
+mild_effect limits (Acked q) is r d = absurd is
 
 -- where as many documents as may be are open
 mild_beyond : (limits : Limits) (name : List ℕ) (step : Step) → IsMildStep step → (r : World) → IfSome (beyond limits r name step).name (λ named. named.0 ≡ subject step)
@@ -278,6 +283,11 @@ mild_beyond limits name (Tasks other) is r = absurd is
 mild_beyond limits name (Beat p) is r = absurd is
 mild_beyond limits name (Summarize p) is r = absurd is
 mild_beyond limits name (Show p) is r = absurd is
+mild_beyond limits name (Roam q other) is r = absurd is
+mild_beyond limits name (Say q op) is r = absurd is
+mild_beyond limits name (Lose q) is r = absurd is
+mild_beyond limits name (Back q) is r = absurd is
+mild_beyond limits name (Acked q) is r = absurd is
 
 -- ---- a world behind one
 

@@ -1,6 +1,6 @@
 -- What a step adds to a document isn't made by the client of another name's container.
 use Rattle.std.proofs.Common.{◌≡◌, ℕ, ◌+◌, ◌≤◌, ◌<◌, ◌^◌, arith, nat_le, nat_lt, Bool, true, false, if◌then◌else◌, List, [], ◌∷◌, ◌++◌, map, length, All, Option, Some, None, is_some, Result, Ok, Err, bytes_eq, refl, sym, ap, subst, ◌∙◌, length-append}
-use Rattle.std.specs.Prelude.{IfSome, slice_get, option_and_then}
+use Rattle.std.specs.Prelude.{slice_get, option_and_then}
 use Rattle.std.specs.List.{filter_map, cons_option}
 use Rattle.std.specs.Option.{option_or, option_map, option_to_list}
 use Rattle.std.specs.FinMap.{get}
@@ -9,6 +9,7 @@ use Rattle.std.proofs.lemmas.Slice.Eq.{bytes_eq-Decides}
 use Rattle.fluid_json.specs.Tree.{Tree, null}
 use Rattle.fluid_json.specs.declared.fault.JsonFault.{JsonFault}
 use Rattle.fluid_edits.specs.declared.edit.Edit.{Edit as AnEdit}
+use Rattle.fluid_edits.specs.Forms.{contents_of}
 use Rattle.fluid_types.specs.Ledger.{Ledger, order}
 use Rattle.fluid_types.specs.Names.{entry_name}
 use Rattle.fluid_types.specs.declared.entries.Offered.{Offered}
@@ -17,6 +18,7 @@ use Rattle.fluid_types.specs.declared.entries.Raw.{Raw}
 use Rattle.fluid_types.specs.declared.entries.Raw.TheVariants.{Leave, Submit}
 use Rattle.fluid_types.specs.declared.entries.Scopes.{Scopes}
 use Rattle.fluid_types.specs.declared.entries.Submission.{Submission}
+use Rattle.fluid_types.specs.declared.nacks.NackRule.{NackRule}
 use Rattle.fluid_rules.specs.Rules.{joined}
 use Rattle.fluid_rules.specs.declared.limits.Limits.{Limits}
 use Rattle.fluid_runtime.specs.AppTree.{app_tree}
@@ -28,13 +30,14 @@ use Rattle.fluid_store.specs.Putting.{Putting, Clashing, putting}
 use Rattle.fluid_store.specs.Listed.{objects}
 use Rattle.fluid_lane.specs.Laws.{first_silent_in}
 use Rattle.fluid_steps.specs.declared.steps.Step.{Step}
-use Rattle.fluid_steps.specs.declared.steps.Step.TheVariants.{Send, Collect, Close, Scribe, Checkpoint, Restart, Reopen, Sweep, Count, Tasks, Load, Pump, Edit, Beat, Summarize, Show}
+use Rattle.fluid_steps.specs.declared.steps.Step.TheVariants.{Send, Collect, Close, Scribe, Checkpoint, Restart, Reopen, Sweep, Count, Tasks, Load, Pump, Edit, Beat, Summarize, Show, Roam, Say, Lose, Back, Acked}
 use Rattle.fluid_voice.specs.declared.states.VoiceState.{VoiceState}
 use Rattle.fluid_voice.specs.declared.states.VoiceState.TheVariants.{Fresh, Reading, Writing, Used}
 use Rattle.fluid_voice.specs.declared.actions.Act.{Act}
 use Rattle.fluid_voice.specs.declared.actions.Act.TheVariants as act
 use Rattle.fluid_voice.specs.declared.ends.ActEnd.{ActEnd}
 use Rattle.fluid_voice.specs.declared.ends.ActEnd.TheVariants.{Said, Joined, Told, Entered, FullNow, TooMany, Given}
+use Rattle.fluid_voice.specs.declared.refusals.ConnectRefusal.{ConnectRefusal}
 use Rattle.fluid_voice.specs.Ends.{Outcome, outcome, join_of, entry_end}
 use Rattle.fluid_voice.specs.Ends.Outcome.{ends, clashes}
 use Rattle.fluid_voice.specs.Heard.{acts_of, entry_of, entries_in, submissions_of}
@@ -42,13 +45,14 @@ use Rattle.fluid_voice.specs.Laws.{entries_under}
 use Rattle.fluid_voice.specs.States as states
 use Rattle.fluid_voice.proofs.Each.{each}
 use Rattle.fluid_voice.proofs.Entering.{writers_enter}
-use Rattle.fluid_transcript.specs.World.{Document, Container, Name, connection, container, used_up, World, document, ledger_of, raws_added, Effect, says}
+use Rattle.fluid_transcript.specs.World.{Document, Container, Roamer, Name, connection, container, roamer, used_up, World, document, ledger_of, with_entries, raws_added, Effect, says}
 use Rattle.fluid_transcript.specs.Connections.{Hearing, found_by, behind_act, hear_act, hear, hearing, acts_for, connects, voice_named, voice_of, sent, sent_to}
-use Rattle.fluid_transcript.specs.Containers.{id_of, channels, visible, submission_of, submitting, edited_by, summarized_by, all_scopes, join_for, joining, join_refusal}
+use Rattle.fluid_transcript.specs.Containers.{id_of, channels, visible, Submitted, submission_of, submitting, edited_by, summarized_by, all_scopes, join_for, joining, join_refusal}
+use Rattle.fluid_transcript.specs.Roamers.{roamed_by, laid_over, said_by, and_others, sending, left, rejoined, back_by, came_back}
 use Rattle.fluid_transcript.specs.Documents.{scribed_by, reported, is_found, objects_for, checkpoint_of, swept_by}
 use Rattle.fluid_transcript.specs.Lines.{stored_line, full_line, large_line}
-use Rattle.fluid_transcript.specs.Sound.{client_in, IsSoundName, IsSound}
-use Rattle.fluid_transcript.specs.Steps.{container_in, container_of, container_document, refusal_to_send, refusal, about, on_container, edit_effect, effect}
+use Rattle.fluid_transcript.specs.Sound.{client_in, IsSoundContainer, IsSound}
+use Rattle.fluid_transcript.specs.Steps.{container_in, container_of, roamer_in, roamer_of, shown_of, container_document, roamer_document, refusal_to_send, refusal, about, on_container, on_roamer, edit_effect, say_effect, effect}
 use Rattle.fluid_transcript.proofs.Fitting.{length_ledger}
 use Rattle.fluid_transcript.proofs.Sounds.{one_place}
 use Rattle.fluid_holding.specs.Holding.{is_made_by}
@@ -179,9 +183,9 @@ none_connects (a ∷ acts) h =
 same_some : (a b : List ℕ) → ◌≡◌ {A = Option (List ℕ)} (Some a) (Some b) → a ≡ b
 same_some a b same = cc
 
--- ---- a step, beside the container of another name
+-- ---- a step, beside the client of another name
 
-module _ (limits : Limits) (w : World) (sound : IsSound w) (q : List ℕ) (k : Container) (there : get w.names q ≡ Some (container k)) where
+module _ (limits : Limits) (w : World) (sound : IsSound w) (q : List ℕ) (k : Container) (is_sound : IsSoundContainer w k) (client : client_in (get w.names q) ≡ Some (k.document, id_of k)) where
   abbrev Other : Raw → Type 0
   Other = Beside (id_of k)
 
@@ -189,10 +193,7 @@ module _ (limits : Limits) (w : World) (sound : IsSound w) (q : List ℕ) (k : C
   d = document w k.document
 
   below : k.entries < length d.raws
-  below = (subst (λ o. IfSome o (IsSoundName w)) there (sound.names q)).entries
-
-  client : client_in (get w.names q) ≡ Some (k.document, id_of k)
-  client = ap client_in there
+  below = is_sound.entries
 
   -- the client of another name in the same document
   another : (p id : List ℕ) → bytes_eq q p ≡ false → client_in (get w.names p) ≡ Some (k.document, id) → length d.raws ≤ 2 ^ 64 → bytes_eq id (id_of k) ≡ false
@@ -226,6 +227,7 @@ module _ (limits : Limits) (w : World) (sound : IsSound w) (q : List ℕ) (k : C
   voice_client None ok = refl
   voice_client (Some (connection v)) ok = refl
   voice_client (Some (container c)) ok = absurd (cc)
+  voice_client (Some (roamer c)) ok = absurd (cc)
   voice_client (Some used_up) ok = absurd (cc)
 
   sends : (c text : List ℕ) → refusal_to_send (get w.names c) ≡ None → bytes_eq q c ≡ false → sent_to w c text ≡ Some k.document
@@ -243,7 +245,12 @@ module _ (limits : Limits) (w : World) (sound : IsSound w) (q : List ℕ) (k : C
       by None is = none (id_of k)
       by (Some (connection v)) is = none (id_of k)
       by (Some (container j)) is = h j is
+      by (Some (roamer j)) is = none (id_of k)
       by (Some used_up) is = none (id_of k)
+
+  shown : (p : List ℕ) (o : Option Container) (does : Container → Effect) → ((j : Container) → All Other (does j).entries) → All Other (on_container w o does).entries
+  shown p None does h = none (id_of k)
+  shown p (Some j) does h = h j
 
   -- a submission of another container
   submitted_by : (p : List ℕ) (j : Container) (kind : Offered) (contents : Tree) → bytes_eq q p ≡ false → get w.names p ≡ Some (container j) → j.document ≡ k.document → length d.raws ≤ 2 ^ 64
@@ -270,6 +277,85 @@ module _ (limits : Limits) (w : World) (sound : IsSound w) (q : List ℕ) (k : C
   -- a container's document
   own_document : (p : List ℕ) (j : Container) → get w.names p ≡ Some (container j) → container_document w p ≡ Some k.document → j.document ≡ k.document
   own_document p j its to = same_some j.document k.document (sym (ap (λ o. option_and_then (λ c. Some c.document) (container_in o)) its) ∙ to)
+
+  -- ---- roamers
+
+  roaming : (r : List ℕ) (does : Roamer → Effect) → ((j : Roamer) → get w.names r ≡ Some (roamer j) → All Other (does j).entries) → All Other (on_roamer w (roamer_of w r) does).entries
+  roaming r does h = by (get w.names r) refl
+    where
+      by : (o : Option Name) → get w.names r ≡ o → All Other (on_roamer w (roamer_in o) does).entries
+      by None is = none (id_of k)
+      by (Some (connection v)) is = none (id_of k)
+      by (Some (container j)) is = none (id_of k)
+      by (Some (roamer j)) is = h j is
+      by (Some used_up) is = none (id_of k)
+
+  -- a roamer's document
+  roaming_document : (r : List ℕ) (j : Roamer) → get w.names r ≡ Some (roamer j) → roamer_document w r ≡ Some k.document → j.client.document ≡ k.document
+  roaming_document r j its to = same_some j.client.document k.document (sym (ap (λ o. option_and_then (λ c. Some c.client.document) (roamer_in o)) its) ∙ to)
+
+  -- its client is another one
+  roaming_client : (r : List ℕ) (j : Roamer) → bytes_eq q r ≡ false → get w.names r ≡ Some (roamer j) → j.client.document ≡ k.document → length d.raws ≤ 2 ^ 64
+      → bytes_eq (id_of j.client) (id_of k) ≡ false
+  roaming_client r j other its same fits = another r (id_of j.client) other (ap client_in its ∙ ap (λ n. Some (n, id_of j.client)) same) fits
+
+  lays : (r : List ℕ) (j : Roamer) (edit : AnEdit) (contents : Tree) (is_lost : Bool) → bytes_eq (id_of j.client) (id_of k) ≡ false
+      → All Other (laid_over limits w (ledger_of d) r j edit contents is_lost).entries
+  lays r j edit contents true apart = none (id_of k)
+  lays r j edit contents false apart =
+      submits (id_of k) (ledger_of d) _ (entry_end limits (ledger_of d) (Submit (id_of j.client) (submission_of (ledger_of d) j.client Op contents) w.moment)) apart
+
+  says_by : (r : List ℕ) (j : Roamer) (edit : AnEdit) (a : Result Tree EditFault) → bytes_eq (id_of j.client) (id_of k) ≡ false
+      → All Other (said_by limits w (ledger_of d) r j edit a).entries
+  says_by r j edit (Err fault) apart = none (id_of k)
+  says_by r j edit (Ok contents) apart = lays r j edit contents j.is_lost apart
+
+  says_so : (r : List ℕ) (op : Result AnEdit JsonFault) (j : Roamer) → bytes_eq (id_of j.client) (id_of k) ≡ false → All Other (say_effect limits w d r op j).entries
+  says_so r (Err fault) j apart = none (id_of k)
+  says_so r (Ok edit) j apart = says_by r j edit (answer (visible (ledger_of d) j.client) edit) apart
+
+  and_more : (s others : Submitted) (refused : Option NackRule) → All Other s.entries → All Other others.entries → All Other (and_others s others refused).entries
+  and_more s others None first rest = All-append Other s.entries others.entries first rest
+  and_more s others (Some rule) first rest = first
+
+  -- ops of a client that isn't this one
+  all_sent : (found : Document) (j : Container) (more : List AnEdit) → bytes_eq (id_of j) (id_of k) ≡ false → All Other (sending limits w found j more).entries
+  unfolding sending
+  all_sent found j [] apart = none (id_of k)
+  all_sent found j (edit ∷ more) apart =
+      let s = submitting limits w (ledger_of found) j Op (contents_of edit) in
+      let first = submits (id_of k) (ledger_of found) _ (entry_end limits (ledger_of found) (Submit (id_of j) (submission_of (ledger_of found) j Op (contents_of edit)) w.moment)) apart in
+      and_more s (sending limits w (with_entries s.entries found) j more) s.refused first (all_sent (with_entries s.entries found) j more apart)
+
+  -- a later entry's id is another one
+  later_id : (place : ℕ) → k.entries < place → place < 2 ^ 64 → bytes_eq (entry_name place) (id_of k) ≡ false
+  later_id place after fits = by (bytes_eq (entry_name place) (id_of k)) refl
+    where
+      by : (b : Bool) → bytes_eq (entry_name place) (id_of k) ≡ b → b ≡ false
+      by true same =
+          absurd (omega (arith, one_place place k.entries fits (omega (arith, after, fits)) ((bytes_eq-Decides (entry_name place) (id_of k)).0 same), after))
+      by false other = refl
+
+  -- the leave of another client, the join of a new one, and its ops
+  backs : (r : List ℕ) (j : Roamer) (refusal : Option ConnectRefusal)
+      → length d.raws + length (back_by limits w (left w d j) r j (Leave (id_of j.client) w.moment) refusal).entries ≤ 2 ^ 64
+      → All Other (back_by limits w (left w d j) r j (Leave (id_of j.client) w.moment) refusal).entries
+  backs r j (Some refusal) fits = one (id_of k) _ refl
+  backs r j None fits =
+      let one_more = length-append d.raws (Leave (id_of j.client) w.moment ∷ []) in
+      let long = length_ledger (left w d j).raws in
+      let joining_entry = join_for w (ledger_of (left w d j)) in
+      All-cons Other (Leave (id_of j.client) w.moment)
+      (joining_entry ∷ (sending limits w (with_entries (joining_entry ∷ []) (left w d j)) (rejoined w (left w d j) j).client (rejoined w (left w d j) j).client.pending).entries) refl
+      (All-cons Other joining_entry (sending limits w (with_entries (joining_entry ∷ []) (left w d j)) (rejoined w (left w d j) j).client (rejoined w (left w d j) j).client.pending).entries (join_beside (id_of k) k.entries refl (ledger_of (left w d j)) (omega (arith, long, one_more, below)) (omega (arith, long, one_more, fits)) all_scopes null w.moment)
+      (all_sent (with_entries (joining_entry ∷ []) (left w d j)) (rejoined w (left w d j) j).client (rejoined w (left w d j) j).client.pending
+      (later_id (length (left w d j).raws) (omega (arith, one_more, below)) (omega (arith, one_more, fits)))))
+
+  roams : (r name : List ℕ) (refusal : Option ConnectRefusal) → length d.raws + length (roamed_by w d r name refusal).entries ≤ 2 ^ 64 → All Other (roamed_by w d r name refusal).entries
+  roams r name (Some refusal) fits = none (id_of k)
+  roams r name None fits =
+      let long = length_ledger d.raws in
+      one (id_of k) (join_for w (ledger_of d)) (join_beside (id_of k) k.entries refl (ledger_of d) (omega (arith, long, below)) (omega (arith, long, fits)) all_scopes null w.moment)
 
   -- ---- documents
 
@@ -327,4 +413,11 @@ module _ (limits : Limits) (w : World) (sound : IsSound w) (q : List ℕ) (k : C
   beside (Beat p) ok other to fits = contained p _ (λ j its. submitted_by p j Noop _ other its (own_document p j its to) (omega (arith, fits)))
   beside (Summarize p) ok other to fits =
       contained p _ (λ j its. summarizes p j (putting w.store (objects (app_tree (channels (ledger_of d) j)))) _ other its (own_document p j its to) (omega (arith, fits)))
-  beside (Show p) ok other to fits = contained p _ (λ j its. none (id_of k))
+  beside (Show p) ok other to fits = shown p (shown_of w p) _ (λ j. none (id_of k))
+  beside (Roam r name) ok other to fits = roams r name (join_refusal (joining limits w (ledger_of d))) fits
+  beside (Say r op) ok other to fits = roaming r _ (λ j its. says_so r op j (roaming_client r j other its (roaming_document r j its to) (omega (arith, fits))))
+  beside (Lose r) ok other to fits = roaming r _ (λ j its. none (id_of k))
+  beside (Back r) ok other to fits =
+      roaming r _ (λ j its. backs r j (join_refusal (joining limits w (ledger_of (left w d j))))
+      (subst (λ o. length d.raws + length (on_roamer w (roamer_in o) (came_back limits w d r)).entries ≤ 2 ^ 64) its fits))
+  beside (Acked r) ok other to fits = roaming r _ (λ j its. none (id_of k))

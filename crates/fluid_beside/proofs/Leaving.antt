@@ -10,9 +10,9 @@ use Rattle.fluid_rules.specs.Rules.{verdict, ledger, entries_behind}
 use Rattle.fluid_rules.specs.declared.limits.Limits.{Limits}
 use Rattle.fluid_steps.specs.declared.steps.Step.{Step}
 use Rattle.fluid_voice.specs.Ends.{is_beyond}
-use Rattle.fluid_transcript.specs.World.{Container, container, World, new_document, document, is_open, ledger_of, with_entries, farewells, Effect, grown, changed, does}
+use Rattle.fluid_transcript.specs.World.{Container, container, roamer, World, new_document, document, is_open, ledger_of, with_entries, farewells, Effect, grown, changed, does}
 use Rattle.fluid_transcript.specs.Containers.{id_of}
-use Rattle.fluid_transcript.specs.Sound.{ledger_in, IsSoundName, IsSound}
+use Rattle.fluid_transcript.specs.Sound.{client_in, ledger_in, IsSoundContainer, IsSoundName, IsSound}
 use Rattle.fluid_transcript.specs.Steps.{refusal, about, effect, beyond}
 use Rattle.fluid_transcript.specs.Transcript.{readied, done_in, done_on}
 use Rattle.fluid_transcript.proofs.Begins.{ledger_more}
@@ -71,9 +71,9 @@ module _ (limits : Limits) (w : World) (step : Step) (q : List ℕ) (sound : IsS
       by false =
           named limits (readied w name) (readied w name).names q (document (readied w name) name) step other ∙ ap (λ names. get names q) (readied_names w name (is_open w name))
 
-  module _ (k : Container) (there : get w.names q ≡ Some (container k)) where
+  module _ (k : Container) (is_sound : IsSoundContainer w k) (client : client_in (get w.names q) ≡ Some (k.document, id_of k)) where
     open_is : is_open w k.document ≡ true
-    open_is = (subst (λ o. IfSome o (IsSoundName w)) there (sound.names q)).open_is
+    open_is = is_sound.open_is
 
     -- the step reaches its document
     in_own : (r : World) → r ≡ w → about w step ≡ Some k.document
@@ -92,7 +92,7 @@ module _ (limits : Limits) (w : World) (step : Step) (q : List ℕ) (sound : IsS
         by fits =
             subst (λ doc. GoesOnBeside (id_of k) (ledger_in w k.document) (ledger_of doc)) (sym new_is)
             (goes_by (id_of k) (document w k.document).raws e.entries
-            (beside limits w sound q k there step ok other to (omega (arith, fits, ap (λ doc. length doc.raws) new_is, length-append (document w k.document).raws e.entries))))
+            (beside limits w sound q k is_sound client step ok other to (omega (arith, fits, ap (λ doc. length doc.raws) new_is, length-append (document w k.document).raws e.entries))))
 
     -- or another one
     in_other : (name : List ℕ) → bytes_eq k.document name ≡ false → GoesOnBeside (id_of k) (ledger_in w k.document) (ledger_in (done_in limits (readied w name) name step).world k.document)
@@ -127,7 +127,10 @@ module _ (limits : Limits) (w : World) (step : Step) (q : List ℕ) (sound : IsS
 pub steps_leave : StepsLeaveOthers
 steps_leave limits w step q sound ok other = record {
   name = names_on limits w step q sound ok other (about w step);
-  container = λ k there fits. goes_on limits w step q sound ok other k there (about w step) refl fits;
+  container = λ k there fits.
+      goes_on limits w step q sound ok other k (subst (λ o. IfSome o (IsSoundName w)) there (sound.names q)) (ap client_in there) (about w step) refl fits;
+  roamer = λ k there fits.
+      goes_on limits w step q sound ok other k.client (subst (λ o. IfSome o (IsSoundName w)) there (sound.names q)).client (ap client_in there) (about w step) refl fits;
 }
 
 -- ---- the store

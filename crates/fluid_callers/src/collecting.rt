@@ -127,8 +127,8 @@ fn gather_lane<K: Keeper>(
     Ok((lines, behind))
 }
 
-// The messages from one number to before another; none where the first isn't below it.
-pub(crate) fn messages_from<K: Keeper>(
+/// The messages from one number to before another, which is behind the last; none where the first isn't below it.
+pub fn messages_from<K: Keeper>(
     alloc: Global,
     lane: &mut Lane<K>,
     from: u64,

@@ -16,7 +16,7 @@ mod tasking;
 mod written;
 
 pub use closing::close;
-pub use collecting::collect;
+pub use collecting::{collect, messages_from};
 pub use hearing::delta_stop;
 pub use sending::send;
 pub use tasking::tasks;

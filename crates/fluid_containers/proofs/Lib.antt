@@ -2,10 +2,10 @@ mod Lanes
 mod Ends
 mod Submitted
 mod Stepped
-mod OnDesk
+pub mod OnDesk
 mod Counts
-mod Joined
-mod Fitted
+pub mod Joined
+pub mod Fitted
 mod Loads
 mod LoadedDesk
 mod Stored

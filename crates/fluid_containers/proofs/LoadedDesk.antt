@@ -20,7 +20,7 @@ use Rattle.fluid_transcript.specs.Lines as lines
 use Rattle.fluid_transcript.specs.Sound.{IsSound, ledger_in}
 use Rattle.fluid_transcript.specs.Containers as steps
 use Rattle.fluid_transcript.specs.Containers.{Loading, turned_away, no_summary, bad_summary, loaded, loading, load_beyond, name_for, showing, visible}
-use Rattle.fluid_transcript.specs.Steps.{container_in, on_container}
+use Rattle.fluid_transcript.specs.Steps.{shown_in, on_container}
 use Rattle.fluid_transcript.specs.Transcript.{done, done_in, readied, last_pick, shown_at_end, end_effect, loaded_last_in}
 use Rattle.fluid_desk.specs.declared.stop.Stop.{Stop}
 use Rattle.fluid_desk.specs.Stands.{IsLaneOf, DeskStands, StoreStands}
@@ -203,9 +203,9 @@ shows_on old mid w p name moment k h result desk sound at named holder own used 
     let e : Effect = showing w (document w name) p k in
     let left : DeskStands mid (changed e (Some name) w) =
     subst (λ n. DeskStands n (changed e (Some name) w)) (left_same mid name lane.0 lane.1) (acts mid w name lane.0 e stands (ap is_some lane.1) opened (same_lane mid.limits lane.0 (document w name) of)) in
-    let about_is = ap (λ n. option_and_then (λ (c : Container). Some c.document) (container_in n)) named ∙ ap Some (sym of_name) in
+    let about_is = ap (λ n. option_and_then (λ (c : Container). Some c.document) (shown_in n)) named ∙ ap Some (sym of_name) in
     let effect_is : done old.limits w (step.Show p) ≡ does e (Some name) w =
-    opened_step old.limits w name (step.Show p) about_is opened ∙ ap (λ n. does (on_container w (container_in n) (showing w (document w name) p)) (Some name) w) named in
+    opened_step old.limits w name (step.Show p) about_is opened ∙ ap (λ n. does (on_container w (shown_in n) (showing w (document w name) p)) (Some name) w) named in
     let line_is : lines.shown_line p h.container.number (shown (shown_channels h.container)) ≡ lines.shown_line p k.number (shown (visible (ledger_of (document w name)) k)) =
     ap (λ n. lines.shown_line p n (shown (shown_channels h.container))) holder.container.number
     ∙ ap (λ c. lines.shown_line p k.number (shown (replay_edits c h.container.pending))) holder.container.channels_are

@@ -17,7 +17,7 @@ use Rattle.fluid_lanes.specs.Using.{Uses, IsOneTooMany}
 use Rattle.fluid_steps.specs.declared.steps.Step.{Step}
 use Rattle.fluid_transcript.specs.World.{World, Document, Container, Effect, Name, container, document, is_open, ledger_of, grown, changed, does, new_document, with_name}
 use Rattle.fluid_transcript.specs.Sound.{IsSound, IsSoundName, IsSoundContainer, ledger_in}
-use Rattle.fluid_transcript.specs.Steps.{about, effect, container_in, on_container}
+use Rattle.fluid_transcript.specs.Steps.{about, effect, container_in, shown_in, on_container}
 use Rattle.fluid_transcript.specs.Transcript.{done, done_in, readied}
 use Rattle.fluid_holding.specs.Laws.{Stands}
 use Rattle.fluid_desk.specs.declared.stop.Stop.{Stop}
@@ -143,6 +143,9 @@ never_away old mid w p name k h count desk sound named holder own many =
 
 pub about_container : (w : World) (p : List ℕ) (k : Container) → get w.names p ≡ Some (container k) → option_and_then (λ k. Some k.document) (container_in (get w.names p)) ≡ Some k.document
 about_container w p k named = ap (λ n. option_and_then (λ (c : Container). Some c.document) (container_in n)) named
+
+pub about_shown : (w : World) (p : List ℕ) (k : Container) → get w.names p ≡ Some (container k) → option_and_then (λ k. Some k.document) (shown_in (get w.names p)) ≡ Some k.document
+about_shown w p k named = ap (λ n. option_and_then (λ (c : Container). Some c.document) (shown_in n)) named
 
 pub effect_of : (w : World) (p : List ℕ) (k : Container) (does : Container → Effect) → get w.names p ≡ Some (container k) → on_container w (container_in (get w.names p)) does ≡ does k
 effect_of w p k does named = ap (λ n. on_container w (container_in n) does) named

@@ -14,5 +14,6 @@ mod stepping;
 mod stops;
 
 pub use holder::Holder;
+pub use lines::{edit_fault_line, refused_line, shown_line, turned_away_line};
 pub use loading::{Loaded, load, load_last};
 pub use stepping::{beat, edit, pump, show, summarize};

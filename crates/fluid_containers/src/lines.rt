@@ -56,11 +56,8 @@ pub(crate) fn edited_line(alloc: Global, name: &ScriptName) -> Result<Text, NoMe
     Ok(Text::new(line))
 }
 
-pub(crate) fn edit_fault_line(
-    alloc: Global,
-    name: &ScriptName,
-    fault: EditFault,
-) -> Result<Text, NoMemory>
+/// An edit is refused for this fault.
+pub fn edit_fault_line(alloc: Global, name: &ScriptName, fault: EditFault) -> Result<Text, NoMemory>
     ensures { IfOk result (λ line. line ≡ lines.edit_fault_line name.now fault) }
 {
     let name = name.as_str();
@@ -101,13 +98,8 @@ pub(crate) fn summarized_line(
     Ok(Text::new(line))
 }
 
-/// What the container of this name shows.
-pub(crate) fn shown_line(
-    alloc: Global,
-    name: &str,
-    number: u64,
-    shown: &Json,
-) -> Result<Text, NoMemory>
+/// What the container or the roamer of this name shows.
+pub fn shown_line(alloc: Global, name: &str, number: u64, shown: &Json) -> Result<Text, NoMemory>
     ensures { IfOk result (λ line. line ≡ lines.shown_line name.now number shown.now) }
 {
     let shown = print(alloc, shown)?;
@@ -127,11 +119,7 @@ pub(crate) fn clash_line(alloc: Global, name: &ScriptName, id: &Id) -> Result<Te
 }
 
 /// A submission is refused by this rule.
-pub(crate) fn refused_line(
-    alloc: Global,
-    name: &ScriptName,
-    rule: &NackRule,
-) -> Result<Text, NoMemory>
+pub fn refused_line(alloc: Global, name: &ScriptName, rule: &NackRule) -> Result<Text, NoMemory>
     ensures { IfOk result (λ line. line ≡ lines.refused_line name.now rule.now) }
 {
     let code = rule.code();
@@ -143,7 +131,7 @@ pub(crate) fn refused_line(
 }
 
 /// A join is refused for this reason, or a document isn't opened for it.
-pub(crate) fn turned_away_line(
+pub fn turned_away_line(
     alloc: Global,
     name: &str,
     refusal: ConnectRefusal,

@@ -30,19 +30,23 @@ use Rattle.fluid_store.specs.Putting.{Putting, Clashing, behind, put_first, putt
 use Rattle.fluid_store.specs.declared.listing.StoredObject.{StoredObject}
 use Rattle.fluid_steps.specs.Grammar.{step_spelled}
 use Rattle.fluid_steps.specs.declared.steps.Step.{Step}
-use Rattle.fluid_steps.specs.declared.steps.Step.TheVariants.{Send, Collect, Close, Scribe, Checkpoint, Restart, Reopen, Sweep, Count, Tasks, Load, Pump, Edit, Beat, Summarize, Show}
+use Rattle.fluid_steps.specs.declared.steps.Step.TheVariants.{Send, Collect, Close, Scribe, Checkpoint, Restart, Reopen, Sweep, Count, Tasks, Load, Pump, Edit, Beat, Summarize, Show, Roam, Say, Lose, Back, Acked}
 use Rattle.fluid_steps.specs.declared.refusal.LineWhy.{LineWhy}
 use Rattle.fluid_voice.specs.Ends.{Found, Outcome, outcome, held_behind, held_with, is_beyond}
 use Rattle.fluid_voice.specs.Ends.Outcome.{ends, clashes}
 use Rattle.fluid_voice.specs.declared.actions.Act.{Act}
 use Rattle.fluid_voice.specs.declared.actions.Act.TheVariants as act
 use Rattle.fluid_lane.specs.Laws.{first_silent_in}
-use Rattle.fluid_transcript.specs.World.{Document, Container, World, new_document, document, with_entries, farewells, is_open, ledger_of, Effect, says, does}
+use Rattle.fluid_types.specs.declared.entries.Raw.{Raw}
+use Rattle.fluid_types.specs.declared.entries.Raw.TheVariants.{Leave}
+use Rattle.fluid_voice.specs.declared.refusals.ConnectRefusal.{ConnectRefusal}
+use Rattle.fluid_transcript.specs.World.{Document, Container, Roamer, World, new_document, document, with_entries, farewells, is_open, ledger_of, Effect, says, does}
 use Rattle.fluid_transcript.specs.Lines.{full_line, large_line, stored_line}
 use Rattle.fluid_transcript.specs.Connections.{Hearing, hear, hearing, behind_act, found_by, hear_act, acts_for}
 use Rattle.fluid_transcript.specs.Documents.{version_object, version_objects, objects_for, is_found, reported, scribed_by, stored, checkpointed, checkpoint_of, swept_by}
-use Rattle.fluid_transcript.specs.Containers.{channels, visible, pumped, edited_by, beaten, summarized_by, summarized, showing}
-use Rattle.fluid_transcript.specs.Steps.{about, container_of, on_container, edit_effect, effect, beyond}
+use Rattle.fluid_transcript.specs.Containers.{channels, id_of, visible, joining, join_refusal, pumped, edited_by, beaten, summarized_by, summarized, showing}
+use Rattle.fluid_transcript.specs.Roamers.{roamed_by, laid_over, said_by, lost, left, back_by, came_back, acked}
+use Rattle.fluid_transcript.specs.Steps.{about, container_of, roamer_of, shown_of, on_container, on_roamer, edit_effect, say_effect, effect, beyond}
 use Rattle.fluid_transcript.specs.Transcript.{readied, done_in, done_on, done, at_line, done_as}
 use Rattle.fluid_holding.specs.Holding.{HoldsOwn}
 use Rattle.fluid_holding.specs.Laws.{OwnedStaysOwned}
@@ -160,6 +164,10 @@ on_own : (w : World) (o : Option Container) (f : Container → Effect) → Holds
 on_own w None f holds each = holds
 on_own w (Some k) f holds each = each k
 
+roams_own : (w : World) (o : Option Roamer) (f : Roamer → Effect) → HoldsOwn w.store → ((k : Roamer) → HoldsOwn (f k).store) → HoldsOwn (on_roamer w o f).store
+roams_own w None f holds each = holds
+roams_own w (Some k) f holds each = each k
+
 version_own : (l : Ledger) (j : Job) (app : List ℕ) → Own (version_objects l j app)
 version_own l j app = each_append IsOwn (objects j.protocol) (object_of (object_bytes (version_object app (blobs (order l) j.reference))) ∷ []) (objects_own j.protocol) (refl, tt)
 
@@ -211,6 +219,26 @@ module _ (limits : Limits) (w : World) (holds : HoldsOwn w.store) where
       let os = objects (app_tree (channels (ledger_of d) k)) in
       proposed_own (ledger_of d) p k (putting w.store os) (putting w.store os).clash (putting_own w.store os holds (objects_own (app_tree (channels (ledger_of d) k))))
 
+  roam_own : (d : Document) (r name : List ℕ) (refusal : Option ConnectRefusal) → HoldsOwn (roamed_by w d r name refusal).store
+  roam_own d r name None = holds
+  roam_own d r name (Some refusal) = holds
+
+  lay_own : (l : Ledger) (r : List ℕ) (k : Roamer) (edit : AnEdit) (contents : Tree) (is_lost : Bool) → HoldsOwn (laid_over limits w l r k edit contents is_lost).store
+  lay_own l r k edit contents true = holds
+  lay_own l r k edit contents false = holds
+
+  said_own : (l : Ledger) (r : List ℕ) (k : Roamer) (edit : AnEdit) (a : Result Tree EditFault) → HoldsOwn (said_by limits w l r k edit a).store
+  said_own l r k edit (Ok contents) = lay_own l r k edit contents k.is_lost
+  said_own l r k edit (Err fault) = holds
+
+  say_own : (d : Document) (r : List ℕ) (op : Result AnEdit JsonFault) (k : Roamer) → HoldsOwn (say_effect limits w d r op k).store
+  say_own d r (Ok edit) k = said_own (ledger_of d) r k edit (answer (visible (ledger_of d) k.client) edit)
+  say_own d r (Err fault) k = holds
+
+  back_own : (d : Document) (r : List ℕ) (k : Roamer) (leave : Raw) (refusal : Option ConnectRefusal) → HoldsOwn (back_by limits w d r k leave refusal).store
+  back_own d r k leave None = holds
+  back_own d r k leave (Some refusal) = holds
+
   effect_own : (d : Document) (step : Step) → HoldsOwn (effect limits w d step).store
   effect_own d (Send c text) = hear_own limits w.opened c d (hearing w c) (acts_for w c text) holds
   effect_own d (Collect c) = holds
@@ -227,7 +255,13 @@ module _ (limits : Limits) (w : World) (holds : HoldsOwn w.store) where
   effect_own d (Edit p op) = on_own w (container_of w p) (edit_effect limits w d p op) holds (edit_own d p op)
   effect_own d (Beat p) = on_own w (container_of w p) (beaten limits w d p) holds (λ k. holds)
   effect_own d (Summarize p) = on_own w (container_of w p) (summarized limits w d p) holds (summarize_own d p)
-  effect_own d (Show p) = on_own w (container_of w p) (showing w d p) holds (λ k. holds)
+  effect_own d (Show p) = on_own w (shown_of w p) (showing w d p) holds (λ k. holds)
+  effect_own d (Roam r name) = roam_own d r name (join_refusal (joining limits w (ledger_of d)))
+  effect_own d (Say r op) = roams_own w (roamer_of w r) (say_effect limits w d r op) holds (say_own d r op)
+  effect_own d (Lose r) = roams_own w (roamer_of w r) (lost w r) holds (λ k. holds)
+  effect_own d (Back r) =
+      roams_own w (roamer_of w r) (came_back limits w d r) holds (λ k. back_own (left w d k) r k (Leave (id_of k.client) w.moment) (join_refusal (joining limits w (ledger_of (left w d k)))))
+  effect_own d (Acked r) = roams_own w (roamer_of w r) (acked w d r) holds (λ k. holds)
 
   beyond_own : (name : List ℕ) (step : Step) → HoldsOwn (beyond limits w name step).store
   beyond_own name (Send c text) = hear_own limits w.opened c new_document (hearing w c) (acts_for w c text) holds
@@ -246,6 +280,11 @@ module _ (limits : Limits) (w : World) (holds : HoldsOwn w.store) where
   beyond_own name (Beat p) = holds
   beyond_own name (Summarize p) = holds
   beyond_own name (Show p) = holds
+  beyond_own name (Roam r other) = holds
+  beyond_own name (Say r op) = holds
+  beyond_own name (Lose r) = holds
+  beyond_own name (Back r) = holds
+  beyond_own name (Acked r) = holds
 
 -- ---- a line
 
@@ -257,7 +296,7 @@ readied_own w name holds = by (is_open w name)
     by true = holds
     by false = holds
 
-step_own : (limits : Limits) (w : World) (step : Step) → HoldsOwn w.store → HoldsOwn (done limits w step).world.store
+pub step_own : (limits : Limits) (w : World) (step : Step) → HoldsOwn w.store → HoldsOwn (done limits w step).world.store
 step_own limits w step holds = by (about w step)
   where
     within : (name : List ℕ) (b : Bool) → HoldsOwn (if b then does (beyond limits w name step) None w else done_in limits (readied w name) name step).world.store

@@ -39,7 +39,7 @@ use Rattle.fluid_loader.specs.Submitting.{summarize_tree}
 use Rattle.fluid_loader.specs.declared.link.Pick.TheVariants.{Empty}
 use Rattle.fluid_types.specs.Ledger.{order}
 use Rattle.fluid_steps.specs.declared.steps.Step.{Step}
-use Rattle.fluid_steps.specs.declared.steps.Step.TheVariants.{Send, Collect, Close, Scribe, Checkpoint, Restart, Reopen, Sweep, Count, Tasks, Load, Pump, Edit, Beat, Summarize, Show}
+use Rattle.fluid_steps.specs.declared.steps.Step.TheVariants.{Send, Collect, Close, Scribe, Checkpoint, Restart, Reopen, Sweep, Count, Tasks, Load, Pump, Edit, Beat, Summarize, Show, Roam, Say, Lose, Back, Acked}
 use Rattle.fluid_steps.specs.declared.refusal.LineWhy.{LineWhy}
 use Rattle.fluid_voice.specs.declared.states.VoiceState.{VoiceState}
 use Rattle.fluid_voice.specs.declared.states.VoiceState.TheVariants.{Fresh, Reading, Writing, Used}
@@ -51,7 +51,7 @@ use Rattle.fluid_voice.specs.Ends.{Outcome, outcome, is_beyond, entry_end}
 use Rattle.fluid_voice.specs.Ends.Outcome.{ends, clashes}
 use Rattle.fluid_voice.specs.Heard.{acts_of, read_acts}
 use Rattle.fluid_voice.specs.States.{document_name, is_used}
-use Rattle.fluid_transcript.specs.World.{Name, connection, container, used_up, Container, World, Document, document, is_open, ledger_of, farewells, with_entries, Effect, says, grown, changed, does}
+use Rattle.fluid_transcript.specs.World.{Name, connection, container, roamer, used_up, Container, World, Document, document, is_open, ledger_of, farewells, with_entries, Effect, says, grown, changed, does}
 use Rattle.fluid_transcript.specs.Connections.{voice_named, voice_of, connects, hearing, found_by, behind_act, hear}
 use Rattle.fluid_transcript.specs.Documents.{scribed_by, reported, is_found, objects_for, checkpoint_of, checkpointed, stored}
 use Rattle.fluid_transcript.specs.Lines.{full_line, large_line, stored_line}
@@ -178,6 +178,11 @@ own_few limits (Tasks name) is r d = absurd is
 own_few limits (Edit p (Err fault)) is r d = absurd is
 own_few limits (Beat p) is r d = absurd is
 own_few limits (Show p) is r d = absurd is
+own_few limits (Roam q name) is r d = absurd is
+own_few limits (Say q op) is r d = absurd is
+own_few limits (Lose q) is r d = absurd is
+own_few limits (Back q) is r d = absurd is
+own_few limits (Acked q) is r d = absurd is
 
 -- ---- which document it reaches
 
@@ -189,12 +194,14 @@ voice_open w (Some (connection (Reading own next))) sound name is = let same : o
 voice_open w (Some (connection (Writing own id next))) sound name is = let same : own ≡ name = cc in subst (λ n. is_open w n ≡ true) same sound.1.open_is
 voice_open w (Some (connection Used)) sound name is = absurd sound
 voice_open w (Some (container k)) sound name is = absurd (cc)
+voice_open w (Some (roamer k)) sound name is = absurd (cc)
 voice_open w (Some used_up) sound name is = absurd (cc)
 
 container_open : (w : World) (o : Option Name) → IfSome o (IsSoundName w) → (name : List ℕ) → option_and_then (λ (k : Container). Some k.document) (container_in o) ≡ Some name → is_open w name ≡ true
 container_open w None sound name is = absurd (cc)
 container_open w (Some (connection voice)) sound name is = absurd (cc)
 container_open w (Some (container k)) sound name is = let same : k.document ≡ name = cc in subst (λ n. is_open w n ≡ true) same sound.open_is
+container_open w (Some (roamer k)) sound name is = absurd (cc)
 container_open w (Some used_up) sound name is = absurd (cc)
 
 -- a connect reaches the document of the workload, or that of its connection
@@ -242,6 +249,11 @@ about_open w (Tasks other) own sound open_is name is = absurd own
 about_open w (Edit p (Err fault)) own sound open_is name is = absurd own
 about_open w (Beat p) own sound open_is name is = absurd own
 about_open w (Show p) own sound open_is name is = absurd own
+about_open w (Roam r other) own sound open_is name is = absurd own
+about_open w (Say r op) own sound open_is name is = absurd own
+about_open w (Lose r) own sound open_is name is = absurd own
+about_open w (Back r) own sound open_is name is = absurd own
+about_open w (Acked r) own sound open_is name is = absurd own
 
 -- ---- what the documents have behind it
 

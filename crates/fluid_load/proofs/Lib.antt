@@ -1,5 +1,4 @@
 pub mod Parts
-mod Owned
 mod Grown
 mod Passed
 mod Worked

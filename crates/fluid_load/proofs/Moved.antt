@@ -18,7 +18,7 @@ use Rattle.fluid_desk.specs.declared.stop.Stop.{Stop}
 use Rattle.fluid_desk.specs.Stands.{DeskStands}
 use Rattle.fluid_desk.specs.Stopping.{HasRun}
 use Rattle.fluid_containers.specs.Stepping.{MayStand}
-use Rattle.fluid_world.specs.Naming.{AreCounted}
+use Rattle.fluid_world.specs.Naming.{AreBounded}
 use Rattle.fluid_workload.specs.Working.{Workload, work, p, behind_step, stepped}
 use Rattle.fluid_turns.specs.declared.figures.Figures.{Figures}
 use Rattle.fluid_turns.specs.Figuring.{AreFigures}
@@ -40,7 +40,7 @@ may_stand s can good = by (can.may good)
     by : (w : Workload) × WorkStands s w → (w : World) × DeskStands s.lanes w
     by (w, h) = (w.world, h.stands.desk)
 
-pub few_left : (s : AtWork) → HasNumbers 1 s → (n : ℕ) × (AreCounted n s.names × (n < largest))
+pub few_left : (s : AtWork) → HasNumbers 1 s → (n : ℕ) × (AreBounded n s.names × (n < largest))
 few_left s (n, (counted, room)) = (n, (counted, omega (arith, room)))
 
 -- ---- behind it

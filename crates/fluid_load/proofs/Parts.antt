@@ -16,7 +16,8 @@ use Rattle.fluid_desk.specs.declared.stop.StoredFault.TheVariants.{Lane, Delta, 
 use Rattle.fluid_containers.specs.Ending.{RunsLinking}
 use Rattle.fluid_table.specs.Table.{Values}
 use Rattle.fluid_world.specs.declared.named.Named.{Named}
-use Rattle.fluid_world.specs.Naming.{AreCounted}
+use Rattle.fluid_world.specs.Naming.{AreBounded}
+use Rattle.fluid_world.proofs.Stepped.{bounded_more}
 use Rattle.fluid_world.specs.Going.{stops_since}
 use Rattle.fluid_load.specs.Standing.{AtWork, GrowsBy, IsFair, WearsBy, WorkStands, WorkGoes, WorkBegins, ActsOn, HasNumbers, Next, LeadsTo, Works, Opens, CanWork, CanBegin, CanPass}
 
@@ -91,21 +92,21 @@ on_short more a = record { limits = refl; good = refl; counts = omega arith; run
 
 -- nothing was done
 pub on_none : (more : ℕ) (a : AtWork) → ActsOn more a a (Ok tt)
-on_none more a = record { limits = refl; good = refl; counts = omega arith; runs = λ first steps run. run_by first steps (steps + more) a.lanes (omega arith) run; numbers = λ n few q h there. omega (arith, few q h there) }
+on_none more a = record { limits = refl; good = refl; counts = omega arith; runs = λ first steps run. run_by first steps (steps + more) a.lanes (omega arith) run; numbers = λ n few. bounded_more n (n + more) a.names (omega arith) few }
 
 since : (first steps : ℕ) (before mid now : Storing) (o : Opened) (r : Ended) → before.faults ≤ mid.faults → RunsLinking first steps mid now o r → RunsLinking first steps before now o r
 since first steps before mid now o (Ok done) le h = h
 since first steps before mid now o (Err stop) le h = stops_since first steps before mid now o stop le h
 
 abbrev Counts : (more : ℕ) → (old new : Values Named) → Ended → Type 0
-Counts more old new r = OnOk r ((n : ℕ) → AreCounted n old → AreCounted (n + more) new)
+Counts more old new r = OnOk r ((n : ℕ) → AreBounded n old → AreBounded (n + more) new)
 
 counts_more : (m n : ℕ) (old new : Values Named) (r : Ended) → m ≤ n → Counts m old new r → Counts n old new r
-counts_more m n old new (Ok done) le h = λ k few q holder there. omega (arith, le, h k few q holder there)
+counts_more m n old new (Ok done) le h = λ k few. bounded_more (k + m) (k + n) new (omega (arith, le)) (h k few)
 counts_more m n old new (Err stop) le h = tt
 
 counts_then : (m n : ℕ) (old mid new : Values Named) (r : Ended) → Counts m old mid (Ok tt) → Counts n mid new r → Counts (m + n) old new r
-counts_then m n old mid new (Ok done) one other = λ k few q holder there. omega (arith, other (k + m) (one k few) q holder there)
+counts_then m n old mid new (Ok done) one other = λ k few. bounded_more (k + m + n) (k + (m + n)) new (omega arith) (other (k + m) (one k few))
 counts_then m n old mid new (Err stop) one other = tt
 
 pub more_on : (m n : ℕ) (a b : AtWork) (r : Ended) → m ≤ n → ActsOn m a b r → ActsOn n a b r

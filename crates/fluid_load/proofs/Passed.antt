@@ -20,7 +20,7 @@ use Rattle.fluid_world.specs.Naming.{refusal_by}
 use Rattle.fluid_world.specs.Standing.{WorldStands}
 use Rattle.fluid_world.proofs.Behind.{same_refusal}
 use Rattle.fluid_workload.specs.Working.{behind_step}
-use Rattle.fluid_load.proofs.Owned.{step_own}
+use Rattle.fluid_holding.proofs.Owned.{step_own}
 
 module _ (limits : Limits) (w : World) (step : Step) where
   -- by what the world says of it

@@ -25,7 +25,7 @@ use Rattle.fluid_voice.specs.declared.ends.ActEnd.{ActEnd}
 use Rattle.fluid_voice.specs.declared.ends.ActEnd.TheVariants.{Entered, FullNow}
 use Rattle.fluid_voice.specs.Ends.{entry_end}
 use Rattle.fluid_voice.specs.States.{next_number}
-use Rattle.fluid_transcript.specs.World.{Name, connection, container, used_up, Document, World, document, is_open, ledger_of, grown}
+use Rattle.fluid_transcript.specs.World.{Name, connection, container, roamer, used_up, Document, World, document, is_open, ledger_of, grown}
 use Rattle.fluid_transcript.specs.Containers.{is_taken}
 use Rattle.fluid_transcript.specs.Connections.{voice_named, voice_of}
 use Rattle.fluid_transcript.specs.Sound.{ledger_in}
@@ -41,10 +41,10 @@ use Rattle.fluid_holding.specs.Laws.{OthersLeave}
 use Rattle.fluid_containers.specs.Ending.{RunsLinking}
 use Rattle.fluid_world.specs.declared.named.Named.{Named}
 use Rattle.fluid_world.specs.declared.named.Named.TheVariants as a
-use Rattle.fluid_world.specs.Naming.{AreCounted, connection_refusal}
+use Rattle.fluid_world.specs.Naming.{AreBounded, connection_refusal}
 use Rattle.fluid_world.specs.Standing.{IsNamed, WorldStands}
 use Rattle.fluid_world.proofs.Linked.{on_links}
-use Rattle.fluid_world.proofs.Stepped.{voice_there}
+use Rattle.fluid_world.proofs.Stepped.{bounded_more, voice_there}
 use Rattle.fluid_workload.specs.Working.{Workload, Deed, submits, work, named, id_at, work_ledger, behind_entry, behind_deed, behind_saying, takes}
 use Rattle.fluid_turns.specs.Entering.{IsVerdictOn, EntersDesk}
 use Rattle.fluid_turns.specs.Leaving.{LeavesAll}
@@ -76,10 +76,17 @@ no_writer w (Some (a.Connection v)) m is refused = absurd (cc)
 no_writer w (Some (a.Container h)) None is refused = absurd is
 no_writer w (Some (a.Container h)) (Some (connection s)) is refused = absurd is
 no_writer w (Some (a.Container h)) (Some (container k)) is refused = refl
+no_writer w (Some (a.Container h)) (Some (roamer k)) is refused = absurd is
 no_writer w (Some (a.Container h)) (Some used_up) is refused = absurd is
+no_writer w (Some (a.Roamer h)) None is refused = absurd is
+no_writer w (Some (a.Roamer h)) (Some (connection s)) is refused = absurd is
+no_writer w (Some (a.Roamer h)) (Some (container k)) is refused = absurd is
+no_writer w (Some (a.Roamer h)) (Some (roamer k)) is refused = refl
+no_writer w (Some (a.Roamer h)) (Some used_up) is refused = absurd is
 no_writer w (Some a.Used) None is refused = absurd is
 no_writer w (Some a.Used) (Some (connection s)) is refused = absurd is
 no_writer w (Some a.Used) (Some (container k)) is refused = absurd is
+no_writer w (Some a.Used) (Some (roamer k)) is refused = absurd is
 no_writer w (Some a.Used) (Some used_up) is refused = refl
 
 pub no_writer_named : (w : World) (client : ℕ) (names : Values Named) (name : List ℕ) → name ≡ named client → is_some (connection_refusal (get names name)) ≡ true
@@ -209,8 +216,8 @@ module _ (raw : Raw) (old mid : AtWork) (rest : mid ≡ record old { lanes = mid
     numbers = counted r;
   }
     where
-      counted : (r : Ended) → OnOk r ((n : ℕ) → AreCounted n old.names → AreCounted (n + 1) mid.names)
-      counted (Ok done) = λ n few q h there. omega (arith, few q h (ap (λ (s : AtWork). get s.names q) (sym rest) ∙ there))
+      counted : (r : Ended) → OnOk r ((n : ℕ) → AreBounded n old.names → AreBounded (n + 1) mid.names)
+      counted (Ok done) = λ n few. bounded_more n (n + 1) mid.names (omega arith) (λ q named there. few q named (ap (λ (s : AtWork). get s.names q) (sym rest) ∙ there))
       counted (Err stop) = tt
 
   module _ (others : OthersLeave) (w : Workload) (client : ℕ) (id : List ℕ) (s : Submission) (goes : WorkGoes old w) (writes : id_at (voice_of w.world (named client)) ≡ Some id)
@@ -328,8 +335,8 @@ module _ (others : OthersLeave) (document : List ℕ) (writer : Writer) (s : Sub
       by first steps (Ok done) run short = run
       by first steps (Err stop) run short = subst (λ (e : Ended). RunsLinking first steps old.store new.store new.lanes e) (sym short) (record { shelves = run.shelves; few = run.few; ends = tt })
 
-      counted : (r : Ended) → OnOk r ((n : ℕ) → AreCounted n old.names → AreCounted (n + 1) new.names)
-      counted (Ok done) = λ n few q h there. on.numbers n few q h (ap (λ (t : Values Named). get t q) (sym same.1.1.0) ∙ there)
+      counted : (r : Ended) → OnOk r ((n : ℕ) → AreBounded n old.names → AreBounded (n + 1) new.names)
+      counted (Ok done) = λ n few q named there. on.numbers n few q named (ap (λ (t : Values Named). get t q) (sym same.1.1.0) ∙ there)
       counted (Err stop) = tt
 
   pub noted_enters : (v : Verdict) (new : AtWork) (r : Ended) → ((first steps : ℕ) → HasRun first steps old.lanes → RunsOn {A = Option Verdict} first (steps + 1) mid.lanes (Ok (Some v))) → Entering document raw old mid (Ok (Some v))

@@ -9,7 +9,7 @@ use Rattle.fluid_types.specs.declared.entries.Submission.{Submission}
 use Rattle.fluid_rules.specs.declared.limits.Limits.{Limits}
 use Rattle.fluid_lanes.specs.Opened.{Opened}
 use Rattle.fluid_loader.specs.Laws.{IsBased}
-use Rattle.fluid_transcript.specs.World.{Container, Name, connection, container, used_up, World, document, is_open}
+use Rattle.fluid_transcript.specs.World.{Container, Roamer as ARoamer, Name, connection, container, roamer, used_up, World, document, is_open}
 use Rattle.fluid_transcript.specs.Sound.{ledger_in, IsSoundName}
 use Rattle.fluid_transcript.specs.Connections.{voice_of}
 use Rattle.fluid_transcript.proofs.Fitting.{length_ledger}
@@ -19,10 +19,12 @@ use Rattle.fluid_holding.specs.Holding.{is_made_by, IsContainerOf}
 use Rattle.fluid_holding.specs.Laws.{OthersLeave}
 use Rattle.fluid_containers.specs.Holders.{IsHolderOf}
 use Rattle.fluid_containers.specs.declared.holder.Holder.{Holder}
+use Rattle.fluid_roamers.specs.Roaming.{IsRoamerOf}
+use Rattle.fluid_roamers.specs.declared.roamer.Roamer.{Roamer}
 use Rattle.fluid_world.specs.declared.named.Named.{Named}
 use Rattle.fluid_world.specs.declared.named.Named.TheVariants as a
 use Rattle.fluid_world.specs.Standing.{IsNamed, WorldStands}
-use Rattle.fluid_world.proofs.Behind.{few_of}
+use Rattle.fluid_world.proofs.Behind.{few_of, roamer_beside}
 use Rattle.fluid_workload.specs.Working.{named, id_at, behind_entry}
 use Rattle.fluid_turns.specs.Leaving.{LeavesAll, SubmissionsLeaveAll}
 
@@ -45,20 +47,33 @@ module _ (w new : World) (left : LeavesAll w new) (others : OthersLeave) (o : Op
         based = subst (λ held. IsBased held h.container) (sym left.store) is.based;
       }
 
+  roamer_stays : (q : List ℕ) (h : Roamer) (k : ARoamer) → get w.names q ≡ Some (roamer k) → IsRoamerOf w h k → IsRoamerOf new h k
+  roamer_stays q h k there is =
+      let was = (subst (λ n. IfSome n (IsSoundName w)) there (sound_names q)).client in
+      roamer_beside others w new h k was ((left.names q).roamer k there (few_of o new k.client.document desk (open_stays k.client.document was.open_is))) is
+
   name_stays : (q : List ℕ) (n : Option Named) (m : Option Name) → get w.names q ≡ m → IsNamed w n m → IsNamed new n m
   name_stays q None None there is = is
   name_stays q None (Some m) there is = absurd is
   name_stays q (Some (a.Connection v)) None there is = absurd is
   name_stays q (Some (a.Connection v)) (Some (connection s)) there is = is
   name_stays q (Some (a.Connection v)) (Some (container k)) there is = absurd is
+  name_stays q (Some (a.Connection v)) (Some (roamer k)) there is = absurd is
   name_stays q (Some (a.Connection v)) (Some used_up) there is = absurd is
   name_stays q (Some (a.Container h)) None there is = absurd is
   name_stays q (Some (a.Container h)) (Some (connection s)) there is = absurd is
   name_stays q (Some (a.Container h)) (Some (container k)) there is = holder_stays q h k there is
+  name_stays q (Some (a.Container h)) (Some (roamer k)) there is = absurd is
   name_stays q (Some (a.Container h)) (Some used_up) there is = absurd is
+  name_stays q (Some (a.Roamer h)) None there is = absurd is
+  name_stays q (Some (a.Roamer h)) (Some (connection s)) there is = absurd is
+  name_stays q (Some (a.Roamer h)) (Some (container k)) there is = absurd is
+  name_stays q (Some (a.Roamer h)) (Some (roamer k)) there is = roamer_stays q h k there is
+  name_stays q (Some (a.Roamer h)) (Some used_up) there is = absurd is
   name_stays q (Some a.Used) None there is = absurd is
   name_stays q (Some a.Used) (Some (connection s)) there is = absurd is
   name_stays q (Some a.Used) (Some (container k)) there is = absurd is
+  name_stays q (Some a.Used) (Some (roamer k)) there is = absurd is
   name_stays q (Some a.Used) (Some used_up) there is = is
 
 -- open documents, names and store stand for the world behind a submission

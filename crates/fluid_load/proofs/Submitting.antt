@@ -36,7 +36,7 @@ use Rattle.fluid_steps.specs.declared.steps.Step.TheVariants as step
 use Rattle.fluid_voice.specs.declared.ends.ActEnd.{ActEnd}
 use Rattle.fluid_voice.specs.declared.ends.ActEnd.TheVariants as end
 use Rattle.fluid_voice.specs.Ends.{entry_end}
-use Rattle.fluid_transcript.specs.World.{Container, Name, connection, container, used_up, World, Told, Document, document, is_open, ledger_of, Effect, grown, changed, does}
+use Rattle.fluid_transcript.specs.World.{Container, Name, connection, container, roamer, used_up, World, Told, Document, document, is_open, ledger_of, Effect, grown, changed, does}
 use Rattle.fluid_loader.specs.Container.{AContainer}
 use Rattle.fluid_loader.specs.Submitting.{summarize_tree}
 use Rattle.fluid_transcript.specs.Containers.{id_of, last, channels, head, app_id, submission_of, entry_of, submitted_as, submitting, edited, edited_by, summarized, summarized_by, visible}
@@ -191,9 +191,11 @@ module _ (submits : SubmitsAsDefined) (limits : Limits) (w : World) (lanes : Ope
       by_name (Some (a.Container h)) (Some (container k)) given there holder sound = with_one k h there holder sound
       by_name n None given there holder sound = without (ap container_in there)
       by_name n (Some (connection voice)) given there holder sound = without (ap container_in there)
+      by_name n (Some (roamer k)) given there holder sound = without (ap container_in there)
       by_name n (Some used_up) given there holder sound = without (ap container_in there)
       by_name None (Some (container k)) given there holder sound = absurd holder
       by_name (Some (a.Connection v)) (Some (container k)) given there holder sound = absurd holder
+      by_name (Some (a.Roamer h)) (Some (container k)) given there holder sound = absurd holder
       by_name (Some a.Used) (Some (container k)) given there holder sound = absurd holder
 
       by : (o : Option LineWhy) → GoesSubmitting (ledger_in w work) (ledger_in (if is_some o then w else (done limits w step).world) work)

@@ -12,7 +12,7 @@ use Rattle.fluid_edits.specs.Replay.{Channel, Channels, no_channels}
 use Rattle.fluid_runtime.specs.AppTree.{app_tree, channel_node}
 use Rattle.fluid_store.specs.Listed.{own_bytes}
 use Rattle.fluid_alike.proofs.Held.{id_is}
-use Rattle.fluid_transcript.specs.World.{Name, connection, container, used_up, Document, World, document, ledger_of}
+use Rattle.fluid_transcript.specs.World.{Name, connection, container, roamer, used_up, Document, World, document, ledger_of}
 use Rattle.fluid_transcript.specs.Containers.{app_id}
 use Rattle.fluid_transcript.specs.Transcript.{written}
 use Rattle.fluid_transcript.proofs.Fitting.{length_ledger}
@@ -41,17 +41,25 @@ none_there w None (Some m) is refused = absurd is
 none_there w (Some (a.Connection v)) None is refused = absurd is
 none_there w (Some (a.Connection v)) (Some (connection s)) is refused = refl
 none_there w (Some (a.Connection v)) (Some (container k)) is refused = absurd is
+none_there w (Some (a.Connection v)) (Some (roamer k)) is refused = absurd is
 none_there w (Some (a.Connection v)) (Some used_up) is refused = absurd is
 none_there w (Some (a.Container h)) m is refused = absurd (cc)
+none_there w (Some (a.Roamer h)) None is refused = absurd is
+none_there w (Some (a.Roamer h)) (Some (connection s)) is refused = absurd is
+none_there w (Some (a.Roamer h)) (Some (container k)) is refused = absurd is
+none_there w (Some (a.Roamer h)) (Some (roamer k)) is refused = refl
+none_there w (Some (a.Roamer h)) (Some used_up) is refused = absurd is
 none_there w (Some a.Used) None is refused = absurd is
 none_there w (Some a.Used) (Some (connection s)) is refused = absurd is
 none_there w (Some a.Used) (Some (container k)) is refused = absurd is
+none_there w (Some a.Used) (Some (roamer k)) is refused = absurd is
 none_there w (Some a.Used) (Some used_up) is refused = refl
 
 its_channels : (w : World) (h : Holder) (m : Option Name) → IsNamed w (Some (a.Container h)) m → h.container.channels ≡ channels_of w m
 its_channels w h None is = absurd is
 its_channels w h (Some (connection s)) is = absurd is
 its_channels w h (Some (container k)) is = is.container.channels_are
+its_channels w h (Some (roamer k)) is = absurd is
 its_channels w h (Some used_up) is = absurd is
 
 no_items : {X : Type 0} (l : List X) → length l ≡ 0 → l ≡ []

@@ -29,7 +29,6 @@ use Rattle.fluid_containers.specs.Ending.{RunsLinking}
 use Rattle.fluid_world.specs.declared.ends.ScriptEnd.{ScriptEnd}
 use Rattle.fluid_world.specs.declared.ends.ScriptEnd.TheVariants as end
 use Rattle.fluid_world.specs.declared.named.Named.{Named}
-use Rattle.fluid_world.specs.declared.named.Named.TheVariants as a
 use Rattle.fluid_world.specs.Ending.{end_for, Outside, HasCause, IsDeskOf}
 use Rattle.fluid_load.proofs.Desks.{world_at_first, moment_at_first, comes_back, stop_cause}
 use Rattle.fluid_workload.specs.Working.{Workload, begun, work, p, behind_acts}
@@ -110,7 +109,7 @@ can_at_first : (shelves : Shelving) (limits : Limits) (objects : Storing) (numbe
     → CanBegin (5 * length (acts number clients ops)) (first_work shelves limits objects (is_some told))
 can_at_first shelves limits objects number clients ops c o told is = record {
   may = may told is;
-  few = (0, (λ q h there. absurd (nothing_there Named empty q (a.Container h) (get-empty byte_order q) there), omega (arith, c, o, acts_are number clients ops)));
+  few = (0, (λ q named there. absurd (nothing_there Named empty q named (get-empty byte_order q) there), omega (arith, c, o, acts_are number clients ops)));
 }
   where
     may : (told : Option World) → IfSome told (IsNewDeskOf shelves objects) → MayBegin (first_work shelves limits objects (is_some told))

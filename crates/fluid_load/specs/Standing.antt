@@ -20,7 +20,7 @@ use Rattle.fluid_desk.specs.Stopping.{IsHonest, MayStop, HasRun}
 use Rattle.fluid_containers.specs.Ending.{RunsLinking}
 use Rattle.fluid_world.specs.declared.named.Named.{Named}
 use Rattle.fluid_world.specs.contracts.named.Named as named
-use Rattle.fluid_world.specs.Naming.{AreCounted}
+use Rattle.fluid_world.specs.Naming.{AreBounded}
 use Rattle.fluid_world.specs.Standing.{WorldStands}
 use Rattle.fluid_rules.specs.declared.limits.Limits.{Limits}
 use Rattle.fluid_turns.specs.declared.figures.Figures.{Figures}
@@ -121,11 +121,11 @@ pub record ActsOn (more : ℕ) (a b : AtWork) (result : Result (Unit {0}) Stop) 
   pub good : b.good ≡ a.good
   pub counts : a.store.faults ≤ b.store.faults
   pub runs : (first steps : ℕ) → HasRun first steps a.lanes → RunsLinking first (steps + more) a.store b.store b.lanes result
-  pub numbers : OnOk result ((n : ℕ) → AreCounted n a.names → AreCounted (n + more) b.names)
+  pub numbers : OnOk result ((n : ℕ) → AreBounded n a.names → AreBounded (n + more) b.names)
 
 -- so often may they submit still
 abbrev pub HasNumbers : (more : ℕ) → AtWork → Type 0
-HasNumbers more s = (n : ℕ) × (AreCounted n s.names × (n + more ≤ largest))
+HasNumbers more s = (n : ℕ) × (AreBounded n s.names × (n + more ≤ largest))
 
 -- ---- a part of a workload
 

@@ -6,7 +6,7 @@ ghost use Rattle.fluid_desk.specs.Stopping.{HasRun};
 ghost use Rattle.fluid_holding.specs.Holding.{HoldsOwn};
 ghost use Rattle.fluid_containers.specs.Ending.{RunsLinking};
 ghost use Rattle.fluid_containers.specs.Stepping.{MayStand};
-ghost use Rattle.fluid_world.specs.Naming.{AreCounted, IsShortStep};
+ghost use Rattle.fluid_world.specs.Naming.{AreBounded, IsShortStep};
 ghost use Rattle.fluid_world.specs.Standing.{WorldStands};
 ghost use Rattle.fluid_workload.specs.Working.{behind_step};
 ghost use Rattle.fluid_load.specs.Standing.{PassTakes};
@@ -35,13 +35,13 @@ where
     ghost good: { Bool }
     requires stands { MayStand good lanes.old }
     requires short { IsShortStep step }
-    requires few { (n : ℕ) × (AreCounted n names.old.table.values × (n < largest)) }
+    requires few { (n : ℕ) × (AreBounded n names.old.table.values × (n < largest)) }
     ensures does { (w : World) → good ≡ true → WorldStands lanes.old objects.old names.old.table.values w → HoldsOwn w.store → w.moment ≡ 0 →
         PassTakes (behind_step lanes.old.limits w step) lanes.new objects.new names.new.table.values result }
     ensures runs { (first steps : ℕ) → HasRun first steps lanes.old → RunsLinking first (steps + 1) objects.old objects.new lanes.new result }
     ensures limits { lanes.new.limits ≡ lanes.old.limits }
     ensures counts { objects.old.faults ≤ objects.new.faults }
-    ensures numbers { OnOk result ((n : ℕ) → AreCounted n names.old.table.values → AreCounted (n + 1) names.new.table.values) }
+    ensures numbers { OnOk result ((n : ℕ) → AreBounded n names.old.table.values → AreBounded (n + 1) names.new.table.values) }
 {
     match refusal(names, &step) {
         Some(_) => Ok(()),

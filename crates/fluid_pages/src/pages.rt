@@ -77,6 +77,12 @@ usage: fluidd script
   beat P            P says by a noop where it is
   summarize P       P uploads its channels, and proposes them as a summary
   show P            what P shows
+  roam R D          roamer R, one user's edits over many clients, joins D
+  say R OP          R edits a channel, and sends the edit unless it is lost
+  lose R            R's connection is lost
+  back R            a lost R comes back as a new client, and sends again what
+                    doesn't stand
+  acked R           how many of R's edits stand
   scribe D          the scribe answers the pending summary of D
   checkpoint D      a checkpoint of D is stored
   restart D K       D begins again from its stored checkpoint K

@@ -35,6 +35,10 @@ one_of_each = record {
   beat = refl;
   summarize = refl;
   show = refl;
+  roam = refl;
+  lose = refl;
+  back = refl;
+  acked = refl;
 }
 
 pub blanks : Blanks
@@ -56,8 +60,9 @@ outside = record {
   long_name = refl;
   no_document = refl;
   no_pick = refl;
+  no_document_to_roam = refl;
 }
 
 pub edits : Edits
 unfolding is_name is_script_name items members value lex punctuate content after_number word number_of scan reaches answer_within edit_in
-edits = record { attach = refl; set = refl; delete = refl; clear = refl; increment = refl; not_json = refl; another_form = refl; text_of_an_op = refl; name_before_fault = refl }
+edits = record { attach = refl; set = refl; delete = refl; clear = refl; increment = refl; say = refl; say_nothing = refl; not_json = refl; another_form = refl; text_of_an_op = refl; name_before_fault = refl }

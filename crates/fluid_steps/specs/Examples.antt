@@ -4,7 +4,7 @@ use Rattle.fluid_json.specs.Tree.{whole}
 use Rattle.fluid_json.specs.declared.fault.JsonFault.TheVariants.{NotJson}
 use Rattle.fluid_edits.specs.declared.edit.Edit.TheVariants.{Attach, Set, Delete, Clear, Increment}
 use Rattle.fluid_edits.specs.declared.edit.ChannelKind.TheVariants.{Map}
-use Rattle.fluid_steps.specs.declared.steps.Step.TheVariants.{Send, Collect, Close, Scribe, Checkpoint, Restart, Reopen, Sweep, Count, Tasks, Load, Pump, Edit, Beat, Summarize, Show}
+use Rattle.fluid_steps.specs.declared.steps.Step.TheVariants.{Send, Collect, Close, Scribe, Checkpoint, Restart, Reopen, Sweep, Count, Tasks, Load, Pump, Edit, Beat, Summarize, Show, Roam, Say, Lose, Back, Acked}
 use Rattle.fluid_loader.specs.declared.link.Pick.TheVariants as pick
 use Rattle.fluid_steps.specs.declared.refusal.LineWhy.TheVariants.{UnknownStep, BadStep}
 use Rattle.fluid_steps.specs.Grammar.{step_spelled}
@@ -30,6 +30,10 @@ pub record OneOfEach : Type 0 where
   pub beat : step_spelled (codes "beat p") ≡ Ok (Beat (codes "p"))
   pub summarize : step_spelled (codes "summarize p") ≡ Ok (Summarize (codes "p"))
   pub show : step_spelled (codes "show p") ≡ Ok (Show (codes "p"))
+  pub roam : step_spelled (codes "roam r e") ≡ Ok (Roam (codes "r") (codes "e"))
+  pub lose : step_spelled (codes "lose r") ≡ Ok (Lose (codes "r"))
+  pub back : step_spelled (codes "back r") ≡ Ok (Back (codes "r"))
+  pub acked : step_spelled (codes "acked r") ≡ Ok (Acked (codes "r"))
 
 -- a blank is a space or a tab. A leading, a doubled and a trailing one make an empty word; what runs to the line's end may be empty
 -- behind its blank
@@ -56,6 +60,7 @@ pub record Outside : Type 0 where
   pub long_name : step_spelled (codes "pump abcdefghijklmnopq") ≡ Err BadStep
   pub no_document : step_spelled (codes "count d.1") ≡ Err BadStep
   pub no_pick : step_spelled (codes "load p d last") ≡ Err BadStep
+  pub no_document_to_roam : step_spelled (codes "roam r") ≡ Err BadStep
 
 -- the edit of an op's contents, whatever their spelling; any whole amount has its form
 pub record Edits : Type 0 where
@@ -69,6 +74,8 @@ pub record Edits : Type 0 where
   pub increment :
       step_spelled (codes "edit p {\"address\":\"n\",\"contents\":{\"incrementAmount\":9007199254740992,\"type\":\"increment\"}}")
       ≡ Ok (Edit (codes "p") (Ok (Increment (codes "n") (pos 9007199254740992))))
+  pub say : step_spelled (codes "say r {\"address\":\"m\",\"contents\":{\"type\":\"clear\"}}") ≡ Ok (Say (codes "r") (Ok (Clear (codes "m"))))
+  pub say_nothing : step_spelled (codes "say r {}") ≡ Err BadStep
   pub not_json : step_spelled (codes "edit p ") ≡ Ok (Edit (codes "p") (Err NotJson))
   pub another_form : step_spelled (codes "edit p {}") ≡ Err BadStep
   pub text_of_an_op : step_spelled (codes "edit p \"{}\"") ≡ Err BadStep

@@ -1,5 +1,5 @@
 -- The grammar of steps: a line is words with one blank between them, a space or a tab. Names, numbers and picks have no blank; the
--- last part of `send` and `edit` runs to the line's end, and may be empty behind its blank.
+-- last part of `send`, `edit` and `say` runs to the line's end, and may be empty behind its blank.
 use Rattle.std.specs.Prelude.{ℕ, ◌==◌, nat_lt, List, length, Bool, ◌||◌, Option, Some, None, option_map, option_and_then, find, bytes_eq, codes, Result, Err, if◌then◌else◌}
 use Rattle.std.specs.List.{position_or_len, before_first, after_first}
 use Rattle.std.specs.Option.{ok_or}
@@ -37,7 +37,7 @@ first_word text = before_first is_blank text
 abbrev pub cut : List ℕ → Option (List ℕ × List ℕ)
 cut text = if nat_lt (position_or_len is_blank text) (length text) then Some (before_first is_blank text, after_first is_blank text) else None
 
--- the name of a connection or a container
+-- the name of a connection, a container or a roamer
 abbrev pub script_name : List ℕ → Option (List ℕ)
 script_name text = if is_script_name text then Some text else None
 
@@ -98,6 +98,22 @@ sweep rest = do
   silence ← number parts.1
   Some (step.Sweep document silence)
 
+-- R D
+abbrev pub roam : List ℕ → Option Step
+roam rest = do
+  parts ← cut rest
+  name ← script_name parts.0
+  document ← document_name parts.1
+  Some (step.Roam name document)
+
+-- R OP
+abbrev pub say : List ℕ → Option Step
+say rest = do
+  parts ← cut rest
+  name ← script_name parts.0
+  op ← op_spelled parts.1
+  Some (step.Say name op)
+
 -- the step of this word, by what stands behind the word's blank
 abbrev pub form : StepWord → List ℕ → Option Step
 form word.Send rest = send rest
@@ -116,6 +132,11 @@ form word.Edit rest = edit rest
 form word.Beat rest = option_map step.Beat (script_name rest)
 form word.Summarize rest = option_map step.Summarize (script_name rest)
 form word.Show rest = option_map step.Show (script_name rest)
+form word.Roam rest = roam rest
+form word.Say rest = say rest
+form word.Lose rest = option_map step.Lose (script_name rest)
+form word.Back rest = option_map step.Back (script_name rest)
+form word.Acked rest = option_map step.Acked (script_name rest)
 
 -- ---- a whole line
 

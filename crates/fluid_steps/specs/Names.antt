@@ -1,4 +1,4 @@
--- The names of a script's connections and containers: 1 to 16 bytes of `a-z` and `0-9`.
+-- The names of a script's connections, containers and roamers: 1 to 16 bytes of `a-z` and `0-9`.
 use Rattle.std.specs.Prelude.{ℕ, Bool, ◌&&◌, ◌||◌, List, length, Result, Ok, Err, if◌then◌else◌, IsTrue}
 use Rattle.std.specs.List.{list_all}
 use Rattle.fluid_types.specs.Names.{is_within}

@@ -1,7 +1,7 @@
 -- The words with which steps begin.
 use Rattle.std.specs.Prelude.{ℕ, List, [], ◌∷◌, codes}
 use Rattle.fluid_steps.specs.declared.steps.StepWord.{StepWord}
-use Rattle.fluid_steps.specs.declared.steps.StepWord.TheVariants.{Send, Collect, Close, Scribe, Checkpoint, Restart, Reopen, Sweep, Count, Tasks, Load, Pump, Edit, Beat, Summarize, Show}
+use Rattle.fluid_steps.specs.declared.steps.StepWord.TheVariants.{Send, Collect, Close, Scribe, Checkpoint, Restart, Reopen, Sweep, Count, Tasks, Load, Pump, Edit, Beat, Summarize, Show, Roam, Say, Lose, Back, Acked}
 
 abbrev pub step_word : StepWord → List ℕ
 step_word Send = codes "send"
@@ -20,7 +20,13 @@ step_word Edit = codes "edit"
 step_word Beat = codes "beat"
 step_word Summarize = codes "summarize"
 step_word Show = codes "show"
+step_word Roam = codes "roam"
+step_word Say = codes "say"
+step_word Lose = codes "lose"
+step_word Back = codes "back"
+step_word Acked = codes "acked"
 
 abbrev pub step_words : List StepWord
 step_words =
-    Send ∷ Collect ∷ Close ∷ Scribe ∷ Checkpoint ∷ Restart ∷ Reopen ∷ Sweep ∷ Count ∷ Tasks ∷ Load ∷ Pump ∷ Edit ∷ Beat ∷ Summarize ∷ Show ∷ []
+    Send ∷ Collect ∷ Close ∷ Scribe ∷ Checkpoint ∷ Restart ∷ Reopen ∷ Sweep ∷ Count ∷ Tasks ∷ Load ∷ Pump ∷ Edit ∷ Beat ∷ Summarize ∷ Show
+    ∷ Roam ∷ Say ∷ Lose ∷ Back ∷ Acked ∷ []

@@ -1,4 +1,4 @@
-//! The names of a script's connections and containers, which share one space.
+//! The names of a script's connections, containers and roamers, which share one space.
 ghost use Rattle.std.specs.Prelude.{◌≡◌, IfOk};
 ghost use Rattle.std.specs.List.{list_all};
 ghost use Rattle.fluid_json.specs.Unless.{IsUnless};
@@ -12,7 +12,7 @@ use std::marker::Model;
 /// The most bytes that a name has.
 const LONGEST: usize = 16;
 
-/// The name of a connection or a container: 1 to 16 bytes of `a-z` and `0-9`. Contracts see its bytes.
+/// The name of a connection, a container or a roamer: 1 to 16 bytes of `a-z` and `0-9`. Contracts see its bytes.
 #[derive(Drop)]
 pub struct ScriptName {
     text: String,

@@ -117,6 +117,11 @@ fn read_form(alloc: Global, word: StepWord, rest: &str) -> Result<Option<Step>, 
         StepWord::Beat => Ok(script_name(alloc, rest)?.map(Step::Beat)),
         StepWord::Summarize => Ok(script_name(alloc, rest)?.map(Step::Summarize)),
         StepWord::Show => Ok(script_name(alloc, rest)?.map(Step::Show)),
+        StepWord::Roam => roam(alloc, rest),
+        StepWord::Say => say(alloc, rest),
+        StepWord::Lose => Ok(script_name(alloc, rest)?.map(Step::Lose)),
+        StepWord::Back => Ok(script_name(alloc, rest)?.map(Step::Back)),
+        StepWord::Acked => Ok(script_name(alloc, rest)?.map(Step::Acked)),
         StepWord::Scribe => Ok(document_name(alloc, rest)?.map(Step::Scribe)),
         StepWord::Checkpoint => Ok(document_name(alloc, rest)?.map(Step::Checkpoint)),
         StepWord::Reopen => Ok(document_name(alloc, rest)?.map(Step::Reopen)),
@@ -207,4 +212,36 @@ fn sweep(alloc: Global, rest: &str) -> Result<Option<Step>, NoMemory>
         return Ok(None);
     };
     Ok(Some(Step::Sweep(document, silence)))
+}
+
+// R D
+fn roam(alloc: Global, rest: &str) -> Result<Option<Step>, NoMemory>
+    ensures { IfOk result (λ step. step ≡ grammar.roam rest.now) }
+{
+    let Some((first, second)) = cut(rest) else {
+        return Ok(None);
+    };
+    let Some(name) = script_name(alloc, first)? else {
+        return Ok(None);
+    };
+    let Some(document) = document_name(alloc, second)? else {
+        return Ok(None);
+    };
+    Ok(Some(Step::Roam(name, document)))
+}
+
+// R OP
+fn say(alloc: Global, rest: &str) -> Result<Option<Step>, NoMemory>
+    ensures { IfOk result (λ step. step ≡ grammar.say rest.now) }
+{
+    let Some((word, text)) = cut(rest) else {
+        return Ok(None);
+    };
+    let Some(name) = script_name(alloc, word)? else {
+        return Ok(None);
+    };
+    let Some(op) = read_op(alloc, text)? else {
+        return Ok(None);
+    };
+    Ok(Some(Step::Say(name, op)))
 }

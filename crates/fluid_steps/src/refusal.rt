@@ -13,7 +13,7 @@ pub enum LineWhy {
     BadStep,
     /// A new name was wanted, and this one was given before.
     NameInUse,
-    /// A connection or a container that may still be used was wanted.
+    /// A connection, a container or a roamer that may still be used was wanted; or a roamer whose connection is lost, or isn't.
     UnknownName,
     /// The text of an `edit` isn't JSON of an op's contents.
     Json(JsonFault),

@@ -39,8 +39,18 @@ pub enum Step {
     Beat(ScriptName),
     /// A container uploads its channels and proposes them as a summary.
     Summarize(ScriptName),
-    /// What a container shows.
+    /// What a container or a roamer shows.
     Show(ScriptName),
+    /// A roamer of a new name joins a document.
+    Roam(ScriptName, DocName),
+    /// A roamer's user edits a channel. The fault is as of `Edit`.
+    Say(ScriptName, Result<Edit, JsonFault>),
+    /// A roamer's connection is lost.
+    Lose(ScriptName),
+    /// A roamer whose connection was lost comes back.
+    Back(ScriptName),
+    /// A roamer takes in the messages up to the last, and tells how many of its edits stand.
+    Acked(ScriptName),
 }
 
 /// The words with which steps begin.
@@ -62,10 +72,15 @@ pub enum StepWord {
     Beat,
     Summarize,
     Show,
+    Roam,
+    Say,
+    Lose,
+    Back,
+    Acked,
 }
 
 impl StepWord {
-    pub const ALL: [StepWord; 16] = [
+    pub const ALL: [StepWord; 21] = [
         StepWord::Send,
         StepWord::Collect,
         StepWord::Close,
@@ -82,6 +97,11 @@ impl StepWord {
         StepWord::Beat,
         StepWord::Summarize,
         StepWord::Show,
+        StepWord::Roam,
+        StepWord::Say,
+        StepWord::Lose,
+        StepWord::Back,
+        StepWord::Acked,
     ];
 }
 
@@ -108,6 +128,11 @@ impl Word for StepWord {
             StepWord::Beat => "beat",
             StepWord::Summarize => "summarize",
             StepWord::Show => "show",
+            StepWord::Roam => "roam",
+            StepWord::Say => "say",
+            StepWord::Lose => "lose",
+            StepWord::Back => "back",
+            StepWord::Acked => "acked",
         }
     }
 }

@@ -46,7 +46,7 @@ use Rattle.fluid_voice.specs.Replies.{connect_state, state_after}
 use Rattle.fluid_voice.specs.Ends.{Outcome, outcome, held_behind, held_with, is_beyond, join_of, joined_by, connect_end}
 use Rattle.fluid_voice.specs.Ends.Outcome.{ends, clashes}
 use Rattle.fluid_voice.proofs.Staying.{connected_stay}
-use Rattle.fluid_transcript.specs.World.{Document, Name, connection, container, used_up, World, document, is_open, Effect, says, grown, changed}
+use Rattle.fluid_transcript.specs.World.{Document, Name, connection, container, roamer, used_up, World, document, is_open, Effect, says, grown, changed}
 use Rattle.fluid_transcript.specs.Connections.{Hearing, found_by, behind_act, hear_act, hear, voice_named, voice_of, effect_of, sent, sent_to, connects}
 use Rattle.fluid_transcript.specs.Steps.{refusal_to_send}
 use Rattle.fluid_transcript.specs.Sound.{GoesOnAs, client_in, ledger_in, IsFed, IsSoundVoice, IsSoundName, IsSound}
@@ -134,6 +134,7 @@ sends_on : (o : Option Name) (v : VoiceState) → refusal_to_send o ≡ None →
 sends_on None v h = tt
 sends_on (Some (connection old)) v h = tt
 sends_on (Some (container k)) v h = absurd (cc)
+sends_on (Some (roamer k)) v h = absurd (cc)
 sends_on (Some used_up) v h = absurd (cc)
 
 -- a connection that brings no client of its own
@@ -340,4 +341,5 @@ send_fits limits w about d c text sound accepted ready = by (get w.names c) refl
         from (Writing name id next) (ap voice_named is) (λ _. connected_sends limits w about d c text (Writing name id next) sound is refl)
     by (Some (connection Used)) is ok = absurd (subst (λ o. IfSome o (IsSoundName w)) is (sound.names c))
     by (Some (container k)) is ok = absurd (cc)
+    by (Some (roamer k)) is ok = absurd (cc)
     by (Some used_up) is ok = absurd (cc)

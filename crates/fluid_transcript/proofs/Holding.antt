@@ -37,7 +37,7 @@ use Rattle.fluid_voice.specs.declared.states.VoiceState.{VoiceState}
 use Rattle.fluid_voice.specs.declared.states.VoiceState.TheVariants.{Fresh, Reading, Writing, Used}
 use Rattle.fluid_voice.specs.declared.refusals.ConnectRefusal.{ConnectRefusal}
 use Rattle.fluid_voice.specs.States as states
-use Rattle.fluid_transcript.specs.World.{Document, Container, Name, connection, container, used_up, World, document, ledger_of, with_entries, Effect, says, grown, changed}
+use Rattle.fluid_transcript.specs.World.{Document, Container, Name, connection, container, roamer, used_up, World, document, ledger_of, with_entries, Effect, says, grown, changed}
 use Rattle.fluid_transcript.specs.Connections.{voice_named, delivered, closed}
 use Rattle.fluid_transcript.specs.Documents.{scribed_by, is_found, objects_for, reported, checkpointed, checkpoint_of, swept_by}
 use Rattle.fluid_transcript.specs.Containers.{channels, Submitted, submitted, submitting, proposed, Loading, join_for, joining, join_refusal, name_for, load_line, begun_with, begun_from, begun_at, loading_by, load, caught_up, pumped, edited_by, edited, beaten, summarized_by, summarized, visible}
@@ -114,12 +114,14 @@ module _ (w : World) (c : List ℕ) where
       (client_stays w (changed e (Some name) w) (changed_grows e (Some name) w (keeps_self w.store)) name id was.0, fed_more (Some name) e name next d (keeps_self w.store) found was.1) refl
   collect_fits d (Some (connection Used)) is ok sound found = absurd (subst (λ o. IfSome o (IsSoundName w)) is (sound.names c))
   collect_fits d (Some (container k)) is ok sound found = absurd (cc)
+  collect_fits d (Some (roamer k)) is ok sound found = absurd (cc)
   collect_fits d (Some used_up) is ok sound found = absurd (cc)
 
   ends_on : (o : Option Name) → refusal_as_connection o ≡ None → GoesOnAs o (Some used_up)
   ends_on None ok = tt
   ends_on (Some (connection voice)) ok = tt
   ends_on (Some (container k)) ok = absurd (cc)
+  ends_on (Some (roamer k)) ok = absurd (cc)
   ends_on (Some used_up) ok = absurd (cc)
 
   pub close_fits : (about : Option (List ℕ)) → refusal_as_connection (get w.names c) ≡ None → EffectFits w about (closed w c)
@@ -130,7 +132,7 @@ module _ (w : World) (c : List ℕ) where
 
 -- ---- load
 
-new_on : (o : Option Name) (n : Name) → refusal_as_new o ≡ None → GoesOnAs o (Some n)
+pub new_on : (o : Option Name) (n : Name) → refusal_as_new o ≡ None → GoesOnAs o (Some n)
 new_on None n ok = tt
 new_on (Some old) n ok = absurd (cc)
 
@@ -140,7 +142,7 @@ used_fits w about e p ok keeps is = record {
   name = subst (NamesFit w (changed e about w)) (sym is) (record { sound = tt; goes_on = new_on (get w.names p) used_up ok; client = λ name id h. absurd (cc) });
 }
 
-whole_order : (l : Ledger) → take (seq l) (order l) ≡ order l
+pub whole_order : (l : Ledger) → take (seq l) (order l) ≡ order l
 unfolding seq
 whole_order l = take-length (order l)
 

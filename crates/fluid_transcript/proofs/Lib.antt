@@ -2,6 +2,7 @@ mod Computed
 mod LinesComputed
 mod OneLine
 mod ScriptComputed
+mod RoamComputed
 mod TasksComputed
 mod Growing
 mod Rowed
@@ -11,5 +12,6 @@ pub mod Acks
 pub mod Sounds
 pub mod Fitting
 mod Holding
+mod Roaming
 pub mod Stepping
 mod Steady

@@ -12,7 +12,7 @@ use Rattle.fluid_rules.proofs.Joined.{some_same}
 use Rattle.fluid_store.specs.Held.{Keeps}
 use Rattle.fluid_voice.specs.declared.states.VoiceState.{VoiceState}
 use Rattle.fluid_voice.specs.declared.states.VoiceState.TheVariants.{Fresh, Reading, Writing, Used}
-use Rattle.fluid_transcript.specs.World.{Document, Container, Name, connection, container, used_up, World, new_document, document, is_open, with_entries, farewells, Effect, with_name, grown, changed}
+use Rattle.fluid_transcript.specs.World.{Document, Container, Name, connection, container, roamer, used_up, World, new_document, document, is_open, with_entries, farewells, Effect, with_name, grown, changed}
 use Rattle.fluid_transcript.specs.Containers.{id_of}
 use Rattle.fluid_transcript.specs.Transcript.{readied, at_line}
 use Rattle.fluid_transcript.specs.Sound.{BeginsWith, DocumentGrows, Grows, GoesOn, GoesOnAs, ChangesOneName, client_in, ledger_in, IsClient, IsFed, IsSoundVoice, IsAcknowledged, IsSoundContainer, IsSoundName, IsSound}
@@ -127,6 +127,7 @@ module _ (a b : World) (grows : Grows a b) where
   pub name_stays : (n : Name) → IsSoundName a n → IsSoundName b n
   name_stays (connection voice) h = voice_stays voice h
   name_stays (container k) h = container_stays k h
+  name_stays (roamer k) h = record { client = container_stays k.client h.client; from = h.from; base = h.base }
   name_stays used_up h = tt
 
   pub names_stay : (o : Option Name) → IfSome o (IsSoundName a) → IfSome o (IsSoundName b)
@@ -191,6 +192,11 @@ placed w (Some (container k)) name id sound h =
     let same_name : k.document ≡ name = ap (λ pair. pair.0) same in
     let same_id : id_of k ≡ id = ap (λ pair. pair.1) same in
     record { place = k.entries; is = sym same_id; below = subst (λ q. k.entries < length (document w q).raws) same_name sound.entries }
+placed w (Some (roamer k)) name id sound h =
+    let same = some_same (k.client.document, id_of k.client) (name, id) h in
+    let same_name : k.client.document ≡ name = ap (λ pair. pair.0) same in
+    let same_id : id_of k.client ≡ id = ap (λ pair. pair.1) same in
+    record { place = k.client.entries; is = sym same_id; below = subst (λ q. k.client.entries < length (document w q).raws) same_name sound.client.entries }
 placed w (Some used_up) name id sound h = absurd (cc)
 
 module _ (old new : World) (grows : Grows old new) (sound : IsSound old) (c : List ℕ) (n : Name) (fits : NameFits old new c n)
@@ -240,6 +246,7 @@ module _ (old new : World) (grows : Grows old new) (sound : IsSound old) (c : Li
 stays_self : (n : Name) → GoesOn n n
 stays_self (connection voice) = tt
 stays_self (container k) = record { document = refl; entries = refl; from = refl; base = refl; number = omega arith }
+stays_self (roamer k) = record { document = refl; entries = omega arith; from = refl; base = refl; number = omega arith; stood = omega arith; said = omega arith }
 stays_self used_up = tt
 
 goes_on_self : (o : Option Name) → GoesOnAs o o

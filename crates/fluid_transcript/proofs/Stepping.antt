@@ -15,23 +15,25 @@ use Rattle.fluid_types.specs.Ledger.{order}
 use Rattle.fluid_lane.specs.Laws.{first_silent_in}
 use Rattle.fluid_steps.specs.Grammar.{step_spelled}
 use Rattle.fluid_steps.specs.declared.steps.Step.{Step}
-use Rattle.fluid_steps.specs.declared.steps.Step.TheVariants.{Send, Collect, Close, Scribe, Checkpoint, Restart, Reopen, Sweep, Count, Tasks, Load, Pump, Edit, Beat, Summarize, Show}
+use Rattle.fluid_steps.specs.declared.steps.Step.TheVariants.{Send, Collect, Close, Scribe, Checkpoint, Restart, Reopen, Sweep, Count, Tasks, Load, Pump, Edit, Beat, Summarize, Show, Roam, Say, Lose, Back, Acked}
 use Rattle.fluid_steps.specs.declared.refusal.LineWhy.{LineWhy}
 use Rattle.fluid_voice.specs.declared.refusals.ConnectRefusal.TheVariants.{TooManyDocuments}
 use Rattle.fluid_voice.specs.Ends.{is_beyond}
 use Rattle.fluid_voice.specs.Heard.{acts_of}
 use Rattle.fluid_voice.specs.States as states
-use Rattle.fluid_transcript.specs.World.{Document, Container, Name, connection, container, used_up, World, new_document, first_world, document, is_open, ledger_of, with_entries, farewells, Effect, says, changed, does}
+use Rattle.fluid_transcript.specs.World.{Document, Container, Roamer, Name, connection, container, roamer, used_up, World, new_document, first_world, document, is_open, ledger_of, with_entries, farewells, Effect, says, changed, does}
 use Rattle.fluid_transcript.specs.Connections.{voice_named, connects, sent_to}
 use Rattle.fluid_transcript.specs.Documents.{restarted, reopened, counted_up, told_tasks}
+use Rattle.fluid_transcript.specs.Containers.{showing}
 use Rattle.fluid_transcript.specs.Lines.{turned_away_line}
-use Rattle.fluid_transcript.specs.Steps.{container_in, container_of, refusal_to_send, refusal_as_connection, refusal_as_container, refusal_as_new, refusal_of_edit, refusal, container_document, about, on_container, edit_effect, effect, beyond}
+use Rattle.fluid_transcript.specs.Steps.{container_in, container_of, roamer_in, roamer_of, shown_in, shown_of, refusal_to_send, refusal_as_connection, refusal_as_container, refusal_as_roamer, refusal_as_lost, refusal_to_show, refusal_as_new, refusal_of_edit, refusal, container_document, roamer_document, about, on_container, on_roamer, edit_effect, effect, beyond}
 use Rattle.fluid_transcript.specs.Transcript.{readied, done_in, done_on, done, at_line, done_as, taken, refused_as, end_effect, loaded_last}
 use Rattle.fluid_transcript.specs.Sound.{Grows, GoesOnAs, client_in, IsSoundName, IsSound, ChangesOneName}
 use Rattle.fluid_transcript.specs.Laws.{FirstIsSound, Leaves, LinesLeave, MomentIsLines, LastGrows}
 use Rattle.fluid_transcript.proofs.Sounds.{grows_on, at_line_grows, readied_grows, same_names, none_named, EffectFits, StepLeaves, fitting_leaves, changed_grows}
 use Rattle.fluid_transcript.proofs.Fitting.{plain, keeps_self, IsFound, IsReady, send_fits}
 use Rattle.fluid_transcript.proofs.Holding.{AreFound, scribe_fits, checkpoint_fits, sweep_fits, collect_fits, close_fits, used_fits, load_fits, pump_fits, edit_fits, beat_fits, summarize_fits}
+use Rattle.fluid_transcript.proofs.Roaming.{roam_fits, say_fits, lose_fits, back_fits, acked_fits}
 
 -- ---- a step
 
@@ -44,7 +46,39 @@ container_there w p P ok h = by (get w.names p) refl ok
     by None is ok = absurd (cc)
     by (Some (connection voice)) is ok = absurd (cc)
     by (Some (container k)) is ok = subst (λ o. P (container_in o)) (sym is) (h k is)
+    by (Some (roamer k)) is ok = absurd (cc)
     by (Some used_up) is ok = absurd (cc)
+
+-- the roamer of a name that is one's
+roamer_there : (w : World) (r : List ℕ) (P : Option Roamer → Type 0) → refusal_as_roamer (get w.names r) ≡ None
+    → ((k : Roamer) → get w.names r ≡ Some (roamer k) → P (Some k)) → P (roamer_of w r)
+roamer_there w r P ok h = by (get w.names r) refl ok
+  where
+    by : (o : Option Name) → get w.names r ≡ o → refusal_as_roamer o ≡ None → P (roamer_in (get w.names r))
+    by None is ok = absurd (cc)
+    by (Some (connection voice)) is ok = absurd (cc)
+    by (Some (container k)) is ok = absurd (cc)
+    by (Some (roamer k)) is ok = subst (λ o. P (roamer_in o)) (sym is) (h k is)
+    by (Some used_up) is ok = absurd (cc)
+
+-- a name that is a lost roamer's, or another one's, is a roamer's
+one_ok : (is_lost : Bool) (o : Option Name) → refusal_as_lost is_lost o ≡ None → refusal_as_roamer o ≡ None
+one_ok is_lost None ok = ok
+one_ok is_lost (Some (connection voice)) ok = ok
+one_ok is_lost (Some (container k)) ok = ok
+one_ok is_lost (Some (roamer k)) ok = refl
+one_ok is_lost (Some used_up) ok = ok
+
+-- what is shown under a name
+shown_there : (w : World) (p : List ℕ) (P : Option Container → Type 0) → refusal_to_show (get w.names p) ≡ None → ((k : Container) → P (Some k)) → P (shown_of w p)
+shown_there w p P ok h = by (get w.names p) ok
+  where
+    by : (o : Option Name) → refusal_to_show o ≡ None → P (shown_in o)
+    by None ok = absurd (cc)
+    by (Some (connection voice)) ok = absurd (cc)
+    by (Some (container k)) ok = h k
+    by (Some (roamer k)) ok = h k.client
+    by (Some used_up) ok = absurd (cc)
 
 edit_ok : (op : Result AnEdit JsonFault) (o : Option LineWhy) → refusal_of_edit op o ≡ None → o ≡ None
 edit_ok op None ok = refl
@@ -62,6 +96,12 @@ module _ (limits : Limits) (w : World) (d : Document) (sound : IsSound w) where
       → AreFound w (container_document w p) d → EffectFits w (container_document w p) (on_container w (container_of w p) does)
   contained p does ok fits =
       container_there w p (λ o. AreFound w (option_and_then (λ k. Some k.document) o) d → EffectFits w (option_and_then (λ k. Some k.document) o) (on_container w o does)) ok fits
+
+  roaming : (r : List ℕ) (does : Roamer → Effect) → refusal_as_roamer (get w.names r) ≡ None
+      → ((k : Roamer) → get w.names r ≡ Some (roamer k) → IsFound w k.client.document d → EffectFits w (Some k.client.document) (does k))
+      → AreFound w (roamer_document w r) d → EffectFits w (roamer_document w r) (on_roamer w (roamer_of w r) does)
+  roaming r does ok fits =
+      roamer_there w r (λ o. AreFound w (option_and_then (λ k. Some k.client.document) o) d → EffectFits w (option_and_then (λ k. Some k.client.document) o) (on_roamer w o does)) ok fits
 
   edits : (p : List ℕ) (op : Result AnEdit JsonFault) (k : Container) → get w.names p ≡ Some (container k) → EffectFits w (Some k.document) (edit_effect limits w d p op k)
   edits p (Ok edit) k there = edit_fits w p k sound there limits (Some k.document) d edit
@@ -83,7 +123,13 @@ module _ (limits : Limits) (w : World) (d : Document) (sound : IsSound w) where
   step_fits (Edit p op) ok found = contained p _ (edit_ok op _ ok) (λ k there found. edits p op k there) found
   step_fits (Beat p) ok found = contained p _ ok (λ k there found. beat_fits w p k sound there limits (Some k.document) d) found
   step_fits (Summarize p) ok found = contained p _ ok (λ k there found. summarize_fits w p k sound there limits (Some k.document) d) found
-  step_fits (Show p) ok found = contained p _ ok (λ k there found. plain w (Some k.document) _ refl (keeps_self w.store)) found
+  step_fits (Show p) ok found =
+      shown_there w p (λ o. EffectFits w (option_and_then (λ k. Some k.document) o) (on_container w o (showing w d p))) ok (λ k. plain w (Some k.document) _ refl (keeps_self w.store))
+  step_fits (Roam r name) ok found = roam_fits w d r name ok found limits
+  step_fits (Say r op) ok found = roaming r _ (edit_ok op _ ok) (λ k there found. say_fits w r k sound there limits (Some k.client.document) d op) found
+  step_fits (Lose r) ok found = roaming r _ (one_ok false (get w.names r) ok) (λ k there found. lose_fits w r k sound there (Some k.client.document)) found
+  step_fits (Back r) ok found = roaming r _ (one_ok true (get w.names r) ok) (λ k there found. back_fits w r k sound there d found limits) found
+  step_fits (Acked r) ok found = roaming r _ ok (λ k there found. acked_fits w r k sound there d found) found
 
 -- where as many documents as may be are open
 module _ (limits : Limits) (w : World) (name : List ℕ) (sound : IsSound w) (full : is_beyond w.opened name ≡ true) where
@@ -108,6 +154,11 @@ module _ (limits : Limits) (w : World) (name : List ℕ) (sound : IsSound w) (fu
   beyond_fits (Beat p) is ok = plain w None _ refl (keeps_self w.store)
   beyond_fits (Summarize p) is ok = plain w None _ refl (keeps_self w.store)
   beyond_fits (Show p) is ok = plain w None _ refl (keeps_self w.store)
+  beyond_fits (Roam r other) is ok = used_fits w None _ r ok (keeps_self w.store) refl
+  beyond_fits (Say r op) is ok = plain w None _ refl (keeps_self w.store)
+  beyond_fits (Lose r) is ok = plain w None _ refl (keeps_self w.store)
+  beyond_fits (Back r) is ok = plain w None _ refl (keeps_self w.store)
+  beyond_fits (Acked r) is ok = plain w None _ refl (keeps_self w.store)
 
 -- ---- another world with the same names and moment
 
@@ -127,7 +178,12 @@ same_about a b names moment (Pump p) = ap (λ n. option_and_then (λ k. Some k.d
 same_about a b names moment (Edit p op) = ap (λ n. option_and_then (λ k. Some k.document) (container_in (get n p))) names
 same_about a b names moment (Beat p) = ap (λ n. option_and_then (λ k. Some k.document) (container_in (get n p))) names
 same_about a b names moment (Summarize p) = ap (λ n. option_and_then (λ k. Some k.document) (container_in (get n p))) names
-same_about a b names moment (Show p) = ap (λ n. option_and_then (λ k. Some k.document) (container_in (get n p))) names
+same_about a b names moment (Show p) = ap (λ n. option_and_then (λ k. Some k.document) (shown_in (get n p))) names
+same_about a b names moment (Roam r name) = refl
+same_about a b names moment (Say r op) = ap (λ n. option_and_then (λ k. Some k.client.document) (roamer_in (get n r))) names
+same_about a b names moment (Lose r) = ap (λ n. option_and_then (λ k. Some k.client.document) (roamer_in (get n r))) names
+same_about a b names moment (Back r) = ap (λ n. option_and_then (λ k. Some k.client.document) (roamer_in (get n r))) names
+same_about a b names moment (Acked r) = ap (λ n. option_and_then (λ k. Some k.client.document) (roamer_in (get n r))) names
 
 same_refusal : (a b : World) → b.names ≡ a.names → (step : Step) → refusal b step ≡ refusal a step
 same_refusal a b names (Send c text) = ap (λ n. refusal_to_send (get n c)) names
@@ -145,7 +201,12 @@ same_refusal a b names (Pump p) = ap (λ n. refusal_as_container (get n p)) name
 same_refusal a b names (Edit p op) = ap (λ n. refusal_of_edit op (refusal_as_container (get n p))) names
 same_refusal a b names (Beat p) = ap (λ n. refusal_as_container (get n p)) names
 same_refusal a b names (Summarize p) = ap (λ n. refusal_as_container (get n p)) names
-same_refusal a b names (Show p) = ap (λ n. refusal_as_container (get n p)) names
+same_refusal a b names (Show p) = ap (λ n. refusal_to_show (get n p)) names
+same_refusal a b names (Roam r name) = ap (λ n. refusal_as_new (get n r)) names
+same_refusal a b names (Say r op) = ap (λ n. refusal_of_edit op (refusal_as_roamer (get n r))) names
+same_refusal a b names (Lose r) = ap (λ n. refusal_as_lost false (get n r)) names
+same_refusal a b names (Back r) = ap (λ n. refusal_as_lost true (get n r)) names
+same_refusal a b names (Acked r) = ap (λ n. refusal_as_roamer (get n r)) names
 
 -- ---- a document that is readied
 

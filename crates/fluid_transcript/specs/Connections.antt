@@ -18,7 +18,7 @@ use Rattle.fluid_voice.specs.Ends.{Found, Outcome, outcome, held_behind}
 use Rattle.fluid_voice.specs.Ends.Outcome.{ends, clashes}
 use Rattle.fluid_voice.specs.Replies.{replies_to, state_after}
 use Rattle.fluid_voice.specs.Feed as feed
-use Rattle.fluid_transcript.specs.World.{Document, Name, connection, container, used_up, World, ledger_of, raws_added, Effect, says}
+use Rattle.fluid_transcript.specs.World.{Document, Name, connection, container, roamer, used_up, World, ledger_of, raws_added, Effect, says}
 use Rattle.fluid_transcript.specs.Lines.{reply_line, clash_line, closed_line}
 
 -- where the connection of a name stands; a new name's is a fresh one
@@ -26,6 +26,7 @@ abbrev pub voice_named : Option Name → VoiceState
 voice_named None = Fresh
 voice_named (Some (connection voice)) = voice
 voice_named (Some (container c)) = Used
+voice_named (Some (roamer k)) = Used
 voice_named (Some used_up) = Used
 
 abbrev pub voice_of : World → List ℕ → VoiceState

@@ -3,6 +3,7 @@ pub mod Lines
 pub mod Connections
 pub mod Documents
 pub mod Containers
+pub mod Roamers
 pub mod Steps
 pub mod Transcript
 pub mod Sound
@@ -10,4 +11,5 @@ pub mod Laws
 pub mod Examples
 pub mod LineExamples
 pub mod ScriptExamples
+pub mod RoamExamples
 pub mod TaskExamples

@@ -137,6 +137,30 @@ beat_line p number = of_name p (codes "beats at " ++ decimal number)
 abbrev pub summarized_line : List ℕ → ℕ → List ℕ
 summarized_line p number = of_name p (codes "summarized at " ++ decimal number)
 
+-- ---- roamers
+
+-- as a client of this id, at this number
+abbrev pub client_at : (id : List ℕ) → ℕ → List ℕ
+client_at id number = codes "as " ++ (id ++ (codes " at " ++ decimal number))
+
+abbrev pub roams_line : (r d id : List ℕ) → ℕ → List ℕ
+roams_line r d id number = of_name r (codes "roams " ++ (d ++ (codes " " ++ client_at id number)))
+
+abbrev pub said_line : (r : List ℕ) → (edit : ℕ) → List ℕ
+said_line r edit = of_name r (codes "said " ++ decimal edit)
+
+abbrev pub lost_line : (r : List ℕ) → List ℕ
+lost_line r = of_name r (codes "lost")
+
+abbrev pub back_line : (r id : List ℕ) → ℕ → List ℕ
+back_line r id number = of_name r (codes "back " ++ client_at id number)
+
+-- so many of its edits stand, of so many
+abbrev pub acked_line : (r : List ℕ) → (stood edits : ℕ) → List ℕ
+acked_line r stood edits = of_name r (codes "acked " ++ (decimal stood ++ (codes " of " ++ decimal edits)))
+
+-- ---- what is shown
+
 -- what is shown, at this number
 abbrev pub shown_line : List ℕ → ℕ → Tree → List ℕ
 shown_line p number shown = of_name p (codes "at " ++ (decimal number ++ (codes ": " ++ printed shown)))

@@ -6,10 +6,11 @@ use Rattle.fluid_types.specs.declared.messages.Message.{Message}
 use Rattle.fluid_types.specs.Ledger.{Ledger, order, seq}
 use Rattle.fluid_types.specs.Names.{entry_name}
 use Rattle.fluid_rules.specs.Scribe.{acks}
+use Rattle.fluid_edits.specs.Replay.{no_channels}
 use Rattle.fluid_store.specs.Held.{Keeps}
 use Rattle.fluid_voice.specs.declared.states.VoiceState.{VoiceState}
 use Rattle.fluid_voice.specs.declared.states.VoiceState.TheVariants.{Fresh, Reading, Writing, Used}
-use Rattle.fluid_transcript.specs.World.{Document, Container, Name, connection, container, used_up, World, document, is_open, ledger_of}
+use Rattle.fluid_transcript.specs.World.{Document, Container, Roamer, Name, connection, container, roamer, used_up, World, document, is_open, ledger_of}
 use Rattle.fluid_transcript.specs.Containers.{id_of}
 
 -- ---- what only grows
@@ -39,16 +40,34 @@ pub record IsSameContainer (old new : Container) : Type 0 where
   pub base : new.base ≡ old.base
   pub number : old.number ≤ new.number
 
--- a connection stays one until it is used up, a container stays what it is, and what is used up stays so
+-- it has its document, and no channels that it was loaded from; its client is the same or a later one, its number doesn't fall, no edit of
+-- its that stands goes, and no edit that was said
+pub record IsSameRoamer (old new : Roamer) : Type 0 where
+  pub document : new.client.document ≡ old.client.document
+  pub entries : old.client.entries ≤ new.client.entries
+  pub from : new.client.from ≡ old.client.from
+  pub base : new.client.base ≡ old.client.base
+  pub number : old.client.number ≤ new.client.number
+  pub stood : old.stood ≤ new.stood
+  pub said : old.stood + length old.client.pending ≤ new.stood + length new.client.pending
+
+-- a connection stays one until it is used up, a container and a roamer stay what they are, and what is used up stays so
 abbrev pub GoesOn : Name → Name → Type 0
 GoesOn (connection voice) (connection later) = Unit {0}
 GoesOn (connection voice) (container k) = ⊥
+GoesOn (connection voice) (roamer k) = ⊥
 GoesOn (connection voice) used_up = Unit {0}
 GoesOn (container k) (connection voice) = ⊥
 GoesOn (container k) (container later) = IsSameContainer k later
+GoesOn (container k) (roamer later) = ⊥
 GoesOn (container k) used_up = ⊥
+GoesOn (roamer k) (connection voice) = ⊥
+GoesOn (roamer k) (container later) = ⊥
+GoesOn (roamer k) (roamer later) = IsSameRoamer k later
+GoesOn (roamer k) used_up = ⊥
 GoesOn used_up (connection voice) = ⊥
 GoesOn used_up (container k) = ⊥
+GoesOn used_up (roamer k) = ⊥
 GoesOn used_up used_up = Unit {0}
 
 -- a new name may stand for anything
@@ -72,6 +91,7 @@ client_in (Some (connection (Reading name next))) = None
 client_in (Some (connection (Writing name id next))) = Some (name, id)
 client_in (Some (connection Used)) = None
 client_in (Some (container k)) = Some (k.document, id_of k)
+client_in (Some (roamer k)) = Some (k.client.document, id_of k.client)
 client_in (Some used_up) = None
 
 -- the ledger of a document
@@ -109,9 +129,16 @@ pub record IsSoundContainer (w : World) (k : Container) : Type 0 where
   pub number : k.number ≤ seq (ledger_in w k.document)
   pub acknowledged : IsAcknowledged (take k.number (order (ledger_in w k.document))) k.base
 
+-- a container of its client is sound, and was loaded from nothing
+pub record IsSoundRoamer (w : World) (k : Roamer) : Type 0 where
+  pub client : IsSoundContainer w k.client
+  pub from : k.client.from ≡ no_channels
+  pub base : k.client.base ≡ 0
+
 abbrev pub IsSoundName : World → Name → Type 0
 IsSoundName w (connection voice) = IsSoundVoice w voice
 IsSoundName w (container k) = IsSoundContainer w k
+IsSoundName w (roamer k) = IsSoundRoamer w k
 IsSoundName w used_up = Unit {0}
 
 -- each name stands for something sound, and no two names have one client

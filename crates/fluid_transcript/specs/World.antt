@@ -29,10 +29,18 @@ pub record Container : Type 0 where
   pub number : ℕ
   pub pending : List Edit
 
--- what a name stands for: a connection, a container, or nothing any more
+-- a roamer: a container of its client, which was loaded from nothing and whose pending edits, sent or waiting, are those that don't stand, in
+-- the order of their numbers; how many of its edits stand, which are the first ones; and whether its connection is lost
+pub record Roamer : Type 0 where
+  pub client : Container
+  pub stood : ℕ
+  pub is_lost : Bool
+
+-- what a name stands for: a connection, a container, a roamer, or nothing any more
 pub data Name : Type 0 where
   connection : VoiceState → Name
   container : Container → Name
+  roamer : Roamer → Name
   used_up : Name
 
 -- the documents, the names of those that are open, what is held under each id, what names stand for, and the moment, which is

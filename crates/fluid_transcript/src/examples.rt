@@ -1,6 +1,7 @@
 //! Worked examples, each computed from the definitions.
 ghost use Rattle.fluid_transcript.specs.Examples.{NewDocument, TwoClients, Sweeps, Loads, GoesOn};
 ghost use Rattle.fluid_transcript.specs.LineExamples.{Forms, Hears, Collects, Edits, Refusals, Beyond, FirstUse};
+ghost use Rattle.fluid_transcript.specs.RoamExamples.{Comes, Says, Returns, Acks, Refuses};
 ghost use Rattle.fluid_transcript.specs.ScriptExamples.{SweepScript, ReopenScript, Last, Closes, LoadNames, Again, Pumps, Stores, Summarizes, Scribes};
 ghost use Rattle.fluid_transcript.specs.TaskExamples.{Items, Volunteers};
 
@@ -78,6 +79,15 @@ pub fn single_steps()
 pub fn putting()
     ensures summarizes { Summarizes }
     ensures scribes { Scribes }
+{}
+
+/// The steps of a roamer.
+pub fn roamers()
+    ensures comes { Comes }
+    ensures says { Says }
+    ensures returns { Returns }
+    ensures acks { Acks }
+    ensures refuses { Refuses }
 {}
 
 /// Queues and tasks, as the messages of a document make them.

@@ -17,7 +17,7 @@ use Rattle.fluid_voice.specs.declared.ends.ActEnd.{ActEnd}
 use Rattle.fluid_voice.specs.declared.ends.ActEnd.TheVariants.{Entered, FullNow}
 use Rattle.fluid_voice.specs.Ends.{entry_end}
 use Rattle.fluid_rules.specs.Counted.{is_full}
-use Rattle.fluid_transcript.specs.World.{Container, Name, connection, container, used_up, World, Document, document, ledger_of, Effect, grown, changed}
+use Rattle.fluid_transcript.specs.World.{Container, Roamer, Name, connection, container, roamer, used_up, World, Document, document, ledger_of, Effect, grown, changed}
 use Rattle.fluid_transcript.specs.Containers.{id_of}
 use Rattle.fluid_transcript.specs.Connections.{voice_named, voice_of}
 use Rattle.fluid_transcript.specs.Sound.{ledger_in, client_in, GoesOnAs, IsSoundName, IsSound}
@@ -47,6 +47,7 @@ there_so : (o : Option Name) (id : List ℕ) → id_at (voice_named o) ≡ Some 
 there_so None id is = absurd (cc)
 there_so (Some (connection v)) id is = refl
 there_so (Some (container k)) id is = absurd (cc)
+there_so (Some (roamer k)) id is = absurd (cc)
 there_so (Some used_up) id is = absurd (cc)
 
 -- one that is connected stays where it stands
@@ -116,9 +117,9 @@ module _ (limits : Limits) (w : World) (client : ℕ) (id : List ℕ) (s : Submi
       by true full = nothing (ap (λ (o : ActEnd). (heard_so limits w client raw o).entries) (ap (λ b. if b then FullNow else Entered (verdict (ledger_of d) raw)) full))
       by false free = one (ap (λ (o : ActEnd). (heard_so limits w client raw o).entries) (ap (λ b. if b then FullNow else Entered (verdict (ledger_of d) raw)) free))
 
-  -- a container's client is another one
-  other_client : (q : List ℕ) (k : Container) → get w.names q ≡ Some (container k) → k.document ≡ work → length (document w work).raws ≤ 2 ^ 64 → bytes_eq id (id_of k) ≡ false
-  other_client q k held at few = by (bytes_eq id (id_of k)) refl
+  -- the client of a container or a roamer is another one
+  other_client : (q : List ℕ) (k : Container) → client_in (get w.names q) ≡ Some (k.document, id_of k) → (named client ≡ q → ⊥) → k.document ≡ work → length (document w work).raws ≤ 2 ^ 64 → bytes_eq id (id_of k) ≡ false
+  other_client q k held apart at few = by (bytes_eq id (id_of k)) refl
     where
       by : (b : Bool) → bytes_eq id (id_of k) ≡ b → bytes_eq id (id_of k) ≡ false
       by false other = other
@@ -126,13 +127,11 @@ module _ (limits : Limits) (w : World) (client : ℕ) (id : List ℕ) (s : Submi
           let writes = writes_so (voice_of w (named client)) id is in
           let mine : client_in (get w.names (named client)) ≡ Some (work, id) = ap client_in there ∙ ap (λ v. client_in (Some (connection v))) writes.1 in
           let its : client_in (get w.names q) ≡ Some (work, id) =
-          ap client_in held ∙ ap (λ name. Some (name, id_of k)) at ∙ ap (λ i. Some (work, i)) (sym ((bytes_eq-Decides id (id_of k)).0 same)) in
-          let one_name : named client ≡ q = sound.apart (named client) q work id mine its few in
-          let two : Some (connection (voice_of w (named client))) ≡ Some (container k) = sym there ∙ ap (get w.names) one_name ∙ held in
-          absurd (cc)
+          held ∙ ap (λ name. Some (name, id_of k)) at ∙ ap (λ i. Some (work, i)) (sym ((bytes_eq-Decides id (id_of k)).0 same)) in
+          absurd (apart (sound.apart (named client) q work id mine its few))
 
-  beside : (q : List ℕ) (k : Container) → get w.names q ≡ Some (container k) → length (document new k.document).raws ≤ 2 ^ 64 → GoesOnBeside (id_of k) (ledger_in w k.document) (ledger_in new k.document)
-  beside q k held few = by (bytes_eq k.document work) refl
+  beside : (q : List ℕ) (k : Container) → client_in (get w.names q) ≡ Some (k.document, id_of k) → (named client ≡ q → ⊥) → length (document new k.document).raws ≤ 2 ^ 64 → GoesOnBeside (id_of k) (ledger_in w k.document) (ledger_in new k.document)
+  beside q k held apart few = by (bytes_eq k.document work) refl
     where
       by : (b : Bool) → bytes_eq k.document work ≡ b → GoesOnBeside (id_of k) (ledger_in w k.document) (ledger_in new k.document)
       by true same =
@@ -141,11 +140,21 @@ module _ (limits : Limits) (w : World) (client : ℕ) (id : List ℕ) (s : Submi
           let within : length d.raws ≤ 2 ^ 64 = omega (arith, longer w new leaves.grows work, subst (λ name. length (document new name).raws ≤ 2 ^ 64) at few) in
           subst (λ name. GoesOnBeside (id_of k) (ledger_in w name) (ledger_in new name)) (sym at)
           (subst (λ (x : Document). GoesOnBeside (id_of k) (ledger_of d) (ledger_of x)) (sym own)
-          (goes_beside (id_of k) d.raws raw e.entries (other_client q k held at within) added))
+          (goes_beside (id_of k) d.raws raw e.entries (other_client q k held apart at within) added))
       by false other =
           let same : document new k.document ≡ document w k.document = document_inserted w.documents work (grown e d) k.document ∙ ap (λ b. cond b (grown e d) (document w k.document)) other in
           subst (λ (x : Document). GoesOnBeside (id_of k) (ledger_in w k.document) (ledger_of x)) (sym same)
           (record { more = []; is = sym (append-nil (ledger_in w k.document)); beside = All-nil (λ entry. is_made_by (id_of k) entry.0 ≡ false) })
+
+  not_container : (q : List ℕ) (k : Container) → get w.names q ≡ Some (container k) → named client ≡ q → ⊥
+  not_container q k held one_name =
+      let two : Some (connection (voice_of w (named client))) ≡ Some (container k) = sym there ∙ ap (get w.names) one_name ∙ held in
+      absurd (cc)
+
+  not_roamer : (q : List ℕ) (k : Roamer) → get w.names q ≡ Some (roamer k) → named client ≡ q → ⊥
+  not_roamer q k held one_name =
+      let two : Some (connection (voice_of w (named client))) ≡ Some (roamer k) = sym there ∙ ap (get w.names) one_name ∙ held in
+      absurd (cc)
 
   all_left : LeavesAll w new
   all_left = record {
@@ -153,7 +162,11 @@ module _ (limits : Limits) (w : World) (client : ℕ) (id : List ℕ) (s : Submi
     store = refl;
     moment = refl;
     opened = refl;
-    names = λ q. record { name = name_stays q; container = λ k held few. beside q k held few };
+    names = λ q. record {
+      name = name_stays q;
+      container = λ k held few. beside q k (ap client_in held) (not_container q k held) few;
+      roamer = λ k held few. beside q k.client (ap client_in held) (not_roamer q k held) few;
+    };
   }
 
   pub leaves_all : LeavesAll w (behind_entry limits w client raw)

@@ -27,7 +27,7 @@ use Rattle.fluid_codec.specs.declared.events.Event.TheVariants as heard
 use Rattle.fluid_scribe.specs.declared.job.Job.{Job}
 use Rattle.fluid_store.specs.Putting.{Putting, Clashing, putting}
 use Rattle.fluid_steps.specs.declared.steps.Step.{Step}
-use Rattle.fluid_steps.specs.declared.steps.Step.TheVariants.{Send, Collect, Close, Scribe, Checkpoint, Restart, Reopen, Sweep, Count, Tasks, Load, Pump, Edit, Beat, Summarize, Show}
+use Rattle.fluid_steps.specs.declared.steps.Step.TheVariants.{Send, Collect, Close, Scribe, Checkpoint, Restart, Reopen, Sweep, Count, Tasks, Load, Pump, Edit, Beat, Summarize, Show, Roam, Say, Lose, Back, Acked}
 use Rattle.fluid_steps.specs.declared.refusal.LineWhy.{LineWhy}
 use Rattle.fluid_voice.specs.declared.states.VoiceState.{VoiceState}
 use Rattle.fluid_voice.specs.declared.actions.Act.{Act}
@@ -281,6 +281,11 @@ quiet_entries limits (Edit p op) is r d = absurd is
 quiet_entries limits (Beat p) is r d = absurd is
 quiet_entries limits (Summarize p) is r d = absurd is
 quiet_entries limits (Show p) is r d = absurd is
+quiet_entries limits (Roam q name) is r d = absurd is
+quiet_entries limits (Say q op) is r d = absurd is
+quiet_entries limits (Lose q) is r d = absurd is
+quiet_entries limits (Back q) is r d = absurd is
+quiet_entries limits (Acked q) is r d = absurd is
 
 pub steps_go_quietly : StepsGoQuietly
 steps_go_quietly limits w step is = quietly (document w work) (document (behind_step limits w step) work) (step_goes limits w step (quiet_entries limits step is) work)

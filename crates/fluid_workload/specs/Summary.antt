@@ -10,7 +10,7 @@ use Rattle.fluid_rules.specs.declared.limits.Limits.{Limits}
 use Rattle.fluid_edits.specs.Replay.{Channels, no_channels}
 use Rattle.fluid_voice.specs.Replies.{is_dropped, is_nacked}
 use Rattle.fluid_gen.specs.Acts.{acts as acts_of}
-use Rattle.fluid_transcript.specs.World.{World, Name, connection, container, used_up}
+use Rattle.fluid_transcript.specs.World.{World, Name, connection, container, roamer, used_up}
 use Rattle.fluid_transcript.specs.Containers.{channels, app_id}
 use Rattle.fluid_transcript.specs.Sound.{ledger_in}
 use Rattle.fluid_transcript.specs.Transcript.{written}
@@ -29,6 +29,7 @@ abbrev pub channels_of : World → Option Name → Channels
 channels_of w None = no_channels
 channels_of w (Some (connection voice)) = no_channels
 channels_of w (Some (container k)) = channels (ledger_in w k.document) k
+channels_of w (Some (roamer k)) = no_channels
 channels_of w (Some used_up) = no_channels
 
 -- the id of a container's app tree

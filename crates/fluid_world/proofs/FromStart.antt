@@ -23,7 +23,6 @@ use Rattle.fluid_transcript.specs.Laws.{FirstIsSound}
 use Rattle.fluid_door_link.specs.Hushing.{hushed}
 use Rattle.fluid_world.specs.declared.halted.Halted.{Halted}
 use Rattle.fluid_world.specs.declared.named.Named.{Named}
-use Rattle.fluid_world.specs.declared.named.Named.TheVariants as a
 use Rattle.fluid_world.specs.Taking.{Scripting, means, ScriptStands, StandsBehind, MayEnd, StoppedBehind, StopsAt, MayStand, IsWithin, RanTo, StoodTo, Goes, Follows}
 use Rattle.fluid_world.specs.Ending.{IsDeskOf}
 use Rattle.fluid_world.proofs.Tooked.{goes_of}
@@ -40,7 +39,7 @@ module _ (shelves : Shelving) (limits : Limits) (objects : Storing) (speaks : Bo
   may_at_first (Some w) is good = (w, stands_at_first shelves limits objects w speaks first is)
 
   pub within_at_first : (told : Option World) → IfSome told (IsDeskOf shelves objects) → IsWithin 0 (first_script shelves limits objects speaks (is_some told))
-  within_at_first told is = record { lines = omega arith; numbers = λ q h there. absurd (nothing_there Named empty q (a.Container h) (get-empty byte_order q) there); going = refl; stands = may_at_first told is }
+  within_at_first told is = record { lines = omega arith; numbers = λ q named there. absurd (nothing_there Named empty q named (get-empty byte_order q) there); going = refl; stands = may_at_first told is }
 
   pub stands_behind_first : (told : Option World) → IfSome told (IsDeskOf shelves objects) → (w : World) → told ≡ Some w
       → StandsBehind told (means speaks limits w) [] (first_script shelves limits objects speaks (is_some told))

@@ -7,7 +7,7 @@ use Rattle.fluid_desk.specs.declared.stop.Stop.TheVariants.{KeeperFault, StoreFa
 use Rattle.fluid_desk.specs.declared.stop.StoredFault.TheVariants.{Lane, Delta, Object}
 use Rattle.fluid_desk.specs.Stopping.{HasRun, EndsFor, RunsOn}
 use Rattle.fluid_desk.specs.Scribing.{EndsForWith, RunsWith}
-use Rattle.fluid_callers.specs.Ending.{EndsForReading, RunsReading, EndsForHearing, RunsHearing}
+use Rattle.fluid_callers.specs.Ending.{EndsForReading, StopsForReading, RunsReading, EndsForHearing, RunsHearing}
 use Rattle.fluid_containers.specs.Ending.{EndsForLinking, StopsForLinking, RunsLinking}
 use Rattle.fluid_world.specs.Standing.{IsWrittenOf}
 
@@ -55,6 +55,9 @@ module _ (first steps : ℕ) (before now : Storing) (o : Opened) where
   pub reading_links : {A : Type 0} (r : Result A Stop) → RunsReading first steps o r → RunsLinking first steps before now o r
   reading_links (Ok a) h = h
   reading_links (Err stop) h = record { shelves = h.shelves; few = h.few; ends = ends_reading stop h.ends }
+
+  pub reading_stops : (stop : Stop) → StopsForReading first steps o stop → StopsForLinking first steps before now o stop
+  reading_stops stop h = record { shelves = h.shelves; few = h.few; ends = ends_reading stop h.ends }
 
   pub hearing_links : {A : Type 0} (r : Result A Stop) → RunsHearing first steps before now o r → RunsLinking first steps before now o r
   hearing_links (Ok a) h = h

@@ -46,6 +46,10 @@ module _ (ops : OpsAreShort) where
   edits name text (Ok edit) few is = let short = ops text edit is few in record { nested = short.0; short = short.1 }
   edits name text (Err fault) few is = tt
 
+  says : (name text : List ℕ) (op : Result Edit JsonFault) → length text ≤ longest_text → op_spelled text ≡ Some op → IsShortStep (step.Say name op)
+  says name text (Ok edit) few is = let short = ops text edit is few in record { nested = short.0; short = short.1 }
+  says name text (Err fault) few is = tt
+
   forms : (w : StepWord) (rest : List ℕ) → length rest ≤ longest_text → IfSome (form w rest) IsShortStep
   forms word.Send rest few = bound (cut rest) _ (λ parts is. bound (script_name parts.0) _ (λ name named. omega (arith, few, cut_shorter rest parts is)))
   forms word.Collect rest few = mapped step.Collect (script_name rest) (λ name. tt)
@@ -65,6 +69,12 @@ module _ (ops : OpsAreShort) where
   forms word.Beat rest few = mapped step.Beat (script_name rest) (λ name. tt)
   forms word.Summarize rest few = mapped step.Summarize (script_name rest) (λ name. tt)
   forms word.Show rest few = mapped step.Show (script_name rest) (λ name. tt)
+  forms word.Roam rest few = bound (cut rest) _ (λ parts is. bound (script_name parts.0) _ (λ name named. bound (document_name parts.1) _ (λ d document. tt)))
+  forms word.Say rest few =
+      bound (cut rest) _ (λ parts is. bound (script_name parts.0) _ (λ name named. bound (op_spelled parts.1) _ (λ op spelt. says name parts.1 op (omega (arith, few, cut_shorter rest parts is)) spelt)))
+  forms word.Lose rest few = mapped step.Lose (script_name rest) (λ name. tt)
+  forms word.Back rest few = mapped step.Back (script_name rest) (λ name. tt)
+  forms word.Acked rest few = mapped step.Acked (script_name rest) (λ name. tt)
 
   words : (line : List ℕ) (w : StepWord) → length line ≤ longest_text → IfSome (step_of line w) IsShortStep
   words line w few = bound (cut line) _ (λ parts is. forms w parts.1 (omega (arith, few, cut_shorter line parts is)))

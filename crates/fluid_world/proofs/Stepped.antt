@@ -1,5 +1,5 @@
 -- What each sort of step leaves of the names, of the desk and of the store.
-use Rattle.std.proofs.Common.{◌≡◌, ℕ, ◌+◌, ◌≤◌, ◌<◌, arith, Bool, true, false, cond, List, [], ◌∷◌, Option, Some, None, Result, Ok, Err, bytes_eq, refl, sym, ap, subst, ◌∙◌}
+use Rattle.std.proofs.Common.{◌≡◌, ℕ, ◌+◌, ◌≤◌, ◌<◌, arith, Bool, true, false, not, cond, List, [], ◌∷◌, Option, Some, None, Result, Ok, Err, bytes_eq, refl, sym, ap, subst, ◌∙◌}
 use Rattle.std.specs.Prelude.{IfSome, IsSome, is_some, OnOk}
 use Rattle.std.specs.FinMap.{get, insert}
 use Rattle.fluid_table.specs.Table.{Values}
@@ -12,7 +12,7 @@ use Rattle.fluid_loader.specs.Laws.{StayBased}
 use Rattle.fluid_steps.specs.declared.steps.Step.{Step}
 use Rattle.fluid_voice.specs.declared.states.VoiceState.{VoiceState}
 use Rattle.fluid_voice.specs.declared.states.VoiceState.TheVariants.{Fresh}
-use Rattle.fluid_transcript.specs.World.{Container, Name, connection, container, used_up, World, Told}
+use Rattle.fluid_transcript.specs.World.{Container, Roamer as ARoamer, Name, connection, container, roamer, used_up, World, Told}
 use Rattle.fluid_transcript.specs.Connections.{voice_named, voice_of}
 use Rattle.fluid_transcript.specs.Sound.{IsSoundVoice, IsSoundName}
 use Rattle.fluid_steps.specs.declared.refusal.LineWhy.{LineWhy}
@@ -35,9 +35,13 @@ use Rattle.fluid_containers.specs.Stepping.{StepDoes, IsLoaded, LoadDoes, IsFres
 use Rattle.fluid_containers.specs.declared.holder.Holder.{Holder}
 use Rattle.fluid_containers.specs.declared.loading.Loaded.{Loaded}
 use Rattle.fluid_containers.specs.declared.loading.Loaded.TheVariants as load
+use Rattle.fluid_roamers.specs.Roaming.{IsRoamerOf}
+use Rattle.fluid_roamers.specs.Stepping.{StepDoes as RoamerDoes, RoamDoes, IsNamedIn, IsSendableIf}
+use Rattle.fluid_roamers.specs.Taking.{IsSendable}
+use Rattle.fluid_roamers.specs.declared.roamer.Roamer.{Roamer}
 use Rattle.fluid_world.specs.declared.named.Named.{Named}
 use Rattle.fluid_world.specs.declared.named.Named.TheVariants as a
-use Rattle.fluid_world.specs.Naming.{new_refusal, refusal_by, named_for, AreCounted}
+use Rattle.fluid_world.specs.Naming.{new_refusal, container_refusal, roamer_refusal, shown_refusal, is_lost, refused_if_other, lost_refusal, refusal_by, named_for, named_by, IsBounded, AreBounded}
 use Rattle.fluid_world.specs.Standing.{IsNamed, WorldStands, StepTakes, IsWrittenOf}
 use Rattle.fluid_world.proofs.Behind.{same_refusal, OwnNamed, OthersStay, named_behind, sound_behind}
 
@@ -60,10 +64,12 @@ module _ (w : World) where
   pub voice_there : (n : Option Named) (m : Option Name) (v : VoiceState) → n ≡ Some (a.Connection v) → IsNamed w n m → m ≡ Some (connection v)
   voice_there None m v is named = absurd (cc)
   voice_there (Some (a.Container h)) m v is named = absurd (cc)
+  voice_there (Some (a.Roamer h)) m v is named = absurd (cc)
   voice_there (Some a.Used) m v is named = absurd (cc)
   voice_there (Some (a.Connection s)) None v is named = absurd named
   voice_there (Some (a.Connection s)) (Some (connection t)) v is named = let same : s ≡ v = cc in ap (λ x. Some (connection x)) (sym named ∙ same)
   voice_there (Some (a.Connection s)) (Some (container k)) v is named = absurd named
+  voice_there (Some (a.Connection s)) (Some (roamer k)) v is named = absurd named
   voice_there (Some (a.Connection s)) (Some used_up) v is named = absurd named
 
   pub none_there : (n : Option Named) (m : Option Name) → n ≡ None → IsNamed w n m → m ≡ None
@@ -75,11 +81,25 @@ module _ (w : World) where
   pub holder_there : (n : Option Named) (m : Option Name) (h : Holder) → n ≡ Some (a.Container h) → IsNamed w n m → (k : Container) × ((m ≡ Some (container k)) × IsHolderOf w h k)
   holder_there None m h is named = absurd (cc)
   holder_there (Some (a.Connection s)) m h is named = absurd (cc)
+  holder_there (Some (a.Roamer g)) m h is named = absurd (cc)
   holder_there (Some a.Used) m h is named = absurd (cc)
   holder_there (Some (a.Container g)) None h is named = absurd named
   holder_there (Some (a.Container g)) (Some (connection t)) h is named = absurd named
   holder_there (Some (a.Container g)) (Some (container k)) h is named = let same : g ≡ h = cc in (k, (refl, subst (λ x. IsHolderOf w x k) same named))
+  holder_there (Some (a.Container g)) (Some (roamer k)) h is named = absurd named
   holder_there (Some (a.Container g)) (Some used_up) h is named = absurd named
+
+  -- and a roamer
+  pub roamer_there : (n : Option Named) (m : Option Name) (h : Roamer) → n ≡ Some (a.Roamer h) → IsNamed w n m → (k : ARoamer) × ((m ≡ Some (roamer k)) × IsRoamerOf w h k)
+  roamer_there None m h is named = absurd (cc)
+  roamer_there (Some (a.Connection s)) m h is named = absurd (cc)
+  roamer_there (Some (a.Container g)) m h is named = absurd (cc)
+  roamer_there (Some a.Used) m h is named = absurd (cc)
+  roamer_there (Some (a.Roamer g)) None h is named = absurd named
+  roamer_there (Some (a.Roamer g)) (Some (connection t)) h is named = absurd named
+  roamer_there (Some (a.Roamer g)) (Some (container k)) h is named = absurd named
+  roamer_there (Some (a.Roamer g)) (Some (roamer k)) h is named = let same : g ≡ h = cc in (k, (refl, subst (λ x. IsRoamerOf w x k) same named))
+  roamer_there (Some (a.Roamer g)) (Some used_up) h is named = absurd named
 
   sound_voice : (m : Option Name) (v : VoiceState) → m ≡ Some (connection v) → IfSome m (IsSoundName w) → IsSoundVoice w v
   sound_voice m v is sound = subst (λ n. IfSome n (IsSoundName w)) is sound
@@ -89,7 +109,51 @@ pub new_none : (n : Option Named) → new_refusal n ≡ None → n ≡ None
 new_none None is = refl
 new_none (Some n) is = absurd (cc)
 
--- an edit that isn't refused has a container's name, and JSON
+-- a roamer that may be lost, or come back, has a roamer's name
+pub one_roamer : (wanted : Bool) (n : Option Named) → lost_refusal wanted n ≡ None → roamer_refusal n ≡ None
+one_roamer wanted None is = is
+one_roamer wanted (Some (a.Connection v)) is = is
+one_roamer wanted (Some (a.Container h)) is = is
+one_roamer wanted (Some (a.Roamer h)) is = refl
+one_roamer wanted (Some a.Used) is = is
+
+lost_unless : (b : Bool) → refused_if_other true b ≡ None → b ≡ true
+lost_unless true is = refl
+lost_unless false is = absurd (cc)
+
+pub lost_then : (n : Option Named) (h : Roamer) → lost_refusal true n ≡ None → n ≡ Some (a.Roamer h) → is_lost h ≡ true
+lost_then n h is there = lost_unless (is_lost h) (ap (lost_refusal true) (sym there) ∙ is)
+
+-- what is shown is a roamer's or a container's
+pub roamer_shown : (n : Option Named) → roamer_refusal n ≡ None → shown_refusal n ≡ None
+roamer_shown None is = is
+roamer_shown (Some (a.Connection v)) is = is
+roamer_shown (Some (a.Container h)) is = refl
+roamer_shown (Some (a.Roamer h)) is = refl
+roamer_shown (Some a.Used) is = is
+
+pub holder_shown : (n : Option Named) → container_refusal n ≡ None → shown_refusal n ≡ None
+holder_shown None is = is
+holder_shown (Some (a.Connection v)) is = is
+holder_shown (Some (a.Container h)) is = refl
+holder_shown (Some (a.Roamer h)) is = refl
+holder_shown (Some a.Used) is = is
+
+pub shows_roamer : (n : Option Named) → not (is_some (roamer_refusal n)) ≡ true → roamer_refusal n ≡ None
+shows_roamer None is = absurd (cc)
+shows_roamer (Some (a.Connection v)) is = absurd (cc)
+shows_roamer (Some (a.Container h)) is = absurd (cc)
+shows_roamer (Some (a.Roamer h)) is = refl
+shows_roamer (Some a.Used) is = absurd (cc)
+
+pub shows_holder : (n : Option Named) → shown_refusal n ≡ None → not (is_some (roamer_refusal n)) ≡ false → container_refusal n ≡ None
+shows_holder None shown is = shown
+shows_holder (Some (a.Connection v)) shown is = shown
+shows_holder (Some (a.Container h)) shown is = refl
+shows_holder (Some (a.Roamer h)) shown is = absurd (cc)
+shows_holder (Some a.Used) shown is = shown
+
+-- an edit that isn't refused has a fitting name, and JSON
 pub edit_name : (op : Result AnEdit JsonFault) (why : Option LineWhy) → refusal_of_edit op why ≡ None → why ≡ None
 edit_name op None is = refl
 edit_name op (Some why) is = absurd (cc)
@@ -235,15 +299,57 @@ module _ (limits : Limits) (w : World) (step : Step) (old : Opened) (store : Sto
   }
   load_takes p given l new now line (Err stop) own stay there did is = wanting new stop is
 
--- ---- how often containers have submitted
+  -- ---- of roamers
 
-counted_by : (names : Values Named) (own : List ℕ) (n : Named) (most : ℕ) → AreCounted most names → ((h : Holder) → n ≡ a.Container h → h.container.last ≤ most + 1)
-    → (given : Values Named) → ((q : List ℕ) → get given q ≡ cond (bytes_eq q own) (Some n) (get names q)) → AreCounted (most + 1) given
-counted_by names own n most few its given is q h there = by (bytes_eq q own) (sym (is q) ∙ there)
+  roamer_so : (r : List ℕ) (given : Values Named) (h : Roamer) → get given r ≡ Some (a.Roamer h) → (k : ARoamer) → get told.world.names r ≡ Some (roamer k) → IsRoamerOf told.world h k
+      → IsNamed told.world (get given r) (get told.world.names r)
+  roamer_so r given h there k name is =
+      subst (λ n. IsNamed told.world n (get told.world.names r)) (sym there) (subst (IsNamed told.world (Some (a.Roamer h))) (sym name) is)
+
+  pub roamer_takes : (r : List ℕ) (given : Values Named) (h : Roamer) (new : Opened) (line result : Result (List ℕ) Stop) → own_name step ≡ Some r → PutsNone step → StepsKeepStore
+      → OthersStay names given (Some r) → get given r ≡ Some (a.Roamer h) → RoamerDoes told r new h line → IsWrittenOf line result → StepTakes told new store given result
+  roamer_takes r given h new (Ok line) (Ok bytes) own puts keep stay there did is = record {
+    stands =
+        stands_behind new store given did.stands (stands.held ∙ ap Some (sym (keep limits w step puts))) (subst (OthersStay names given) (sym own) stay)
+        (subst (OwnNamed told.world given) (sym own) (roamer_so r given h there did.now did.name did.roams));
+    says = says_one line bytes did.says is;
+  }
+  roamer_takes r given h new (Ok line) (Err stop) own puts keep stay there did is = wanting new stop is
+  roamer_takes r given h new (Err stop) (Ok bytes) own puts keep stay there did is = absurd is
+  roamer_takes r given h new (Err stop) (Err same) own puts keep stay there did is = subst (MayStop told.world new) (sym is) did
+
+  roamed_so : (r : List ℕ) (given : Values Named) (made : Option Roamer) → get given r ≡ Some (named_by made) → IsNamedIn told.world r made → IsNamed told.world (get given r) (get told.world.names r)
+  roamed_so r given (Some h) there (k, (name, is)) = roamer_so r given h there k name is
+  roamed_so r given None there is = used_so r given there is
+
+  pub roam_takes : (r : List ℕ) (given : Values Named) (made : Option Roamer) (new : Opened) (line : List ℕ) (result : Result (List ℕ) Stop) → own_name step ≡ Some r → PutsNone step → StepsKeepStore
+      → OthersStay names given (Some r) → get given r ≡ Some (named_by made) → RoamDoes told r new (Ok (line, made)) → IsWrittenOf (Ok line) result → StepTakes told new store given result
+  roam_takes r given made new line (Ok bytes) own puts keep stay there did is = record {
+    stands =
+        stands_behind new store given did.stands (stands.held ∙ ap Some (sym (keep limits w step puts))) (subst (OthersStay names given) (sym own) stay)
+        (subst (OwnNamed told.world given) (sym own) (roamed_so r given made there did.name));
+    says = says_one line bytes did.says is;
+  }
+  roam_takes r given made new line (Err stop) own puts keep stay there did is = wanting new stop is
+
+-- ---- bounds
+
+bound_grows : (n m : ℕ) (named : Named) → n ≤ m → IsBounded n named → IsBounded m named
+bound_grows n m (a.Connection voice) le is = tt
+bound_grows n m (a.Container holder) le is = omega (arith, le, is)
+bound_grows n m (a.Roamer h) le is = is
+bound_grows n m a.Used le is = tt
+
+pub bounded_more : (n m : ℕ) (names : Values Named) → n ≤ m → AreBounded n names → AreBounded m names
+bounded_more n m names le few q named there = bound_grows n m named le (few q named there)
+
+bounded_by : (names : Values Named) (own : List ℕ) (n : Named) (most : ℕ) → AreBounded most names → IsBounded (most + 1) n
+    → (given : Values Named) → ((q : List ℕ) → get given q ≡ cond (bytes_eq q own) (Some n) (get names q)) → AreBounded (most + 1) given
+bounded_by names own n most few its given is q named there = by (bytes_eq q own) (sym (is q) ∙ there)
   where
-    by : (b : Bool) → cond b (Some n) (get names q) ≡ Some (a.Container h) → h.container.last ≤ most + 1
-    by true same = its h (let e : n ≡ a.Container h = cc in e)
-    by false same = omega (arith, few q h same)
+    by : (b : Bool) → cond b (Some n) (get names q) ≡ Some named → IsBounded (most + 1) named
+    by true same = let e : n ≡ named = cc in subst (IsBounded (most + 1)) e its
+    by false same = bound_grows most (most + 1) named (omega arith) (few q named same)
 
 put_twice : (names : Values Named) (own : List ℕ) (m n : Named) (q : List ℕ) → get (insert (insert names own m) own n) q ≡ cond (bytes_eq q own) (Some n) (get names q)
 put_twice names own m n q = get_inserted (insert names own m) own n q ∙ by (bytes_eq q own) refl
@@ -252,46 +358,57 @@ put_twice names own m n q = get_inserted (insert names own m) own n q ∙ by (by
     by true is = refl
     by false is = put_other names own m q is
 
-not_holder : (n : Named) → ((h : Holder) → n ≡ a.Container h → ⊥) → (most : ℕ) → (h : Holder) → n ≡ a.Container h → h.container.last ≤ most + 1
-not_holder n none most h is = absurd (none h is)
+given_bounded : (names : Values Named) (own : List ℕ) (n : Named) (most : ℕ) → IsBounded (most + 1) n → AreBounded most names → AreBounded (most + 1) (insert names own n)
+given_bounded names own n most its few = bounded_by names own n most few its (insert names own n) (get_inserted names own n)
 
-voice_no_holder : (v : VoiceState) (h : Holder) → a.Connection v ≡ a.Container h → ⊥
-voice_no_holder v h is = cc
+put_bounded : (names : Values Named) (own : List ℕ) (n : Named) (most : ℕ) → IsBounded (most + 1) n → AreBounded most names → AreBounded (most + 1) (insert (insert names own a.Used) own n)
+put_bounded names own n most its few = bounded_by names own n most few its (insert (insert names own a.Used) own n) (put_twice names own a.Used n)
 
-used_no_holder : (h : Holder) → a.Used ≡ a.Container h → ⊥
-used_no_holder h is = cc
+pub voice_counted : (names : Values Named) (own : List ℕ) (v : VoiceState) (most : ℕ) → AreBounded most names → AreBounded (most + 1) (insert names own (a.Connection v))
+voice_counted names own v most few = given_bounded names own (a.Connection v) most tt few
 
-same_holder : (g h : Holder) → a.Container g ≡ a.Container h → g ≡ h
-same_holder g h is = cc
+pub voice_put_counted : (names : Values Named) (own : List ℕ) (v : VoiceState) (most : ℕ) → AreBounded most names → AreBounded (most + 1) (insert (insert names own a.Used) own (a.Connection v))
+voice_put_counted names own v most few = put_bounded names own (a.Connection v) most tt few
 
-pub voice_counted : (names : Values Named) (own : List ℕ) (v : VoiceState) (most : ℕ) → AreCounted most names → AreCounted (most + 1) (insert names own (a.Connection v))
-voice_counted names own v most few =
-    counted_by names own (a.Connection v) most few (not_holder (a.Connection v) (voice_no_holder v) most) (insert names own (a.Connection v)) (get_inserted names own (a.Connection v))
+pub used_counted : (names : Values Named) (own : List ℕ) (most : ℕ) → AreBounded most names → AreBounded (most + 1) (insert names own a.Used)
+used_counted names own most few = given_bounded names own a.Used most tt few
 
-pub voice_put_counted : (names : Values Named) (own : List ℕ) (v : VoiceState) (most : ℕ) → AreCounted most names → AreCounted (most + 1) (insert (insert names own a.Used) own (a.Connection v))
-voice_put_counted names own v most few =
-    counted_by names own (a.Connection v) most few (not_holder (a.Connection v) (voice_no_holder v) most) (insert (insert names own a.Used) own (a.Connection v)) (put_twice names own a.Used (a.Connection v))
+pub holder_counted : (names : Values Named) (own : List ℕ) (g h : Holder) (most : ℕ) → get names own ≡ Some (a.Container g) → h.container.last ≤ g.container.last + 1 → AreBounded most names
+    → AreBounded (most + 1) (insert (insert names own a.Used) own (a.Container h))
+holder_counted names own g h most there more few = put_bounded names own (a.Container h) most (omega (arith, more, few own (a.Container g) there)) few
 
-pub used_counted : (names : Values Named) (own : List ℕ) (most : ℕ) → AreCounted most names → AreCounted (most + 1) (insert names own a.Used)
-used_counted names own most few = counted_by names own a.Used most few (not_holder a.Used used_no_holder most) (insert names own a.Used) (get_inserted names own a.Used)
-
-pub holder_counted : (names : Values Named) (own : List ℕ) (g h : Holder) (most : ℕ) → get names own ≡ Some (a.Container g) → h.container.last ≤ g.container.last + 1 → AreCounted most names
-    → AreCounted (most + 1) (insert (insert names own a.Used) own (a.Container h))
-holder_counted names own g h most there more few =
-    counted_by names own (a.Container h) most few (λ x is. subst (λ y. y.container.last ≤ most + 1) (same_holder h x is) (omega (arith, more, few own g there)))
-    (insert (insert names own a.Used) own (a.Container h)) (put_twice names own a.Used (a.Container h))
-
-pub loaded_counted : (names : Values Named) (own : List ℕ) (l : Loaded) (most : ℕ) → IsFresh l → AreCounted most names → AreCounted (most + 1) (insert names own (named_for l))
-loaded_counted names own l most fresh few = counted_by names own (named_for l) most few (by l fresh) (insert names own (named_for l)) (get_inserted names own (named_for l))
+pub loaded_counted : (names : Values Named) (own : List ℕ) (l : Loaded) (most : ℕ) → IsFresh l → AreBounded most names → AreBounded (most + 1) (insert names own (named_for l))
+loaded_counted names own l most fresh few = given_bounded names own (named_for l) most (by l fresh) few
   where
-    by : (l : Loaded) → IsFresh l → (h : Holder) → named_for l ≡ a.Container h → h.container.last ≤ most + 1
-    by (load.Held g) fresh h is = subst (λ y. y.container.last ≤ most + 1) (same_holder g h is) (omega (arith, fresh))
-    by (load.TurnedAway refusal) fresh h is = absurd (used_no_holder h is)
-    by load.NoSummary fresh h is = absurd (used_no_holder h is)
-    by (load.BadSummary path) fresh h is = absurd (used_no_holder h is)
+    by : (l : Loaded) → IsFresh l → IsBounded (most + 1) (named_for l)
+    by (load.Held g) fresh = omega (arith, fresh)
+    by (load.TurnedAway refusal) fresh = tt
+    by load.NoSummary fresh = tt
+    by (load.BadSummary path) fresh = tt
 
-pub same_counted : (names : Values Named) (most : ℕ) → AreCounted most names → AreCounted (most + 1) names
-same_counted names most few q h there = omega (arith, few q h there)
+pub roamer_bounded : (names : Values Named) (own : List ℕ) (h : Roamer) (most : ℕ) → IsSendable h.outbox → AreBounded most names → AreBounded (most + 1) (insert (insert names own a.Used) own (a.Roamer h))
+roamer_bounded names own h most kept few = put_bounded names own (a.Roamer h) most kept few
+
+pub roamed_bounded : (names : Values Named) (own : List ℕ) (made : Option Roamer) (most : ℕ) → IsSendableIf made → AreBounded most names → AreBounded (most + 1) (insert names own (named_by made))
+roamed_bounded names own made most kept few = given_bounded names own (named_by made) most (by made kept) few
+  where
+    by : (made : Option Roamer) → IsSendableIf made → IsBounded (most + 1) (named_by made)
+    by (Some h) kept = kept
+    by None kept = tt
+
+pub same_counted : (names : Values Named) (most : ℕ) → AreBounded most names → AreBounded (most + 1) names
+same_counted names most few = bounded_more most (most + 1) names (omega arith) few
+
+-- what a roamer of a name has to send fits a record
+pub kept_of : (names : Values Named) (own : List ℕ) (h : Roamer) → get names own ≡ Some (a.Roamer h) → (n : ℕ) × (AreBounded n names × (n < largest)) → IsSendable h.outbox
+kept_of names own h there (n, (few, less)) = few own (a.Roamer h) there
+
+-- what holds where the line is there holds where its bytes are
+pub kept_ok : {K P : Type 0} (line result : Result (List ℕ) Stop) → IsWrittenOf line result → OnOk line K → (K → P) → OnOk result P
+kept_ok (Ok text) (Ok bytes) is kept f = f kept
+kept_ok (Ok text) (Err stop) is kept f = tt
+kept_ok (Err stop) (Ok bytes) is kept f = absurd is
+kept_ok (Err stop) (Err same) is kept f = tt
 
 -- where a step answers Ok, whatever that is
 pub counted_ok : {A E : Type 0} {P : Type 0} (result : Result A E) → P → OnOk result P
@@ -303,5 +420,5 @@ pub there_put : (names given : Values Named) (own : List ℕ) (n : Named) → gi
 there_put names given own n is = subst (λ o. is_some o ≡ true) (sym (ap (λ t. get t own) is ∙ get_own names own n)) refl
 
 -- its container has a number left
-pub few_last : (names : Values Named) (own : List ℕ) (h : Holder) → get names own ≡ Some (a.Container h) → (n : ℕ) × (AreCounted n names × (n < largest)) → h.container.last < largest
-few_last names own h there (n, (few, less)) = omega (arith, few own h there, less)
+pub few_last : (names : Values Named) (own : List ℕ) (h : Holder) → get names own ≡ Some (a.Container h) → (n : ℕ) × (AreBounded n names × (n < largest)) → h.container.last < largest
+few_last names own h there (n, (few, less)) = omega (arith, few own (a.Container h) there, less)

@@ -17,7 +17,7 @@ use Rattle.fluid_lanes.specs.Opened.{Opened}
 use Rattle.fluid_steps.specs.Grammar.{step_spelled}
 use Rattle.fluid_steps.specs.declared.steps.Step.{Step}
 use Rattle.fluid_steps.specs.declared.refusal.LineWhy.{LineWhy}
-use Rattle.fluid_transcript.specs.World.{Name, connection, container, used_up, World, Told}
+use Rattle.fluid_transcript.specs.World.{Name, connection, container, roamer, used_up, World, Told}
 use Rattle.fluid_transcript.specs.Steps.{refusal}
 use Rattle.fluid_transcript.specs.Transcript.{at_line, behind, done, done_as, refused_as, taken, text_refusal, written}
 use Rattle.fluid_transcript.specs.Laws.{WorldGrows, TranscriptGrows}
@@ -38,10 +38,11 @@ use Rattle.fluid_holding.specs.Laws.{OwnedStaysOwned}
 use Rattle.fluid_world.specs.declared.halted.Halted.{Halted}
 use Rattle.fluid_world.specs.declared.named.Named.{Named}
 use Rattle.fluid_world.specs.declared.named.Named.TheVariants as a
-use Rattle.fluid_world.specs.Naming.{AreCounted, refusal_by}
+use Rattle.fluid_world.specs.Naming.{AreBounded, refusal_by}
 use Rattle.fluid_world.specs.Standing.{IsNamed, WorldStands, StepTakes}
 use Rattle.fluid_world.specs.Taking.{Scripting, means, ScriptStands, MayEnd, StoppedBehind, LeavesOwn, StandsBehind, MayStand, IsWithin, RanTo, StoodTo, Goes, FollowsBy, Follows, spoken, Moves, Wrote, WritesBy, TookLine, TakesBy, HasStopped, HaltsBy}
 use Rattle.fluid_world.proofs.Behind.{same_refusal}
+use Rattle.fluid_world.proofs.Stepped.{bounded_more}
 
 -- ---- at a line
 
@@ -51,14 +52,22 @@ named_at w None (Some m) h = absurd h
 named_at w (Some (a.Connection v)) None h = absurd h
 named_at w (Some (a.Connection v)) (Some (connection s)) h = h
 named_at w (Some (a.Connection v)) (Some (container k)) h = absurd h
+named_at w (Some (a.Connection v)) (Some (roamer k)) h = absurd h
 named_at w (Some (a.Connection v)) (Some used_up) h = absurd h
 named_at w (Some (a.Container g)) None h = absurd h
 named_at w (Some (a.Container g)) (Some (connection s)) h = absurd h
 named_at w (Some (a.Container g)) (Some (container k)) h = h
+named_at w (Some (a.Container g)) (Some (roamer k)) h = absurd h
 named_at w (Some (a.Container g)) (Some used_up) h = absurd h
+named_at w (Some (a.Roamer g)) None h = absurd h
+named_at w (Some (a.Roamer g)) (Some (connection s)) h = absurd h
+named_at w (Some (a.Roamer g)) (Some (container k)) h = absurd h
+named_at w (Some (a.Roamer g)) (Some (roamer k)) h = h
+named_at w (Some (a.Roamer g)) (Some used_up) h = absurd h
 named_at w (Some a.Used) None h = absurd h
 named_at w (Some a.Used) (Some (connection s)) h = absurd h
 named_at w (Some a.Used) (Some (container k)) h = absurd h
+named_at w (Some a.Used) (Some (roamer k)) h = absurd h
 named_at w (Some a.Used) (Some used_up) h = h
 
 pub desk_at : (o : Opened) (w : World) → DeskStands o w → DeskStands o (at_line w)
@@ -74,13 +83,10 @@ stands_at o store names w h = record {
 
 -- ---- within
 
-counted_more : (n m : ℕ) (names : Values Named) → n ≤ m → AreCounted n names → AreCounted m names
-counted_more n m names le few q h there = omega (arith, le, few q h there)
-
 pub most_within : (s : Scripting) → IsWithinMost (λ n. IsWithin n s) → IsWithin MOST_LINES s
 most_within s h = record {
   lines = omega (arith, h.within.lines, h.few);
-  numbers = counted_more h.taken MOST_LINES s.names h.few h.within.numbers;
+  numbers = bounded_more h.taken MOST_LINES s.names h.few h.within.numbers;
   going = h.within.going;
   stands = h.within.stands;
 }
@@ -181,7 +187,7 @@ module _ (step : Step) (old mid : Scripting) (ow nw : List ℕ) (accepted : refu
   takes_err stop within writes runs w stands =
       may_end (done old.lanes.limits (at_line w) step).world mid.lanes (old.lines + 1) stop (omega (arith, within.lines)) (runs 0 stands.run).few (moment_behind step old accepted w stands old.lanes.limits) (writes w stands)
 
-  pub within_ok : (moment n : ℕ) → moment ≡ old.lines + 1 → IsWithin n old → AreCounted (n + 1) mid.names → Writing old mid step ow nw (Ok tt) → Running old mid (Ok tt) → IsWithin (n + 1) (behind_ok moment)
+  pub within_ok : (moment n : ℕ) → moment ≡ old.lines + 1 → IsWithin n old → AreBounded (n + 1) mid.names → Writing old mid step ow nw (Ok tt) → Running old mid (Ok tt) → IsWithin (n + 1) (behind_ok moment)
   within_ok moment n is within counted writes runs = record {
     lines = omega (arith, is, within.lines);
     numbers = counted;
@@ -212,7 +218,7 @@ may_step s may good = by (may good)
     by : (w : World) × ScriptStands s w → (w : World) × DeskStands s.lanes w
     by (w, h) = (w, h.stands.desk)
 
-pub few_steps : (s : Scripting) → IsWithin MOST_LINES s → (n : ℕ) × (AreCounted n s.names × (n < largest))
+pub few_steps : (s : Scripting) → IsWithin MOST_LINES s → (n : ℕ) × (AreBounded n s.names × (n < largest))
 few_steps s h = (MOST_LINES, (h.numbers, omega arith))
 
 -- want of memory for what a step writes
@@ -292,7 +298,7 @@ goes_passed s within = record {
 pub within_passed : (s : Scripting) (n : ℕ) → IsWithin n s → IsWithin (n + 1) (passed s)
 within_passed s n h = record {
   lines = omega (arith, h.lines);
-  numbers = counted_more n (n + 1) s.names (omega arith) h.numbers;
+  numbers = bounded_more n (n + 1) s.names (omega arith) h.numbers;
   going = h.going;
   stands = λ good. by (h.stands good);
 }

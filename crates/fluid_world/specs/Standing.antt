@@ -4,7 +4,7 @@ use Rattle.std.specs.FinMap.{get}
 use Rattle.fluid_table.specs.Table.{Values}
 use Rattle.fluid_store.specs.Storing.{Storing}
 use Rattle.fluid_lanes.specs.Opened.{Opened}
-use Rattle.fluid_transcript.specs.World.{Name, connection, container, used_up, World, Told}
+use Rattle.fluid_transcript.specs.World.{Name, connection, container, roamer, used_up, World, Told}
 use Rattle.fluid_transcript.specs.Transcript.{written}
 use Rattle.fluid_transcript.specs.Sound.{IsSound}
 use Rattle.fluid_desk.specs.declared.stop.Stop.{Stop}
@@ -12,6 +12,7 @@ use Rattle.fluid_desk.specs.declared.stop.Stop.TheVariants.{NoMemory}
 use Rattle.fluid_desk.specs.Stands.{DeskStands, StoreStands}
 use Rattle.fluid_desk.specs.Stopping.{MayStop}
 use Rattle.fluid_containers.specs.Holders.{IsHolderOf}
+use Rattle.fluid_roamers.specs.Roaming.{IsRoamerOf}
 use Rattle.fluid_world.specs.declared.named.Named.{Named}
 use Rattle.fluid_world.specs.declared.named.Named.TheVariants as a
 
@@ -20,6 +21,7 @@ abbrev pub IsNamed : World → Option Named → Option Name → Type 0
 IsNamed w None None = ⊤
 IsNamed w (Some (a.Connection voice)) (Some (connection state)) = voice ≡ state
 IsNamed w (Some (a.Container holder)) (Some (container k)) = IsHolderOf w holder k
+IsNamed w (Some (a.Roamer h)) (Some (roamer k)) = IsRoamerOf w h k
 IsNamed w (Some a.Used) (Some used_up) = ⊤
 IsNamed w named other = ⊥
 

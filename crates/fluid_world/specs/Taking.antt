@@ -27,7 +27,7 @@ use Rattle.fluid_containers.specs.Ending.{StopsForLinking}
 use Rattle.fluid_world.specs.declared.halted.Halted.{Halted}
 use Rattle.fluid_world.specs.declared.named.Named.{Named}
 use Rattle.fluid_world.specs.contracts.named.Named as named
-use Rattle.fluid_world.specs.Naming.{AreCounted}
+use Rattle.fluid_world.specs.Naming.{AreBounded}
 use Rattle.fluid_world.specs.Standing.{WorldStands}
 
 -- the open documents, the store, what names stand for, how many lines were read, whether the lines of steps are written, whether all
@@ -105,7 +105,7 @@ MayStand s = s.good ≡ true → (w : World) × ScriptStands s w
 -- at most so many lines were taken, and no step ended it
 pub record IsWithin (n : ℕ) (s : Scripting) : Type 0 where
   pub lines : s.lines ≤ n
-  pub numbers : AreCounted n s.names
+  pub numbers : AreBounded n s.names
   pub going : s.stop ≡ None
   pub stands : MayStand s
 

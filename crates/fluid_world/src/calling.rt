@@ -8,7 +8,7 @@ ghost use Rattle.fluid_transcript.specs.World.{World};
 ghost use Rattle.fluid_transcript.specs.Transcript.{done};
 ghost use Rattle.fluid_desk.specs.Stopping.{HasRun};
 ghost use Rattle.fluid_containers.specs.Ending.{RunsLinking};
-ghost use Rattle.fluid_world.specs.Naming.{AreCounted, connection_refusal, sender_refusal};
+ghost use Rattle.fluid_world.specs.Naming.{AreBounded, connection_refusal, sender_refusal};
 ghost use Rattle.fluid_world.specs.Standing.{WorldStands, StepTakes};
 
 use crate::lines::one;
@@ -47,7 +47,7 @@ where
     ensures runs { (first steps : ℕ) → HasRun first steps lanes.old → RunsLinking first (steps + 1) objects.old objects.new lanes.new result }
     ensures limits { lanes.new.limits ≡ lanes.old.limits }
     ensures counts { objects.old.faults ≤ objects.new.faults }
-    ensures numbers { OnOk result ((n : ℕ) → AreCounted n names.old.table.values → AreCounted (n + 1) names.new.table.values) }
+    ensures numbers { OnOk result ((n : ℕ) → AreBounded n names.old.table.values → AreBounded (n + 1) names.new.table.values) }
 {
     if names.is_given(&name) {
         return send_again(alloc, lanes, objects, names, &name, text, moment);
@@ -77,7 +77,7 @@ where
     ensures runs { (first steps : ℕ) → HasRun first steps lanes.old → RunsLinking first (steps + 1) objects.old objects.new lanes.new result }
     ensures limits { lanes.new.limits ≡ lanes.old.limits }
     ensures counts { objects.old.faults ≤ objects.new.faults }
-    ensures numbers { OnOk result ((n : ℕ) → AreCounted n names.old.table.values → AreCounted (n + 1) names.new.table.values) }
+    ensures numbers { OnOk result ((n : ℕ) → AreBounded n names.old.table.values → AreBounded (n + 1) names.new.table.values) }
 {
     // (a law, and no work: its clause is for the proof)
     steps_leave_others();
@@ -109,7 +109,7 @@ where
     ensures runs { (first steps : ℕ) → HasRun first steps lanes.old → RunsLinking first (steps + 1) objects.old objects.new lanes.new result }
     ensures limits { lanes.new.limits ≡ lanes.old.limits }
     ensures counts { objects.old.faults ≤ objects.new.faults }
-    ensures numbers { OnOk result ((n : ℕ) → AreCounted n names.old.table.values → AreCounted (n + 1) names.new.table.values) }
+    ensures numbers { OnOk result ((n : ℕ) → AreBounded n names.old.table.values → AreBounded (n + 1) names.new.table.values) }
 {
     steps_leave_others();
     others_leave_containers();
@@ -137,7 +137,7 @@ where
         StepTakes (done lanes.old.limits w (step.Collect name.now)) lanes.new _objects.now names.new.table.values result }
     ensures runs { (first steps : ℕ) → HasRun first steps lanes.old → RunsLinking first (steps + 1) _objects.now _objects.now lanes.new result }
     ensures limits { lanes.new.limits ≡ lanes.old.limits }
-    ensures numbers { OnOk result ((n : ℕ) → AreCounted n names.old.table.values → AreCounted (n + 1) names.new.table.values) }
+    ensures numbers { OnOk result ((n : ℕ) → AreBounded n names.old.table.values → AreBounded (n + 1) names.new.table.values) }
 {
     steps_leave_others();
     others_leave_containers();
@@ -165,7 +165,7 @@ where
         StepTakes (done lanes.old.limits w (step.Close name.now)) lanes.new _objects.now names.new.table.values result }
     ensures runs { (first steps : ℕ) → HasRun first steps lanes.old → RunsLinking first (steps + 1) _objects.now _objects.now lanes.new result }
     ensures limits { lanes.new.limits ≡ lanes.old.limits }
-    ensures numbers { OnOk result ((n : ℕ) → AreCounted n names.old.table.values → AreCounted (n + 1) names.new.table.values) }
+    ensures numbers { OnOk result ((n : ℕ) → AreBounded n names.old.table.values → AreBounded (n + 1) names.new.table.values) }
 {
     steps_leave_others();
     others_leave_containers();

@@ -9,13 +9,14 @@ ghost use Rattle.fluid_desk.specs.Stopping.{HasRun};
 ghost use Rattle.fluid_holding.specs.Holding.{HoldsOwn};
 ghost use Rattle.fluid_containers.specs.Ending.{RunsLinking};
 ghost use Rattle.fluid_containers.specs.Stepping.{MayStand};
-ghost use Rattle.fluid_world.specs.Naming.{AreCounted, IsShortStep, refusal_by};
+ghost use Rattle.fluid_world.specs.Naming.{AreBounded, IsShortStep, refusal_by};
 ghost use Rattle.fluid_world.specs.Standing.{WorldStands, StepTakes};
 
 use crate::calling::{close_as, collect_as, send_as};
-use crate::holding::{beat_as, edit_as, load_as, pump_as, show_as, summarize_as};
+use crate::holding::{beat_as, edit_as, load_as, pump_as, summarize_as};
 use crate::lines::one;
 use crate::names::Names;
+use crate::roaming::{acked_as, back_as, lose_as, roam_as, say_as, show_named};
 use fluid_beside::steps_leave_others;
 use fluid_callers::{Written, tasks};
 use fluid_desk::{Stop, checkpoint, count, reopen, restart, scribe, sweep};
@@ -50,7 +51,12 @@ pub fn refusal(names: &Names, step: &Step) -> Option<LineWhy>
         Step::Edit(name, op) => refusal_of_edit(op, names.refusal_as_container(name)),
         Step::Beat(name) => names.refusal_as_container(name),
         Step::Summarize(name) => names.refusal_as_container(name),
-        Step::Show(name) => names.refusal_as_container(name),
+        Step::Show(name) => names.refusal_to_show(name),
+        Step::Roam(name, _) => names.refusal_as_new(name),
+        Step::Say(name, op) => refusal_of_edit(op, names.refusal_as_roamer(name)),
+        Step::Lose(name) => names.refusal_as_lost(name, false),
+        Step::Back(name) => names.refusal_as_lost(name, true),
+        Step::Acked(name) => names.refusal_as_roamer(name),
     }
 }
 
@@ -84,13 +90,13 @@ where
     requires stands { MayStand good lanes.old }
     requires accepted { refusal_by names.old.table.values step ≡ None }
     requires short { IsShortStep step }
-    requires few { (n : ℕ) × (AreCounted n names.old.table.values × (n < largest)) }
+    requires few { (n : ℕ) × (AreBounded n names.old.table.values × (n < largest)) }
     ensures does { (w : World) → good ≡ true → WorldStands lanes.old objects.old names.old.table.values w → HoldsOwn w.store → w.moment ≡ moment →
         StepTakes (done lanes.old.limits w step) lanes.new objects.new names.new.table.values result }
     ensures runs { (first steps : ℕ) → HasRun first steps lanes.old → RunsLinking first (steps + 1) objects.old objects.new lanes.new result }
     ensures limits { lanes.new.limits ≡ lanes.old.limits }
     ensures counts { objects.old.faults ≤ objects.new.faults }
-    ensures numbers { OnOk result ((n : ℕ) → AreCounted n names.old.table.values → AreCounted (n + 1) names.new.table.values) }
+    ensures numbers { OnOk result ((n : ℕ) → AreBounded n names.old.table.values → AreBounded (n + 1) names.new.table.values) }
 {
     // (a law, and no work: its clause is for the proof)
     steps_leave_others();
@@ -119,6 +125,13 @@ where
         },
         Step::Beat(name) => beat_as(alloc, lanes, objects, names, &name, moment),
         Step::Summarize(name) => summarize_as(alloc, lanes, objects, names, &name, moment),
-        Step::Show(name) => show_as(alloc, lanes, objects, names, &name, moment),
+        Step::Show(name) => show_named(alloc, lanes, objects, names, &name, moment),
+        Step::Roam(name, document) => {
+            roam_as(alloc, lanes, objects, names, name, &document, moment)
+        }
+        Step::Say(name, op) => say_as(alloc, lanes, objects, names, &name, op, moment),
+        Step::Lose(name) => lose_as(alloc, lanes, objects, names, &name, moment),
+        Step::Back(name) => back_as(alloc, lanes, objects, names, &name, moment),
+        Step::Acked(name) => acked_as(alloc, lanes, objects, names, &name, moment),
     }
 }

@@ -10,7 +10,7 @@ ghost use Rattle.fluid_desk.specs.Stopping.{HasRun};
 ghost use Rattle.fluid_holding.specs.Holding.{HoldsOwn};
 ghost use Rattle.fluid_containers.specs.Ending.{RunsLinking};
 ghost use Rattle.fluid_containers.specs.Stepping.{IsShort, MayStand};
-ghost use Rattle.fluid_world.specs.Naming.{AreCounted, container_refusal, named_for, new_refusal};
+ghost use Rattle.fluid_world.specs.Naming.{AreBounded, container_refusal, named_for, new_refusal};
 ghost use Rattle.fluid_world.specs.Standing.{WorldStands, StepTakes};
 
 use crate::lines::one;
@@ -52,7 +52,7 @@ where
     ensures runs { (first steps : ℕ) → HasRun first steps lanes.old → RunsLinking first (steps + 1) objects.old objects.new lanes.new result }
     ensures limits { lanes.new.limits ≡ lanes.old.limits }
     ensures counts { objects.old.faults ≤ objects.new.faults }
-    ensures numbers { OnOk result ((n : ℕ) → AreCounted n names.old.table.values → AreCounted (n + 1) names.new.table.values) }
+    ensures numbers { OnOk result ((n : ℕ) → AreBounded n names.old.table.values → AreBounded (n + 1) names.new.table.values) }
 {
     // (a law, and no work: its clause is for the proof)
     steps_leave_others();
@@ -96,7 +96,7 @@ where
     ensures runs { (first steps : ℕ) → HasRun first steps lanes.old → RunsLinking first (steps + 1) objects.old objects.new lanes.new result }
     ensures limits { lanes.new.limits ≡ lanes.old.limits }
     ensures counts { objects.old.faults ≤ objects.new.faults }
-    ensures numbers { OnOk result ((n : ℕ) → AreCounted n names.old.table.values → AreCounted (n + 1) names.new.table.values) }
+    ensures numbers { OnOk result ((n : ℕ) → AreBounded n names.old.table.values → AreBounded (n + 1) names.new.table.values) }
 {
     steps_leave_others();
     others_leave_containers();
@@ -124,13 +124,13 @@ where
     requires stands { MayStand good lanes.old }
     requires accepted { container_refusal (get names.old.table.values name.now) ≡ None }
     requires short { IsShort op }
-    requires few { (n : ℕ) × (AreCounted n names.old.table.values × (n < largest)) }
+    requires few { (n : ℕ) × (AreBounded n names.old.table.values × (n < largest)) }
     ensures does { (w : World) → good ≡ true → WorldStands lanes.old objects.old names.old.table.values w → w.moment ≡ moment →
         StepTakes (done lanes.old.limits w (step.Edit name.now (Ok op))) lanes.new objects.new names.new.table.values result }
     ensures runs { (first steps : ℕ) → HasRun first steps lanes.old → RunsLinking first (steps + 1) objects.old objects.new lanes.new result }
     ensures limits { lanes.new.limits ≡ lanes.old.limits }
     ensures counts { objects.old.faults ≤ objects.new.faults }
-    ensures numbers { OnOk result ((n : ℕ) → AreCounted n names.old.table.values → AreCounted (n + 1) names.new.table.values) }
+    ensures numbers { OnOk result ((n : ℕ) → AreBounded n names.old.table.values → AreBounded (n + 1) names.new.table.values) }
 {
     steps_leave_others();
     others_leave_containers();
@@ -156,13 +156,13 @@ where
     requires moment { moment ≤ most }
     requires stands { MayStand good lanes.old }
     requires accepted { container_refusal (get names.old.table.values name.now) ≡ None }
-    requires few { (n : ℕ) × (AreCounted n names.old.table.values × (n < largest)) }
+    requires few { (n : ℕ) × (AreBounded n names.old.table.values × (n < largest)) }
     ensures does { (w : World) → good ≡ true → WorldStands lanes.old objects.old names.old.table.values w → w.moment ≡ moment →
         StepTakes (done lanes.old.limits w (step.Beat name.now)) lanes.new objects.new names.new.table.values result }
     ensures runs { (first steps : ℕ) → HasRun first steps lanes.old → RunsLinking first (steps + 1) objects.old objects.new lanes.new result }
     ensures limits { lanes.new.limits ≡ lanes.old.limits }
     ensures counts { objects.old.faults ≤ objects.new.faults }
-    ensures numbers { OnOk result ((n : ℕ) → AreCounted n names.old.table.values → AreCounted (n + 1) names.new.table.values) }
+    ensures numbers { OnOk result ((n : ℕ) → AreBounded n names.old.table.values → AreBounded (n + 1) names.new.table.values) }
 {
     steps_leave_others();
     others_leave_containers();
@@ -188,13 +188,13 @@ where
     requires moment { moment ≤ most }
     requires stands { MayStand good lanes.old }
     requires accepted { container_refusal (get names.old.table.values name.now) ≡ None }
-    requires few { (n : ℕ) × (AreCounted n names.old.table.values × (n < largest)) }
+    requires few { (n : ℕ) × (AreBounded n names.old.table.values × (n < largest)) }
     ensures does { (w : World) → good ≡ true → WorldStands lanes.old objects.old names.old.table.values w → HoldsOwn w.store → w.moment ≡ moment →
         StepTakes (done lanes.old.limits w (step.Summarize name.now)) lanes.new objects.new names.new.table.values result }
     ensures runs { (first steps : ℕ) → HasRun first steps lanes.old → RunsLinking first (steps + 1) objects.old objects.new lanes.new result }
     ensures limits { lanes.new.limits ≡ lanes.old.limits }
     ensures counts { objects.old.faults ≤ objects.new.faults }
-    ensures numbers { OnOk result ((n : ℕ) → AreCounted n names.old.table.values → AreCounted (n + 1) names.new.table.values) }
+    ensures numbers { OnOk result ((n : ℕ) → AreBounded n names.old.table.values → AreBounded (n + 1) names.new.table.values) }
 {
     steps_leave_others();
     others_leave_containers();

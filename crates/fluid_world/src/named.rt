@@ -1,5 +1,6 @@
 //! What a name stands for.
 use fluid_containers::{Holder, Loaded};
+use fluid_roamers::Roamer;
 use fluid_steps::ScriptName;
 use fluid_table::Key;
 use fluid_voice::Voice;
@@ -9,6 +10,7 @@ use fluid_voice::Voice;
 pub enum Named {
     Connection(Voice),
     Container(Holder),
+    Roamer(Roamer),
     /// Nothing any more.
     Used,
 }

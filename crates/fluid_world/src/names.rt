@@ -1,12 +1,13 @@
 //! The names that were given in a script.
-ghost use Rattle.std.specs.Prelude.{◌≡◌, ◌≤◌, ◌<◌, IsSome, OnOk, None, Some, true, false};
+ghost use Rattle.std.specs.Prelude.{◌≡◌, ◌≤◌, ◌<◌, IsSome, OnOk, None, Some, true, false, not, is_some};
 ghost use Rattle.std.specs.FinMap.{empty, get, insert};
 ghost use Rattle.fluid_world.specs.declared.named.Named.TheVariants as a;
-ghost use Rattle.fluid_world.specs.Naming.{connection_refusal, container_refusal, new_refusal, sender_refusal};
+ghost use Rattle.fluid_world.specs.Naming.{connection_refusal, container_refusal, new_refusal, lost_refusal, refused_if_other, roamer_refusal, sender_refusal, shown_refusal};
 
 use crate::named::{NameKey, Named};
 use fluid_containers::Holder;
 use fluid_json::NoMemory;
+use fluid_roamers::Roamer;
 use fluid_steps::{LineWhy, ScriptName};
 use fluid_table::SortedMap;
 use fluid_voice::Voice;
@@ -36,6 +37,7 @@ impl Names {
             None => None,
             Some(Named::Connection(_)) => None,
             Some(Named::Container(_)) => Some(LineWhy::UnknownName),
+            Some(Named::Roamer(_)) => Some(LineWhy::UnknownName),
             Some(Named::Used) => Some(LineWhy::UnknownName),
         }
     }
@@ -48,6 +50,7 @@ impl Names {
             None => Some(LineWhy::UnknownName),
             Some(Named::Connection(_)) => None,
             Some(Named::Container(_)) => Some(LineWhy::UnknownName),
+            Some(Named::Roamer(_)) => Some(LineWhy::UnknownName),
             Some(Named::Used) => Some(LineWhy::UnknownName),
         }
     }
@@ -60,6 +63,46 @@ impl Names {
             None => Some(LineWhy::UnknownName),
             Some(Named::Connection(_)) => Some(LineWhy::UnknownName),
             Some(Named::Container(_)) => None,
+            Some(Named::Roamer(_)) => Some(LineWhy::UnknownName),
+            Some(Named::Used) => Some(LineWhy::UnknownName),
+        }
+    }
+
+    /// Why a name isn't a roamer's.
+    pub fn refusal_as_roamer(&self, name: &ScriptName) -> Option<LineWhy>
+        ensures { result ≡ roamer_refusal (get self.now.table.values name.now) }
+    {
+        match self.table.get(name.as_str()) {
+            None => Some(LineWhy::UnknownName),
+            Some(Named::Connection(_)) => Some(LineWhy::UnknownName),
+            Some(Named::Container(_)) => Some(LineWhy::UnknownName),
+            Some(Named::Roamer(_)) => None,
+            Some(Named::Used) => Some(LineWhy::UnknownName),
+        }
+    }
+
+    /// Why a name isn't that of a roamer which is lost, where such a one is wanted, or which isn't.
+    pub fn refusal_as_lost(&self, name: &ScriptName, wanted: bool) -> Option<LineWhy>
+        ensures { result ≡ lost_refusal wanted (get self.now.table.values name.now) }
+    {
+        match self.table.get(name.as_str()) {
+            None => Some(LineWhy::UnknownName),
+            Some(Named::Connection(_)) => Some(LineWhy::UnknownName),
+            Some(Named::Container(_)) => Some(LineWhy::UnknownName),
+            Some(Named::Roamer(roamer)) => refusal_if_other(wanted, roamer.is_lost()),
+            Some(Named::Used) => Some(LineWhy::UnknownName),
+        }
+    }
+
+    /// Why nothing is shown under a name.
+    pub fn refusal_to_show(&self, name: &ScriptName) -> Option<LineWhy>
+        ensures { result ≡ shown_refusal (get self.now.table.values name.now) }
+    {
+        match self.table.get(name.as_str()) {
+            None => Some(LineWhy::UnknownName),
+            Some(Named::Connection(_)) => Some(LineWhy::UnknownName),
+            Some(Named::Container(_)) => None,
+            Some(Named::Roamer(_)) => None,
             Some(Named::Used) => Some(LineWhy::UnknownName),
         }
     }
@@ -99,6 +142,7 @@ impl Names {
             None => unreachable!(),
             Some(Named::Connection(_)) => unreachable!(),
             Some(Named::Container(holder)) => holder,
+            Some(Named::Roamer(_)) => unreachable!(),
             Some(Named::Used) => unreachable!(),
         }
     }
@@ -112,6 +156,7 @@ impl Names {
             None => unreachable!(),
             Some(Named::Connection(voice)) => voice,
             Some(Named::Container(_)) => unreachable!(),
+            Some(Named::Roamer(_)) => unreachable!(),
             Some(Named::Used) => unreachable!(),
         }
     }
@@ -126,6 +171,7 @@ impl Names {
             None => unreachable!(),
             Some(Named::Connection(_)) => unreachable!(),
             Some(Named::Container(holder)) => holder,
+            Some(Named::Roamer(_)) => unreachable!(),
             Some(Named::Used) => unreachable!(),
         }
     }
@@ -140,7 +186,50 @@ impl Names {
             None => unreachable!(),
             Some(Named::Connection(voice)) => voice,
             Some(Named::Container(_)) => unreachable!(),
+            Some(Named::Roamer(_)) => unreachable!(),
             Some(Named::Used) => unreachable!(),
+        }
+    }
+
+    /// Takes the roamer of a name that is one's. Until one is put back the name is used up.
+    pub fn take_roamer(&mut self, name: &ScriptName) -> Roamer
+        requires { roamer_refusal (get self.old.table.values name.now) ≡ None }
+        ensures there { get self.old.table.values name.now ≡ Some (a.Roamer result) }
+        ensures left { self.new.table.values ≡ insert self.old.table.values name.now a.Used }
+    {
+        match self.table.replace(name.as_str(), Named::Used) {
+            None => unreachable!(),
+            Some(Named::Connection(_)) => unreachable!(),
+            Some(Named::Container(_)) => unreachable!(),
+            Some(Named::Roamer(roamer)) => roamer,
+            Some(Named::Used) => unreachable!(),
+        }
+    }
+
+    /// The roamer of a name that is one's.
+    pub fn roamer(&self, name: &ScriptName) -> &Roamer
+        requires { roamer_refusal (get self.now.table.values name.now) ≡ None }
+        ensures { get self.now.table.values name.now ≡ Some (a.Roamer result.now) }
+    {
+        match self.table.get(name.as_str()) {
+            None => unreachable!(),
+            Some(Named::Connection(_)) => unreachable!(),
+            Some(Named::Container(_)) => unreachable!(),
+            Some(Named::Roamer(roamer)) => roamer,
+            Some(Named::Used) => unreachable!(),
+        }
+    }
+
+    /// Whether a name is a roamer's.
+    pub fn is_roamer(&self, name: &ScriptName) -> bool
+        ensures { result ≡ not (is_some (roamer_refusal (get self.now.table.values name.now))) }
+    {
+        match self.table.get(name.as_str()) {
+            None => false,
+            Some(Named::Connection(_)) => false,
+            Some(Named::Container(_)) => false,
+            Some(Named::Roamer(_)) => true,
+            Some(Named::Used) => false,
         }
     }
 
@@ -162,4 +251,20 @@ impl Names {
             Some(_) => true,
         }
     }
+}
+
+// Whether a roamer is lost has to be as is wanted.
+fn refusal_if_other(wanted: bool, lost: bool) -> Option<LineWhy>
+    ensures { result ≡ refused_if_other wanted lost }
+{
+    if wanted {
+        if lost {
+            return None;
+        }
+        return Some(LineWhy::UnknownName);
+    }
+    if lost {
+        return Some(LineWhy::UnknownName);
+    }
+    None
 }

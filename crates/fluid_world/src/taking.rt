@@ -10,7 +10,7 @@ ghost use Rattle.fluid_transcript.specs.Steps as steps;
 ghost use Rattle.fluid_transcript.specs.Transcript.{at_line, done, taken, text_refusal};
 ghost use Rattle.fluid_desk.specs.Stopping.{HasRun};
 ghost use Rattle.fluid_containers.specs.Ending.{RunsLinking};
-ghost use Rattle.fluid_world.specs.Naming.{AreCounted, IsShortStep, refusal_by};
+ghost use Rattle.fluid_world.specs.Naming.{AreBounded, IsShortStep, refusal_by};
 ghost use Rattle.fluid_world.specs.Taking.{Follows, HaltsBy, IsWithin, LeavesOwn, Moves, ScriptStands, TakesBy, WritesBy, spoken};
 
 use crate::doing::{refusal, take_step};
@@ -200,7 +200,7 @@ where
         requires moment { moment ≡ self.old.lines + 1 }
         ensures moves { Moves self.old self.new }
         ensures runs { (first : ℕ) → HasRun first self.old.lines self.old.lanes → RunsLinking first (self.old.lines + 1) self.old.store self.new.store self.new.lanes result }
-        ensures numbers { OnOk result ((n : ℕ) → AreCounted n self.old.names → AreCounted (n + 1) self.new.names) }
+        ensures numbers { OnOk result ((n : ℕ) → AreBounded n self.old.names → AreBounded (n + 1) self.new.names) }
         ensures waits { OnErr result (waiting.new.items ≡ waiting.old.items) }
         ensures writes { (w : World) → ScriptStands self.old w →
             WritesBy (done self.old.lanes.limits (at_line w) step) self.old.speaks self.new waiting.old.items waiting.new.items result }

@@ -19,6 +19,7 @@ use Rattle.fluid_types.specs.declared.entries.Raw.TheVariants.{Leave, Report}
 use Rattle.fluid_types.specs.declared.entries.Scopes.{Scopes}
 use Rattle.fluid_types.specs.declared.entries.Submission.{Submission}
 use Rattle.fluid_types.specs.declared.entries.Offered.TheVariants.{Op, Noop, Summarize}
+use Rattle.fluid_types.specs.declared.nacks.NackRule.{NackRule}
 use Rattle.fluid_types.specs.declared.nacks.NackRule.TheVariants.{Unread, NotConnected, ForeignClient}
 use Rattle.fluid_types.specs.declared.fault.Field.TheVariants as field
 use Rattle.fluid_types.specs.declared.fault.What.TheVariants.{NotAllowed}
@@ -30,6 +31,7 @@ use Rattle.fluid_rules.specs.Rules.{verdict, ledger, joined}
 use Rattle.fluid_rules.specs.Counted.{is_counted, counted, is_full, has_too_many_clients}
 use Rattle.fluid_rules.specs.declared.limits.Limits.{Limits}
 use Rattle.fluid_edits.specs.declared.edit.Edit.{Edit as AnEdit}
+use Rattle.fluid_edits.specs.Forms.{contents_of}
 use Rattle.fluid_runtime.specs.declared.fault.EditFault.{EditFault}
 use Rattle.fluid_scribe.specs.Jobs.{job}
 use Rattle.fluid_scribe.specs.declared.job.Job.{Job}
@@ -43,7 +45,7 @@ use Rattle.fluid_codec.specs.declared.events.Event.TheVariants as event
 use Rattle.fluid_codec.specs.declared.replies.Reply.TheVariants.{Stored}
 use Rattle.fluid_steps.specs.Grammar.{step_spelled}
 use Rattle.fluid_steps.specs.declared.steps.Step.{Step}
-use Rattle.fluid_steps.specs.declared.steps.Step.TheVariants.{Send, Collect, Close, Scribe, Checkpoint, Restart, Reopen, Sweep, Count, Tasks, Load, Pump, Edit, Beat, Show}
+use Rattle.fluid_steps.specs.declared.steps.Step.TheVariants.{Send, Collect, Close, Scribe, Checkpoint, Restart, Reopen, Sweep, Count, Tasks, Load, Pump, Edit, Beat, Show, Roam, Say, Lose, Back, Acked}
 use Rattle.fluid_steps.specs.declared.steps.Step.TheVariants as step
 use Rattle.fluid_steps.specs.declared.refusal.LineWhy.{LineWhy}
 use Rattle.fluid_voice.specs.declared.states.VoiceState.{VoiceState}
@@ -51,19 +53,21 @@ use Rattle.fluid_voice.specs.declared.states.VoiceState.TheVariants.{Fresh, Read
 use Rattle.fluid_voice.specs.declared.actions.Act.{Act}
 use Rattle.fluid_voice.specs.declared.actions.Act.TheVariants as act
 use Rattle.fluid_voice.specs.declared.ends.ActEnd.TheVariants.{Entered, FullNow, TooMany, Given}
+use Rattle.fluid_voice.specs.declared.refusals.ConnectRefusal.{ConnectRefusal}
 use Rattle.fluid_voice.specs.declared.refusals.ConnectRefusal.TheVariants.{AlreadyConnected, ReadMissing, TooManyDocuments}
 use Rattle.fluid_voice.specs.Refusals.{refused}
 use Rattle.fluid_voice.specs.States as states
 use Rattle.fluid_voice.specs.Heard.{acts_of, read_acts, event_acts, submission_acts, submit_acts, nacks, refuses}
 use Rattle.fluid_voice.specs.Ends.{join_of, joined_by, connect_end, put_under, is_beyond}
 use Rattle.fluid_voice.specs.Ends.Outcome.{ends, clashes}
-use Rattle.fluid_transcript.specs.World.{Document, Container, World, new_document, document, is_open, ledger_of, raws_added, with_entries, farewells, Effect, grown, changed, says, does}
+use Rattle.fluid_transcript.specs.World.{Document, Container, Roamer, World, new_document, document, is_open, ledger_of, raws_added, with_entries, farewells, Effect, grown, changed, says, does}
 use Rattle.fluid_transcript.specs.Connections.{Hearing, found_by, behind_act, hear_act, hear, hearing, acts_for, voice_of}
 use Rattle.fluid_transcript.specs.Documents.{is_found, objects_for, scribed_by, reported, swept_by}
-use Rattle.fluid_transcript.specs.Containers.{channels, entry_of, join_for, join_refusal, joined_for, edited_by, app_id, head, summarized_by}
+use Rattle.fluid_transcript.specs.Containers.{id_of, Submitted, submitting, joining, channels, entry_of, join_for, join_refusal, joined_for, edited_by, app_id, head, summarized_by}
 use Rattle.fluid_loader.specs.Submitting.{summarize_tree}
 use Rattle.fluid_transcript.specs.Lines.{turned_away_line, full_line, large_line, stored_line}
-use Rattle.fluid_transcript.specs.Steps.{container_of, about, on_container, edit_effect, effect, beyond}
+use Rattle.fluid_transcript.specs.Roamers.{roamed_by, laid_over, said_by, and_others, sending, left, rejoined, back_by, came_back}
+use Rattle.fluid_transcript.specs.Steps.{container_of, shown_of, roamer_of, about, on_container, on_roamer, edit_effect, say_effect, effect, beyond}
 use Rattle.fluid_transcript.specs.Transcript.{readied, done_in, done_on, at_line, done_as, taken, behind, end_effect, loaded_last}
 use Rattle.fluid_transcript.proofs.Sounds.{document_inserted}
 use Rattle.fluidd.proofs.Few.{joined_few, counts, counted_is}
@@ -116,6 +120,16 @@ module _ (entries : ℕ) where
   other rs raw is h =
       let n : counts (raw ∷ []) ≡ 0 = counts_cons raw [] ∙ rw is refl in
       record { counted = omega (arith, h, n); few = omega (arith, n) }
+
+  -- one that doesn't count, and behind it others that do
+  behind_other : (rs : List Raw) (raw : Raw) (more : List Raw) → is_counted raw ≡ false → AddsCounted entries (rs ++ raw ∷ []) more → Adds entries rs (raw ∷ more)
+  behind_other rs raw more is a =
+      let none : ◌≡◌ {A = ℕ} (cond (is_counted raw) 1 0) 0 = rw is refl in
+      let alone : counts (raw ∷ []) ≡ 0 = counts_cons raw [] ∙ rw is refl in
+      record {
+        counted = omega (arith, a.counted, counts_append rs (raw ∷ []), alone, counts_cons raw more, none);
+        few = omega (arith, a.few, counts_cons raw more, none);
+      }
 
   -- behind others that count
   also : (rs first more : List Raw) → AddsCounted entries rs first → AddsCounted entries (rs ++ first) more → AddsCounted entries rs (first ++ more)
@@ -172,6 +186,29 @@ module _ (limits : Limits) (rs : List Raw) (few : counts rs ≤ limits.entries) 
         by false true full = nothing limits.entries rs few
         by false false full = joins _ _ (not_full limits.entries rs (join_of (ledger rs) scopes detail moment) refl full)
     connected false false = nothing limits.entries rs few
+
+-- a container's client joins where there is room for its join
+join_room : (limits : Limits) (w : World) (rs : List Raw) → join_refusal (joining limits w (ledger rs)) ≡ None → counts rs + 1 ≤ limits.entries
+join_room limits w rs = by (is_full limits.entries (ledger rs) (join_for w (ledger rs))) (has_too_many_clients limits.clients (ledger rs) (join_for w (ledger rs))) refl
+  where
+    by : (full many : Bool) → is_full limits.entries (ledger rs) (join_for w (ledger rs)) ≡ full
+        → join_refusal (if full then FullNow else if many then TooMany else joined_by (entry_name (length (ledger rs))) (verdict (ledger rs) (join_for w (ledger rs)))) ≡ None → counts rs + 1 ≤ limits.entries
+    by true many full is = absurd (cc)
+    by false many full is = not_full limits.entries rs (join_for w (ledger rs)) refl full
+
+-- ops one after another
+both_add : (entries : ℕ) (rs : List Raw) (first others : Submitted) (refused : Option NackRule) → AddsCounted entries rs first.entries → AddsCounted entries (rs ++ first.entries) others.entries
+    → AddsCounted entries rs (and_others first others refused).entries
+both_add entries rs first others None a b = also entries rs first.entries others.entries a b
+both_add entries rs first others (Some rule) a b = a
+
+sending_adds : (limits : Limits) (w : World) (k : Container) (edits : List AnEdit) (d : Document) → counts d.raws ≤ limits.entries → AddsCounted limits.entries d.raws (sending limits w d k edits).entries
+unfolding sending
+sending_adds limits w k [] d few = nothing limits.entries d.raws few
+sending_adds limits w k (edit ∷ others) d few =
+    let s = submitting limits w (ledger_of d) k Op (contents_of edit) in
+    let first : AddsCounted limits.entries d.raws s.entries = entered limits d.raws few (entry_of w (ledger_of d) k Op (contents_of edit)) refl in
+    both_add limits.entries d.raws s (sending limits w (with_entries s.entries d) k others) s.refused first (sending_adds limits w k others (with_entries s.entries d) (room limits.entries d.raws s.entries first))
 
 -- ---- a text
 
@@ -340,6 +377,40 @@ module _ (limits : Limits) (w : World) (d : Document) (few : counts d.raws ≤ l
       submitted_adds (entry_of w (ledger d.raws) k Summarize (summarize_tree (app_id (channels (ledger d.raws) k)) (head (ledger d.raws) k) k.number)) refl
   summary_adds p k put (Some clash) = none
 
+  roaming : (o : Option Roamer) (does : Roamer → Effect) → ((k : Roamer) → Adds limits.entries d.raws (does k).entries) → Adds limits.entries d.raws (on_roamer w o does).entries
+  roaming None does h = none
+  roaming (Some k) does h = h k
+
+  roam_adds : (r name : List ℕ) (refusal : Option ConnectRefusal) → join_refusal (joining limits w (ledger d.raws)) ≡ refusal → Adds limits.entries d.raws (roamed_by w d r name refusal).entries
+  roam_adds r name (Some refusal) is = none
+  roam_adds r name None is = as_adds limits.entries d.raws _ (one limits.entries d.raws (join_for w (ledger d.raws)) refl (join_room limits w d.raws is))
+
+  laid_adds : (r : List ℕ) (k : Roamer) (edit : AnEdit) (contents : Tree) (is_lost : Bool) → Adds limits.entries d.raws (laid_over limits w (ledger d.raws) r k edit contents is_lost).entries
+  laid_adds r k edit contents true = none
+  laid_adds r k edit contents false = submitted_adds (entry_of w (ledger d.raws) k.client Op contents) refl
+
+  said_adds : (r : List ℕ) (k : Roamer) (edit : AnEdit) (said : Result Tree EditFault) → Adds limits.entries d.raws (said_by limits w (ledger d.raws) r k edit said).entries
+  said_adds r k edit (Err fault) = none
+  said_adds r k edit (Ok contents) = laid_adds r k edit contents k.is_lost
+
+  says_add : (r : List ℕ) (op : Result AnEdit JsonFault) (k : Roamer) → Adds limits.entries d.raws (say_effect limits w d r op k).entries
+  says_add r (Ok edit) k = said_adds r k edit _
+  says_add r (Err fault) k = none
+
+  -- a leave, and behind it a join and the ops of what doesn't stand
+  back_adds : (r : List ℕ) (k : Roamer) → Adds limits.entries d.raws (came_back limits w d r k).entries
+  back_adds r k = by (join_refusal (joining limits w (ledger_of (left w d k)))) refl
+    where
+      by : (refusal : Option ConnectRefusal) → join_refusal (joining limits w (ledger_of (left w d k))) ≡ refusal → Adds limits.entries d.raws (back_by limits w (left w d k) r k (Leave (id_of k.client) w.moment) refusal).entries
+      by (Some refusal) is = other limits.entries d.raws (Leave (id_of k.client) w.moment) refl few
+      by None is =
+          let join = join_for w (ledger_of (left w d k)) in
+          let joined : AddsCounted limits.entries (left w d k).raws (join ∷ []) = one limits.entries (left w d k).raws join refl (join_room limits w (left w d k).raws is) in
+          let again = rejoined w (left w d k) k in
+          behind_other limits.entries d.raws (Leave (id_of k.client) w.moment) _ refl
+          (also limits.entries (left w d k).raws (join ∷ []) (sending limits w (with_entries (join ∷ []) (left w d k)) again.client again.client.pending).entries joined
+          (sending_adds limits w again.client again.client.pending (with_entries (join ∷ []) (left w d k)) (room limits.entries (left w d k).raws (join ∷ []) joined)))
+
   step_adds : (step : Step) → Adds limits.entries d.raws (effect limits w d step).entries
   step_adds (Send c text) = send_adds c text
   step_adds (Collect c) = none
@@ -356,7 +427,12 @@ module _ (limits : Limits) (w : World) (d : Document) (few : counts d.raws ≤ l
   step_adds (Edit p op) = contained (container_of w p) _ (λ k. edits_add p op k)
   step_adds (Beat p) = contained (container_of w p) _ (λ k. submitted_adds (entry_of w (ledger d.raws) k Noop null) refl)
   step_adds (step.Summarize p) = contained (container_of w p) _ (λ k. let put = putting w.store (objects (app_tree (channels (ledger d.raws) k))) in summary_adds p k put put.clash)
-  step_adds (Show p) = contained (container_of w p) _ (λ k. none)
+  step_adds (Show p) = contained (shown_of w p) _ (λ k. none)
+  step_adds (Roam r name) = roam_adds r name (join_refusal (joining limits w (ledger d.raws))) refl
+  step_adds (Say r op) = roaming (roamer_of w r) _ (λ k. says_add r op k)
+  step_adds (Lose r) = roaming (roamer_of w r) _ (λ k. none)
+  step_adds (Back r) = roaming (roamer_of w r) _ (λ k. back_adds r k)
+  step_adds (Acked r) = roaming (roamer_of w r) _ (λ k. none)
 
 -- ---- worlds
 

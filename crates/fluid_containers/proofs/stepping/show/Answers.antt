@@ -7,7 +7,7 @@ use Rattle.fluid_desk.specs.Acting.{IsLine}
 use Rattle.fluid_desk.proofs.Doing.{used_of, many_of}
 use Rattle.fluid_desk.proofs.Running.{line_runs, run_more, stops_more}
 use Rattle.fluid_containers.proofs.LoadedDesk.{shows_on}
-use Rattle.fluid_containers.proofs.OnDesk.{unstepped, never_away, about_container}
+use Rattle.fluid_containers.proofs.OnDesk.{unstepped, never_away, about_shown}
 use Rattle.fluid_containers.proofs.stepping.show.Goals as goal
 
 pub returns-in-Ok-true-clause-does : goal.returns-in-Ok-true-clause-does
@@ -31,7 +31,7 @@ returns-in-Ok-false-clause-runs g c = λ before steps run. line_runs before (ste
 
 pub returns-in-Err-clause-does : goal.returns-in-Err-clause-does
 returns-in-Err-clause-does g c = λ w k desk sound at named holder.
-    unstepped c.args.lanes.now.limits c.ready.new.lanes w c.args.name.now c.args.holder.now.document (step.Show c.args.name.now) k c.args.holder.now c.in-Err.stop (about_container w c.args.name.now k named) holder refl
+    unstepped c.args.lanes.now.limits c.ready.new.lanes w c.args.name.now c.args.holder.now.document (step.Show c.args.name.now) k c.args.holder.now c.in-Err.stop (about_shown w c.args.name.now k named) holder refl
     (c.in-Err.ensures.honest w desk)
 
 pub returns-in-Err-clause-runs : goal.returns-in-Err-clause-runs

@@ -2,7 +2,7 @@ use Rattle.std.proofs.Common.{rules, ◌≡◌, ◌≤◌, ◌<◌, ℕ, ◌∙�
 use Rattle.fluid_types.specs.Forms.{largest}
 use Rattle.fluid_document.specs.Entries.{most}
 use Rattle.fluid_containers.specs.Stepping.{MayStand}
-use Rattle.fluid_world.specs.Naming.{AreCounted, IsShortStep, refusal_by}
+use Rattle.fluid_world.specs.Naming.{AreBounded, IsShortStep, refusal_by}
 use Rattle.fluid_world.proofs.Stepped.{same_counted}
 use Rattle.fluid_desk.proofs.Running.{run_more}
 use Rattle.fluid_load.proofs.Passed.{refused_takes, accepted_takes, accepted_may}
@@ -14,7 +14,7 @@ take_step-requires g c =
     let stands : MayStand g.good c.args.lanes.now = c.requires.1.1.1.0 in
     let accepted : refusal_by c.args.names.now.table.values c.args.step ≡ None = sym c.refusal.ensures ∙ c.in-None.is in
     let short : IsShortStep c.args.step = c.requires.1.1.1.1.0 in
-    let few : (n : ℕ) × (AreCounted n c.args.names.now.table.values × (n < largest)) = c.requires.1.1.1.1.1 in
+    let few : (n : ℕ) × (AreBounded n c.args.names.now.table.values × (n < largest)) = c.requires.1.1.1.1.1 in
     search rules
 
 pub returns-in-Some-clause-does : goal.returns-in-Some-clause-does

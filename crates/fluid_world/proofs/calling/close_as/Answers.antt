@@ -6,7 +6,7 @@ use Rattle.fluid_transcript.specs.Transcript.{done}
 use Rattle.fluid_world.specs.declared.named.Named.TheVariants as a
 use Rattle.fluid_world.specs.Standing.{StepTakes}
 use Rattle.std.proofs.Common.{◌+◌}
-use Rattle.fluid_world.specs.Naming.{AreCounted}
+use Rattle.fluid_world.specs.Naming.{AreBounded}
 use Rattle.fluid_world.proofs.Linked.{on_links, one_links}
 use Rattle.fluid_world.proofs.Stepped.{voice_in, close_takes, given_stay, used_counted, counted_ok}
 use Rattle.fluid_world.proofs.calling.close_as.Goals as goal
@@ -27,4 +27,4 @@ returns-clause-runs g c = λ first steps run.
     (on_links first (steps + 1) c.args._objects.now c.args._objects.now c.close.new.lanes c.close.result (c.close.ensures.runs first steps run)) c.one.ensures
 
 pub returns-clause-numbers : goal.returns-clause-numbers
-returns-clause-numbers g c = counted_ok c.one.result (λ n few. subst (AreCounted (n + 1)) (sym c.take_voice-voice.ensures.left) (used_counted c.args.names.now.table.values c.args.name.now n few))
+returns-clause-numbers g c = counted_ok c.one.result (λ n few. subst (AreBounded (n + 1)) (sym c.take_voice-voice.ensures.left) (used_counted c.args.names.now.table.values c.args.name.now n few))

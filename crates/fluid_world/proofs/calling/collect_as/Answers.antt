@@ -6,7 +6,7 @@ use Rattle.fluid_transcript.specs.Transcript.{done}
 use Rattle.fluid_world.specs.declared.named.Named.TheVariants as a
 use Rattle.fluid_world.specs.Standing.{StepTakes}
 use Rattle.std.proofs.Common.{◌+◌}
-use Rattle.fluid_world.specs.Naming.{AreCounted}
+use Rattle.fluid_world.specs.Naming.{AreBounded}
 use Rattle.fluid_world.proofs.Linked.{reading_links}
 use Rattle.fluid_world.proofs.Stepped.{voice_in, gather_takes, put_stay, there_put, voice_put_counted, counted_ok}
 use Rattle.fluid_world.proofs.calling.collect_as.Goals as goal
@@ -27,7 +27,7 @@ returns-clause-runs g c = λ first steps run. reading_links first (steps + 1) c.
 
 pub returns-clause-numbers : goal.returns-clause-numbers
 returns-clause-numbers g c = counted_ok c.collect-lines.result (λ n few.
-    subst (AreCounted (n + 1)) (sym (c.put.ensures ∙ ap (λ t. insert t c.args.name.now (a.Connection c.collect-lines.new.voice)) c.take_voice-voice.ensures.left)) (voice_put_counted c.args.names.now.table.values c.args.name.now c.collect-lines.new.voice n few))
+    subst (AreBounded (n + 1)) (sym (c.put.ensures ∙ ap (λ t. insert t c.args.name.now (a.Connection c.collect-lines.new.voice)) c.take_voice-voice.ensures.left)) (voice_put_counted c.args.names.now.table.values c.args.name.now c.collect-lines.new.voice n few))
 
 pub put-requires : goal.put-requires
 put-requires g c = there_put c.args.names.now.table.values c.take_voice-voice.new.self.table.values c.args.name.now a.Used c.take_voice-voice.ensures.left

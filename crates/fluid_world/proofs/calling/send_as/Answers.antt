@@ -6,13 +6,13 @@ use Rattle.fluid_transcript.specs.Transcript.{done}
 use Rattle.fluid_desk.specs.declared.stop.Stop.TheVariants.{NoMemory}
 use Rattle.fluid_desk.proofs.Honest.{may_want}
 use Rattle.fluid_desk.proofs.Running.{run_more}
-use Rattle.fluid_world.specs.Naming.{AreCounted}
+use Rattle.fluid_world.specs.Naming.{AreBounded}
 use Rattle.fluid_world.proofs.Linked.{wanting_links}
 use Rattle.fluid_world.proofs.calling.send_as.Goals as goal
 
 pub returns-clause-numbers : goal.returns-clause-numbers
 returns-clause-numbers g c =
-    subst (λ t. OnOk c.send_first.result ((n : ℕ) → AreCounted n t → AreCounted (n + 1) c.send_first.new.names.table.values)) c.in_ok-reserve.ensures.same c.send_first.ensures.numbers
+    subst (λ t. OnOk c.send_first.result ((n : ℕ) → AreBounded n t → AreBounded (n + 1) c.send_first.new.names.table.values)) c.in_ok-reserve.ensures.same c.send_first.ensures.numbers
 
 pub returns-in_err-reserve-clause-does : goal.returns-in_err-reserve-clause-does
 returns-in_err-reserve-clause-does g c = λ w stands at.

@@ -6,7 +6,7 @@ use Rattle.fluid_transcript.specs.Transcript.{done}
 use Rattle.fluid_world.specs.declared.named.Named.TheVariants as a
 use Rattle.fluid_world.specs.Standing.{StepTakes}
 use Rattle.std.proofs.Common.{◌+◌}
-use Rattle.fluid_world.specs.Naming.{sender_refusal, AreCounted}
+use Rattle.fluid_world.specs.Naming.{sender_refusal, AreBounded}
 use Rattle.fluid_world.proofs.Linked.{hearing_links}
 use Rattle.fluid_world.proofs.Stepped.{new_voice_in, call_takes, given_stay, voice_counted, counted_ok}
 use Rattle.fluid_world.proofs.calling.send_first.Goals as goal
@@ -25,4 +25,4 @@ pub returns-clause-runs : goal.returns-clause-runs
 returns-clause-runs g c = λ first steps run. hearing_links first (steps + 1) c.args.objects.now c.send-lines.new.objects c.send-lines.new.lanes c.send-lines.result (c.send-lines.ensures.runs first steps run)
 
 pub returns-clause-numbers : goal.returns-clause-numbers
-returns-clause-numbers g c = counted_ok c.send-lines.result (λ n few. subst (AreCounted (n + 1)) (sym c.give.ensures) (voice_counted c.args.names.now.table.values c.args.name c.send-lines.new.voice n few))
+returns-clause-numbers g c = counted_ok c.send-lines.result (λ n few. subst (AreBounded (n + 1)) (sym c.give.ensures) (voice_counted c.args.names.now.table.values c.args.name c.send-lines.new.voice n few))

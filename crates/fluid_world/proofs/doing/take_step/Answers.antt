@@ -170,13 +170,51 @@ summarize_as-requires g c =
 
 pub returns-in-Show-clause-does : goal.returns-in-Show-clause-does
 returns-in-Show-clause-does g c = λ w good stands own at.
-    subst (λ s. StepTakes (done c.args.lanes.now.limits w s) c.show_as.new.lanes c.args.objects.now c.args.names.now.table.values c.show_as.result) (sym c.in-Show.is) (c.show_as.ensures.does w stands at)
+    subst (λ s. StepTakes (done c.args.lanes.now.limits w s) c.show_named.new.lanes c.args.objects.now c.args.names.now.table.values c.show_named.result) (sym c.in-Show.is) (c.show_named.ensures.does w stands at)
 
 pub returns-in-Show-clause-numbers : goal.returns-in-Show-clause-numbers
-returns-in-Show-clause-numbers g c = counted_ok c.show_as.result (same_counted c.args.names.now.table.values)
+returns-in-Show-clause-numbers g c = counted_ok c.show_named.result (same_counted c.args.names.now.table.values)
 
-pub show_as-requires-clause-accepted : goal.show_as-requires-clause-accepted
-show_as-requires-clause-accepted g c = subst (λ s. refusal_by c.args.names.now.table.values s ≡ None) c.in-Show.is c.requires.1.1.1.1.1.0
+pub show_named-requires-clause-accepted : goal.show_named-requires-clause-accepted
+show_named-requires-clause-accepted g c = subst (λ s. refusal_by c.args.names.now.table.values s ≡ None) c.in-Show.is c.requires.1.1.1.1.1.0
+
+pub returns-in-Roam-clause-does : goal.returns-in-Roam-clause-does
+returns-in-Roam-clause-does g c = λ w good stands own at.
+    subst (λ s. StepTakes (done c.args.lanes.now.limits w s) c.roam_as.new.lanes c.roam_as.new.objects c.roam_as.new.names.table.values c.roam_as.result) (sym c.in-Roam.is) (c.roam_as.ensures.does w stands at)
+
+pub roam_as-requires-clause-accepted : goal.roam_as-requires-clause-accepted
+roam_as-requires-clause-accepted g c = subst (λ s. refusal_by c.args.names.now.table.values s ≡ None) c.in-Roam.is c.requires.1.1.1.1.1.0
+
+pub returns-in-Say-clause-does : goal.returns-in-Say-clause-does
+returns-in-Say-clause-does g c = λ w good stands own at.
+    subst (λ s. StepTakes (done c.args.lanes.now.limits w s) c.say_as.new.lanes c.say_as.new.objects c.say_as.new.names.table.values c.say_as.result) (sym c.in-Say.is) (c.say_as.ensures.does w stands at)
+
+pub say_as-requires-clause-accepted : goal.say_as-requires-clause-accepted
+say_as-requires-clause-accepted g c = subst (λ s. refusal_by c.args.names.now.table.values s ≡ None) c.in-Say.is c.requires.1.1.1.1.1.0
+
+pub say_as-requires-clause-short : goal.say_as-requires-clause-short
+say_as-requires-clause-short g c = subst IsShortStep c.in-Say.is c.requires.1.1.1.1.1.1.0
+
+pub returns-in-Lose-clause-does : goal.returns-in-Lose-clause-does
+returns-in-Lose-clause-does g c = λ w good stands own at.
+    subst (λ s. StepTakes (done c.args.lanes.now.limits w s) c.lose_as.new.lanes c.args.objects.now c.lose_as.new.names.table.values c.lose_as.result) (sym c.in-Lose.is) (c.lose_as.ensures.does w stands at)
+
+pub lose_as-requires-clause-accepted : goal.lose_as-requires-clause-accepted
+lose_as-requires-clause-accepted g c = subst (λ s. refusal_by c.args.names.now.table.values s ≡ None) c.in-Lose.is c.requires.1.1.1.1.1.0
+
+pub returns-in-Back-clause-does : goal.returns-in-Back-clause-does
+returns-in-Back-clause-does g c = λ w good stands own at.
+    subst (λ s. StepTakes (done c.args.lanes.now.limits w s) c.back_as.new.lanes c.back_as.new.objects c.back_as.new.names.table.values c.back_as.result) (sym c.in-Back.is) (c.back_as.ensures.does w stands at)
+
+pub back_as-requires-clause-accepted : goal.back_as-requires-clause-accepted
+back_as-requires-clause-accepted g c = subst (λ s. refusal_by c.args.names.now.table.values s ≡ None) c.in-Back.is c.requires.1.1.1.1.1.0
+
+pub returns-in-Acked-clause-does : goal.returns-in-Acked-clause-does
+returns-in-Acked-clause-does g c = λ w good stands own at.
+    subst (λ s. StepTakes (done c.args.lanes.now.limits w s) c.acked_as.new.lanes c.args.objects.now c.acked_as.new.names.table.values c.acked_as.result) (sym c.in-Acked.is) (c.acked_as.ensures.does w stands at)
+
+pub acked_as-requires-clause-accepted : goal.acked_as-requires-clause-accepted
+acked_as-requires-clause-accepted g c = subst (λ s. refusal_by c.args.names.now.table.values s ≡ None) c.in-Acked.is c.requires.1.1.1.1.1.0
 
 pub unreachable-unreachable : goal.unreachable-unreachable
 unreachable-unreachable g c = edit_reads c.in-Err.field-0 (container_refusal (get c.args.names.now.table.values c.in-Edit.name)) (subst (λ o. refusal_by c.args.names.now.table.values (step.Edit c.in-Edit.name o) ≡ None) c.in-Err.is (subst (λ s. refusal_by c.args.names.now.table.values s ≡ None) c.in-Edit.is c.requires.1.1.1.1.1.0))

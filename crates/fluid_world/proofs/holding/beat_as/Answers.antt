@@ -1,4 +1,5 @@
-use Rattle.std.proofs.Common.{refl, sym, ap, subst, ◌∙◌}
+use Rattle.std.proofs.Common.{refl, sym, ap, subst, ◌∙◌, rules, ◌<◌}
+use Rattle.fluid_types.specs.Forms.{largest}
 use Rattle.std.specs.FinMap.{get, insert}
 use Rattle.fluid_table.proofs.Places.{get_own}
 use Rattle.fluid_steps.specs.declared.steps.Step.TheVariants as step
@@ -6,9 +7,9 @@ use Rattle.fluid_transcript.specs.Transcript.{done}
 use Rattle.fluid_world.specs.declared.named.Named.TheVariants as a
 use Rattle.fluid_world.specs.Standing.{StepTakes}
 use Rattle.std.proofs.Common.{◌+◌}
-use Rattle.fluid_world.specs.Naming.{AreCounted}
+use Rattle.fluid_world.specs.Naming.{AreBounded}
 use Rattle.fluid_world.proofs.Linked.{one_links}
-use Rattle.fluid_world.proofs.Stepped.{holder_there, step_takes, put_stay, there_put, holder_counted, counted_ok}
+use Rattle.fluid_world.proofs.Stepped.{holder_there, step_takes, put_stay, there_put, holder_counted, counted_ok, few_last}
 use Rattle.fluid_world.proofs.holding.beat_as.Goals as goal
 
 pub returns-clause-does : goal.returns-clause-does
@@ -27,8 +28,14 @@ returns-clause-runs g c = λ first steps run. one_links first (steps + 1) c.args
 
 pub returns-clause-numbers : goal.returns-clause-numbers
 returns-clause-numbers g c = counted_ok c.one.result (λ n few.
-    subst (AreCounted (n + 1)) (sym (c.put.ensures ∙ ap (λ t. insert t c.args.name.now (a.Container c.beat-line.new.holder)) c.take_holder-holder.ensures.left))
+    subst (AreBounded (n + 1)) (sym (c.put.ensures ∙ ap (λ t. insert t c.args.name.now (a.Container c.beat-line.new.holder)) c.take_holder-holder.ensures.left))
     (holder_counted c.args.names.now.table.values c.args.name.now c.take_holder-holder.result c.beat-line.new.holder n c.take_holder-holder.ensures.there c.beat-line.ensures.numbers few))
 
 pub put-requires : goal.put-requires
 put-requires g c = there_put c.args.names.now.table.values c.take_holder-holder.new.self.table.values c.args.name.now a.Used c.take_holder-holder.ensures.left
+
+pub beat-line-requires : goal.beat-line-requires
+beat-line-requires g c =
+    let numbers : c.take_holder-holder.result.container.last < largest =
+    few_last c.args.names.now.table.values c.args.name.now c.take_holder-holder.result c.take_holder-holder.ensures.there c.requires.1.1.1.1.1.1 in
+    search rules

@@ -6,7 +6,7 @@ use Rattle.fluid_steps.specs.declared.steps.Step.TheVariants as step
 use Rattle.fluid_transcript.specs.Transcript.{done}
 use Rattle.fluid_world.specs.Standing.{StepTakes}
 use Rattle.std.proofs.Common.{◌+◌}
-use Rattle.fluid_world.specs.Naming.{AreCounted, named_for}
+use Rattle.fluid_world.specs.Naming.{AreBounded, named_for}
 use Rattle.fluid_desk.specs.declared.stop.Stop.TheVariants.{NoMemory}
 use Rattle.fluid_desk.proofs.Honest.{may_want}
 use Rattle.fluid_desk.proofs.Running.{run_more}
@@ -33,7 +33,7 @@ pub returns-clause-numbers : goal.returns-clause-numbers
 returns-clause-numbers g c = counted_ok c.one.result (λ n few.
     let names = c.args.names.now.table.values in
     let given = c.give.ensures ∙ ap (λ n. insert c.reserve.new.self.table.values c.args.name n) c.named_for.ensures ∙ ap (λ t. insert t c.args.name (named_for c.in_ok-line.loaded)) c.in_ok-reserve.ensures.same in
-    subst (AreCounted (n + 1)) (sym given) (loaded_counted names c.args.name c.in_ok-line.loaded n c.in_ok-line.ensures.fresh few))
+    subst (AreBounded (n + 1)) (sym given) (loaded_counted names c.args.name c.in_ok-line.loaded n c.in_ok-line.ensures.fresh few))
 
 pub returns-in_err-line-clause-runs : goal.returns-in_err-line-clause-runs
 returns-in_err-line-clause-runs g c = λ first steps run.

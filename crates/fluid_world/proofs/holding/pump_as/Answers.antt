@@ -6,7 +6,7 @@ use Rattle.fluid_transcript.specs.Transcript.{done}
 use Rattle.fluid_world.specs.declared.named.Named.TheVariants as a
 use Rattle.fluid_world.specs.Standing.{StepTakes}
 use Rattle.std.proofs.Common.{◌+◌}
-use Rattle.fluid_world.specs.Naming.{AreCounted}
+use Rattle.fluid_world.specs.Naming.{AreBounded}
 use Rattle.fluid_world.proofs.Linked.{one_links}
 use Rattle.fluid_world.proofs.Stepped.{holder_there, step_takes, put_stay, there_put, holder_counted, counted_ok}
 use Rattle.fluid_world.proofs.holding.pump_as.Goals as goal
@@ -27,7 +27,7 @@ returns-clause-runs g c = λ first steps run. one_links first (steps + 1) c.args
 
 pub returns-clause-numbers : goal.returns-clause-numbers
 returns-clause-numbers g c = counted_ok c.one.result (λ n few.
-    subst (AreCounted (n + 1)) (sym (c.put.ensures ∙ ap (λ t. insert t c.args.name.now (a.Container c.pump-line.new.holder)) c.take_holder-holder.ensures.left))
+    subst (AreBounded (n + 1)) (sym (c.put.ensures ∙ ap (λ t. insert t c.args.name.now (a.Container c.pump-line.new.holder)) c.take_holder-holder.ensures.left))
     (holder_counted c.args.names.now.table.values c.args.name.now c.take_holder-holder.result c.pump-line.new.holder n c.take_holder-holder.ensures.there c.pump-line.ensures.numbers few))
 
 pub put-requires : goal.put-requires

@@ -1,7 +1,7 @@
 use Rattle.std.proofs.Common.{rules, ◌<◌, ℕ, refl, sym, subst}
 use Rattle.fluid_types.specs.Forms.{largest}
 use Rattle.fluid_containers.specs.Stepping.{MayStand}
-use Rattle.fluid_world.specs.Naming.{AreCounted, IsShortStep}
+use Rattle.fluid_world.specs.Naming.{AreBounded, IsShortStep}
 use Rattle.fluid_workload.specs.Working.{stepped}
 use Rattle.fluid_load.specs.Standing.{AtWork, CanPass}
 use Rattle.fluid_load.proofs.Moved.{may_stand, few_left, has_passed}
@@ -13,7 +13,7 @@ pass_step-requires g c =
     let can : CanPass s = subst CanPass (sym c.self.view_is) c.requires.can in
     let stands : MayStand c.self.inside.may.value c.self.inside.lanes = may_stand s can in
     let short : IsShortStep c.args.step = c.requires.short in
-    let few : (n : ℕ) × (AreCounted n c.self.inside.names.table.values × (n < largest)) = few_left s can.few in
+    let few : (n : ℕ) × (AreBounded n c.self.inside.names.table.values × (n < largest)) = few_left s can.few in
     search rules
 
 pub returns-clause-does : goal.returns-clause-does
