@@ -1,0 +1,5 @@
+use Rattle.std.specs.Prelude.{None}
+use Rattle.tests_of_disk_scripts.proofs.scripts.is_done.Given as goal
+
+abbrev pub ghost-script_within : goal.ghost-script_within
+ghost-script_within g a = None
