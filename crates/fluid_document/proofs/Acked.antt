@@ -1,10 +1,11 @@
 -- The acknowledgements of an order are in the form of a checkpoint: each has a handle of twenty bytes and the reference of a summarize.
-use Rattle.std.proofs.Common.{◌≡◌, ℕ, zero, suc, ◌+◌, ◌-◌, ◌*◌, ◌/◌, ◌%◌, ◌<◌, ◌≤◌, ◌==◌, ℤ, pos, negsuc, Bool, true, false, ◌&&◌, List, [], ◌∷◌, ◌++◌, length, Option, Some, None, Result, Ok, Err, refl, subst, arith, All}
-use Rattle.std.specs.Prelude.{nat_le, if◌then◌else◌, find, option_to_list, cond, not, int_le, ◌≤ℤ◌}
+use Rattle.std.proofs.Common.{◌≡◌, ℕ, zero, suc, ◌+◌, ◌-◌, ◌*◌, ◌/◌, ◌%◌, ◌<◌, ◌≤◌, ◌==◌, ℤ, pos, negsuc, Bool, true, false, ◌&&◌, List, [], ◌∷◌, ◌++◌, length, Option, Some, None, Result, Ok, Err, IfOk, IfSome, IsTrue, refl, sym, subst, ◌∙◌, arith, All}
+use Rattle.std.specs.Prelude.{nat_le, if◌then◌else◌, find, option_to_list, not, int_le, ◌≤ℤ◌}
 use Rattle.std.specs.List.{list_all, list_any}
 use Rattle.std.specs.Result.{result_ok}
 use Rattle.std.proofs.lemmas.Bool.{leb-true, eqb-true}
-use Rattle.std.proofs.lemmas.Option.{none-some, same_Some}
+use Rattle.std.proofs.lemmas.Option.{none-some, same_Some, MatchOption-at_some}
+use Rattle.std.proofs.lemmas.List.Folds.{find_at}
 use Rattle.std.proofs.lemmas.List.Elements.{All-nil, All-cons, All-head, All-tail, All-append}
 use Rattle.hex.specs.Hex.{hex_digit_value, digit_or_error, value_at, pair_value, decode_pairs, decode_sized, IsBytes, ◌>>=◌}
 use Rattle.hex.specs.declared.error.FromHexError.{FromHexError}
@@ -22,13 +23,13 @@ use Rattle.fluid_codec.proofs.Steps.{T_true}
 use Rattle.fluid_rules.specs.Past.{count_of}
 use Rattle.fluid_rules.specs.Scribe.{is_ack, is_summarize, handling, answered_by, answers, unanswered, acknowledged, ack_of, acks_behind, acks}
 use Rattle.fluid_checkpoint.specs.Laws.{IsAck}
+use Rattle.fluid_document.proofs.Orders.{all-there}
 
 -- ---- digits
 
 range : (low high less c v : ℕ) (a b : Bool) → nat_le c high ≡ b → (rest : Option ℕ) → (rest ≡ Some v → v < 16) → high - less < 16 → (if a && b then Some (c - less) else rest) ≡ Some v → v < 16
 range low high less c v true true q rest other small is = subst (λ n. n < 16) (same_Some _ _ is) (omega (arith, leb-true c high q, small))
-range low high less c v true false q rest other small is = other is
-range low high less c v false b q rest other small is = other is
+range low high less c v a b q rest other small is = other is
 
 digit_small : (c v : ℕ) → hex_digit_value c ≡ Some v → v < 16
 digit_small c v is =
@@ -36,23 +37,18 @@ digit_small c v is =
     (range 97 102 87 c v (nat_le 97 c) (nat_le c 102) refl _ (range 48 57 48 c v (nat_le 48 c) (nat_le c 57) refl None (λ none. absurd (none-some _ none)) (omega arith)) (omega arith))
     (omega arith) is
 
--- what holds of an answer
-abbrev Says : {A : Type 0} → (A → Type 0) → Result A FromHexError → Type 0
-Says P (Ok a) = P a
-Says P (Err fault) = Unit {0}
-
-says_then : {A B : Type 0} (P : A → Type 0) (Q : B → Type 0) (r : Result A FromHexError) (f : A → Result B FromHexError) → Says P r → ((a : A) → P a → Says Q (f a)) → Says Q (r >>= f)
+says_then : {A B : Type 0} (P : A → Type 0) (Q : B → Type 0) (r : Result A FromHexError) (f : A → Result B FromHexError) → IfOk r P → ((a : A) → P a → IfOk (f a) Q) → IfOk (r >>= f) Q
 says_then P Q (Ok a) f p each = each a p
 says_then P Q (Err fault) f p each = tt
 
-digit_says : (c i : ℕ) → Says (λ v. v < 16) (value_at c i)
+digit_says : (c i : ℕ) → IfOk (value_at c i) (λ v. v < 16)
 digit_says c i = by (hex_digit_value c) refl
   where
-    by : (o : Option ℕ) → hex_digit_value c ≡ o → Says (λ v. v < 16) (digit_or_error c i o)
+    by : (o : Option ℕ) → hex_digit_value c ≡ o → IfOk (digit_or_error c i o) (λ v. v < 16)
     by None is = tt
     by (Some v) is = digit_small c v is
 
-pair_says : (high low i : ℕ) → Says (λ b. b < 256) (pair_value high low i)
+pair_says : (high low i : ℕ) → IfOk (pair_value high low i) (λ b. b < 256)
 pair_says high low i =
     says_then (λ v. v < 16) (λ b. b < 256) (value_at high i) _ (digit_says high i)
     (λ h hs. says_then (λ v. v < 16) (λ b. b < 256) (value_at low (i + 1)) _ (digit_says low (i + 1)) (λ l ls. omega (arith, hs, ls)))
@@ -68,7 +64,7 @@ more_bytes b bytes small are (suc i) = are i
 no_bytes : IsBytes []
 no_bytes i = omega arith
 
-decoded : (i : ℕ) (digits : List ℕ) → Says (IsDecoded (length digits)) (decode_pairs i digits)
+decoded : (i : ℕ) (digits : List ℕ) → IfOk (decode_pairs i digits) (IsDecoded (length digits))
 unfolding decode_pairs
 decoded i [] = record { size = refl; bytes_are = no_bytes }
 decoded i (digit ∷ []) = tt
@@ -82,30 +78,26 @@ decoded i (high ∷ low ∷ rest) =
 abbrev IsHandle : List ℕ → Type 0
 IsHandle id = (length id ≡ 20) × IsBytes id
 
-abbrev Gives : {A : Type 0} → (A → Type 0) → Option A → Type 0
-Gives P None = Unit {0}
-Gives P (Some a) = P a
-
-of_decoded : (digits : ℕ) (r : Result (List ℕ) FromHexError) → digits / 2 ≡ 20 → Says (IsDecoded digits) r → Gives IsHandle (result_ok r)
+of_decoded : (digits : ℕ) (r : Result (List ℕ) FromHexError) → digits / 2 ≡ 20 → IfOk r (IsDecoded digits) → IfSome (result_ok r) IsHandle
 of_decoded digits (Ok bytes) half is = (half_size (length bytes) digits is.size half, is.bytes_are)
   where
     half_size : (n d : ℕ) → 2 * n ≡ d → d / 2 ≡ 20 → n ≡ 20
     half_size n d twice half = omega (arith, twice, half)
 of_decoded digits (Err fault) half is = tt
 
-id_gives : (s : List ℕ) → Gives IsHandle (id_read s)
+id_gives : (s : List ℕ) → IfSome (id_read s) IsHandle
 unfolding id_read
 id_gives s = by (list_all is_lower_digit s)
   where
-    sized : (b : Bool) → (length s / 2 == 20) ≡ b → Gives IsHandle (result_ok (if b then decode_pairs 0 s else Err InvalidStringLength))
+    sized : (b : Bool) → (length s / 2 == 20) ≡ b → IfSome (result_ok (if b then decode_pairs 0 s else Err InvalidStringLength)) IsHandle
     sized true half = of_decoded (length s) (decode_pairs 0 s) (eqb-true (length s / 2) 20 half) (decoded 0 s)
     sized false half = tt
 
-    even : (b : Bool) → Gives IsHandle (result_ok (if b then Err OddLength else (if length s / 2 == 20 then decode_pairs 0 s else Err InvalidStringLength)))
+    even : (b : Bool) → IfSome (result_ok (if b then Err OddLength else (if length s / 2 == 20 then decode_pairs 0 s else Err InvalidStringLength))) IsHandle
     even true = tt
     even false = sized (length s / 2 == 20) refl
 
-    by : (b : Bool) → Gives IsHandle (if b then result_ok (decode_sized s 20) else None)
+    by : (b : Bool) → IfSome (if b then result_ok (decode_sized s 20) else None) IsHandle
     by true = even (length s % 2 == 1)
     by false = tt
 
@@ -116,58 +108,48 @@ abbrev and_then : {A B : Type 0} → Option A → (A → Option B) → Option B
 and_then None f = None
 and_then (Some a) f = f a
 
-gives_then : {A B : Type 0} (Q : B → Type 0) (o : Option A) (f : A → Option B) → ((a : A) → o ≡ Some a → Gives Q (f a)) → Gives Q (and_then o f)
+gives_then : {A B : Type 0} (Q : B → Type 0) (o : Option A) (f : A → Option B) → ((a : A) → o ≡ Some a → IfSome (f a) Q) → IfSome (and_then o f) Q
 gives_then Q None f each = tt
 gives_then Q (Some a) f each = each a refl
 
-given : {A : Type 0} (P : A → Type 0) (o : Option A) (a : A) → o ≡ Some a → Gives P o → P a
-given P o a is gives = subst (Gives P) is gives
-
 handle_given : (t : Tree) (handle : List ℕ) → handling t ≡ Some handle → IsHandle handle
 handle_given t handle is =
-    given IsHandle (handling t) handle is
+    MatchOption-at_some _ IsHandle handle is
     (gives_then IsHandle (json.find (name_of field.Handle) t) _ (λ value _. gives_then IsHandle (as_text value) id_read (λ digits _. id_gives digits)))
 
 small_count : (n : ℤ) → n ≤ℤ pos largest → count_of n ≤ largest
 small_count (pos n) le = leb-true n largest (T_true (int_le (pos n) (pos largest)) le.le)
 small_count (negsuc n) le = omega arith
 
-found_among : (P : Message → Type 0) (p : Message → Bool) (ms : List Message) (m : Message) → find p ms ≡ Some m → All P ms → P m
-found_among P p [] m is all = absurd (none-some _ is)
-found_among P p (x ∷ ms) m is all = by (p x) is (λ rest. found_among P p ms m rest (All-tail P x ms all))
-  where
-    by : (b : Bool) → cond b (Some x) (find p ms) ≡ Some m → (find p ms ≡ Some m → P m) → P m
-    by true same behind = subst P (same_Some _ _ same) (All-head P x ms all)
-    by false rest behind = behind rest
-
-pub waits_all : (P : Message → Type 0) (ms : List Message) → All P ms → All P (unanswered ms)
+-- they are among the others, and summarizes
+pub waits_all : (P : Message → Type 0) (ms : List Message) → All P ms → All (λ m. P m × IsTrue (is_summarize m.kind)) (unanswered ms)
 unfolding unanswered
-waits_all P [] all = All-nil P
-waits_all P (m ∷ ms) all = by (is_summarize m.kind && not (list_any (answers m.number) ms)) (waits_all P ms (All-tail P m ms all))
+waits_all P [] all = All-nil (λ m. P m × IsTrue (is_summarize m.kind))
+waits_all P (m ∷ ms) all = by (is_summarize m.kind) refl (not (list_any (answers m.number) ms)) (waits_all P ms (All-tail P m ms all))
   where
-    by : (b : Bool) → All P (unanswered ms) → All P ((if b then m ∷ [] else []) ++ unanswered ms)
-    by true rest = All-cons P m (unanswered ms) (All-head P m ms all) rest
-    by false rest = rest
+    by : (b : Bool) → is_summarize m.kind ≡ b → (c : Bool) → All (λ x. P x × IsTrue (is_summarize x.kind)) (unanswered ms) → All (λ x. P x × IsTrue (is_summarize x.kind)) ((if b && c then m ∷ [] else []) ++ unanswered ms)
+    by true is true rest = All-cons (λ x. P x × IsTrue (is_summarize x.kind)) m (unanswered ms) (All-head P m ms all, is) rest
+    by b is c rest = rest
 
-ack_given : (before : List Message) (m : Message) → All IsMessage before → Gives IsAck (ack_of before m)
+ack_given : (before : List Message) (m : Message) → All IsMessage before → IfSome (ack_of before m) IsAck
 unfolding ack_of
 ack_given before m all = by (is_ack m.kind)
   where
-    made : Gives IsAck (acknowledged before m)
+    made : IfSome (acknowledged before m) IsAck
     made =
         gives_then IsAck (handling m.contents) _
         (λ handle h. gives_then IsAck (answered_by m) _
         (λ number n. gives_then IsAck (find (λ s. s.number == number) (unanswered before)) _
         (λ summarize found.
         let it = handle_given m.contents handle h in
-        let is = found_among IsMessage (λ s. s.number == number) (unanswered before) summarize found (waits_all IsMessage before all) in
-        record { size = it.0; bytes = it.1; number = small_count summarize.reference is.reference.most })))
+        let is = all-there (λ m. IsMessage m × IsTrue (is_summarize m.kind)) (unanswered before) _ summarize (sym (find_at (λ s. s.number == number) (unanswered before)) ∙ found) (waits_all IsMessage before all) in
+        record { size = it.0; bytes = it.1; number = small_count summarize.reference is.0.reference.most })))
 
-    by : (b : Bool) → Gives IsAck (if b then acknowledged before m else None)
+    by : (b : Bool) → IfSome (if b then acknowledged before m else None) IsAck
     by true = made
     by false = tt
 
-one_or_none : (o : Option SummaryRef) → Gives IsAck o → All IsAck (option_to_list o)
+one_or_none : (o : Option SummaryRef) → IfSome o IsAck → All IsAck (option_to_list o)
 one_or_none None is = All-nil IsAck
 one_or_none (Some ack) is = All-cons IsAck ack [] is (All-nil IsAck)
 

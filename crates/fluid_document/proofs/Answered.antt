@@ -2,12 +2,13 @@
 use Rattle.std.proofs.Common.{ℕ, Bool, true, false, not, ◌==◌, if◌then◌else◌, List, [], ◌∷◌, Option, Some, None}
 use Rattle.std.specs.Prelude.{nat_le}
 use Rattle.fluid_types.specs.declared.entries.Raw.{Raw}
-use Rattle.fluid_types.specs.declared.entries.Raw.TheVariants.{Join, Leave, Submit, Report}
+use Rattle.fluid_types.specs.declared.entries.Raw.TheVariants.{Report}
 use Rattle.fluid_types.specs.declared.messages.Message.{Message}
 use Rattle.fluid_types.specs.Blobs.{blobs_of}
 use Rattle.fluid_rules.specs.Rules.{first_case}
 use Rattle.fluid_rules.specs.Scribe.{is_stale, is_old, reference_of, proposed_by, version}
 use Rattle.fluid_rules.specs.declared.answers.Answer.TheVariants.{Dropped, Ack, Refused}
+use Rattle.fluid_rules.specs.declared.answers.Answer.{Answer}
 use Rattle.fluid_rules.specs.declared.answers.Proposed.{Proposed}
 use Rattle.fluid_rules.specs.declared.answers.SummaryRule.TheVariants.{StaleHead, OldReference, Missing}
 use Rattle.fluid_rules.proofs.Handles.{version-size}
@@ -29,14 +30,14 @@ judged_handle s reference found None = tt
 judged_handle s reference found (Some proposed) =
     chain_handle (is_stale (last_ack_in s) proposed) (is_old (last_ack_in s) reference) (not found) proposed.app (blobs_of (quorum_in s reference))
 
+if_handle : (b : Bool) (a : Answer) → HasHandle a → HasHandle (if b then a else Dropped)
+if_handle true a is = is
+if_handle false a is = tt
+
 by_handle : (s : ScribeState) (summary : ℕ) (found : Bool) (pending : Option Message) → HasHandle (answer_by_in s summary found pending)
 unfolding answer_to_in
 by_handle s summary found None = tt
-by_handle s summary found (Some m) =
-    elim (m.number == summary) as (λ b. HasHandle (if b then answer_to_in s found m else Dropped)) [
-      | true ↦ judged_handle s (reference_of m) found (proposed_by m)
-      | false ↦ tt
-    ]
+by_handle s summary found (Some m) = if_handle (m.number == summary) _ (judged_handle s (reference_of m) found (proposed_by m))
 
 answer_handle : (s : ScribeState) (summary : ℕ) (found : Bool) → HasHandle (answer_in s summary found)
 unfolding answer_in
@@ -44,11 +45,5 @@ answer_handle s summary found = by_handle s summary found (pending_in s)
 
 -- so has what is answered to an entry
 pub answered-handle : (s : State) (raw : Raw) → HasHandle (answer_for s raw)
-answered-handle s (Join id scopes detail moment) = tt
-answered-handle s (Leave id moment) = tt
-answered-handle s (Submit id submission moment) = tt
-answered-handle s (Report summary found moment) =
-    elim (nat_le summary s.sequencer.sequence) as (λ b. HasHandle (if b then answer_in s.scribe summary found else Dropped)) [
-      | true ↦ answer_handle s.scribe summary found
-      | false ↦ tt
-    ]
+answered-handle s (Report summary found moment) = if_handle (nat_le summary s.sequencer.sequence) _ (answer_handle s.scribe summary found)
+answered-handle s raw = tt

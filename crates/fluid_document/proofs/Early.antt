@@ -1,5 +1,6 @@
 -- Which messages are put to make room, and how many.
-use Rattle.std.proofs.Common.{◌≡◌, ℕ, zero, suc, ◌+◌, ◌-◌, ◌<◌, ◌≤◌, List, [], ◌∷◌, length, take, Result, Ok, Err, OnOk, OnErr, IfErr, length-drop, refl, ap, subst, arith}
+use Rattle.std.proofs.Common.{◌≡◌, ℕ, ◌+◌, ◌-◌, ◌<◌, ◌≤◌, List, [], length, Result, Ok, Err, OnOk, OnErr, IfErr, length-drop, ap, subst, arith}
+use Rattle.std.proofs.lemmas.List.{length-take, length-take-le}
 use Rattle.fluid_types.specs.declared.messages.Message.{Message}
 use Rattle.fluid_log.specs.Keeping.{Keeping}
 use Rattle.fluid_deltas.specs.declared.fault.DeltaFault.{DeltaFault}
@@ -19,18 +20,8 @@ use Rattle.fluid_document.specs.Puts.{IsFlushFault, Flushes, PutsFirst, PutsFew,
 
 -- ---- how many are lacking
 
-taken : {X : Type 0} (n : ℕ) (xs : List X) → n ≤ length xs → length (take n xs) ≡ n
-taken zero xs le = refl
-taken (suc n) [] le = absurd (omega (arith, le))
-taken (suc n) (x ∷ xs) le = ap suc (taken n xs (omega (arith, le)))
-
-taken_few : {X : Type 0} (n : ℕ) (xs : List X) → length (take n xs) ≤ length xs
-taken_few zero xs = omega arith
-taken_few (suc n) [] = omega arith
-taken_few (suc n) (x ∷ xs) = omega (arith, taken_few n xs)
-
 lacked : (d : Pushed) (deltas end : ℕ) → d.before ≤ deltas → end ≤ pushed d → length (lacking_up_to d deltas end) ≡ end - deltas
-lacked d deltas end reached within = taken (end - deltas) (lacking d deltas) (omega (arith, length-drop (deltas - d.before) d.held, reached, within))
+lacked d deltas end reached within = length-take-le (end - deltas) (lacking d deltas) (omega (arith, length-drop (deltas - d.before) d.held, reached, within))
 
 -- ---- a page that goes
 
@@ -42,14 +33,11 @@ page_first answer (Ok done) d e old new is full reached puts drops =
     omega (arith, put.kept.deltas, dropped.before, lacked d old.deltas (d.before + 256) reached (omega (arith, full)))
 page_first answer (Err fault) d e old new is full reached puts drops = tt
 
-few_all : (d : Pushed) (old new : Keeping) (entered : ℕ) (answer : Result (Unit {0}) DeltaFault) → IsFull d → pushed d ≤ entered → d.before ≤ old.deltas → PutsAll (lacking_up_to d old.deltas (d.before + 256)) old new answer → PutsFew entered old new
-few_all d old new entered (Ok done) full few reached puts = omega (arith, puts.kept.deltas, full, few, reached, lacked d old.deltas (d.before + 256) reached (omega (arith, full)))
-few_all d old new entered (Err fault) full few reached puts =
-    omega (arith, puts.puts.kept.deltas, full, few, reached, taken_few puts.count (lacking_up_to d old.deltas (d.before + 256)), lacked d old.deltas (d.before + 256) reached (omega (arith, full)))
-
 pub page_few : (answer : Result (Unit {0}) DeltaFault) (d : Pushed) (old new : Keeping) (entered sequence : ℕ) → IsFull d → sequence ≡ pushed d → sequence ≤ entered → d.before ≤ old.deltas
     → PutsAll (lacking_up_to d old.deltas (d.before + 256)) old new answer → PutsFew entered old new
-page_few answer d old new entered sequence full level few reached puts = few_all d old new entered answer full (omega (arith, level, few)) reached puts
+page_few (Ok done) d old new entered sequence full level few reached puts = omega (arith, puts.kept.deltas, full, level, few, reached, lacked d old.deltas (d.before + 256) reached (omega (arith, full)))
+page_few (Err fault) d old new entered sequence full level few reached puts =
+    omega (arith, puts.puts.kept.deltas, puts.within, full, level, few, reached, length-take puts.count (lacking_up_to d old.deltas (d.before + 256)), lacked d old.deltas (d.before + 256) reached (omega (arith, full)))
 
 pub page_onwards : (answer : Result (Unit {0}) DeltaFault) (d e : Pushed) → OnOk answer (DropsPage d e) → OnErr answer (e ≡ d) → d.before ≤ e.before
 page_onwards (Ok done) d e drops same = omega (arith, drops.before)

@@ -7,9 +7,8 @@ use Rattle.fluid_deltas.proofs.Standing.{same_part, same_stand}
 use Rattle.fluid_document.specs.Entries.{GoOn}
 
 pub first_behind : {X : Type 0} (n : ℕ) (xs : List X) (x : X) (rest : List X) → drop n xs ≡ x ∷ rest → slice_get xs n ≡ Some x
-first_behind zero [] x rest is = absurd (omega (arith, ap length is))
-first_behind zero (y ∷ xs) x rest is = let same : y ≡ x = cc in ap Some same
-first_behind (suc n) [] x rest is = absurd (omega (arith, ap length is))
+first_behind zero xs x rest is = ap (λ ys. slice_get ys 0) is
+first_behind (suc n) [] x rest is = absurd (cc)
 first_behind (suc n) (y ∷ xs) x rest is = first_behind n xs x rest is
 
 -- no message more
@@ -19,13 +18,4 @@ goes_nowhere old new v none before held = record {
   count = omega (arith, before, ap length held, ap length none);
   stands = λ order content stand. subst (λ ms. StandFor new ms content) (sym (ap (λ ms. order ++ ms) none ∙ append-nil order)) (same_stand old new order content content before held refl stand);
   part = λ order rest at part. same_part old new order before held part;
-}
-
--- another room for more
-pub goes_from : (one old new : Pushed) (v : Verdict) → old.before ≡ one.before → old.held ≡ one.held → GoOn old new v → GoOn one new v
-goes_from one old new v before held goes = record {
-  before = goes.before ∙ before;
-  count = omega (arith, goes.count, before, ap length held);
-  stands = λ order content stand. goes.stands order content (same_stand one old order content content before held refl stand);
-  part = λ order rest at part. goes.part order rest (rw (before, held) at) (same_part one old order before held part);
 }

@@ -1,20 +1,21 @@
 -- What holds of every document holds of it with an entry more.
-use Rattle.std.proofs.Common.{◌≡◌, ℕ, ◌+◌, ◌-◌, ◌^◌, ◌<◌, ◌≤◌, Bool, true, false, cond, length, Result, Ok, Err, OnOk, OnErr, length-drop, sym, ap, ◌∙◌, arith}
+use Rattle.std.proofs.Common.{◌≡◌, ℕ, ◌+◌, ◌-◌, ◌^◌, ◌<◌, ◌≤◌, Bool, true, false, cond, length, Result, Ok, Err, OnOk, OnErr, length-drop, refl, sym, ap, ◌∙◌, arith}
 use Rattle.std.specs.Prelude.{All}
 use Rattle.fluid_types.specs.Fits.{Fits}
 use Rattle.fluid_types.specs.declared.entries.Raw.{Raw}
+use Rattle.fluid_types.specs.declared.messages.Message.{Message}
 use Rattle.fluid_types.specs.declared.verdicts.Verdict.{Verdict}
-use Rattle.fluid_types.specs.declared.verdicts.Verdict.TheVariants.{Sequenced, Nacked, Dropped, Absorbed}
+use Rattle.fluid_types.specs.declared.verdicts.Verdict.TheVariants.{Sequenced}
 use Rattle.fluid_types.specs.Ledger.{messages_of}
 use Rattle.fluid_types.specs.Order.{AreNumberedFrom}
-use Rattle.fluid_types.proofs.Numbers.{numbered_same}
 use Rattle.fluid_rules.specs.Counted.{is_counted}
 use Rattle.fluid_deltas.specs.Pushed.{Pushed, pushed, IsKeepable, IsFull, DropsPage}
 use Rattle.fluid_core.specs.Entering.{State, verdict_in, after}
 use Rattle.fluid_core.specs.Entering as entering
 use Rattle.fluid_core.proofs.Entered.{parts_of}
-use Rattle.fluid_document.specs.Entries.{Entries, most, counts, nothing_entered, taken_up, IsLevelled}
-use Rattle.fluid_document.proofs.Onwards.{after-sequence, messages-numbered, messages-keepable, sound-after}
+use Rattle.fluid_document.specs.Entries.{Entries, most, counts, taken_up, IsLevelled}
+use Rattle.fluid_document.proofs.Onwards.{after-sequence, verdict-number, messages-keepable, sound-after}
+use Rattle.fluid_document.proofs.Foldings.{same_entries}
 
 counts_one : (b : Bool) → cond b 1 0 ≤ 1
 counts_one true = omega arith
@@ -22,17 +23,18 @@ counts_one false = omega arith
 
 one_message : (v : Verdict) → length (messages_of v) ≤ 1
 one_message (Sequenced m) = omega arith
-one_message (Nacked nack) = omega arith
-one_message Dropped = omega arith
-one_message Absorbed = omega arith
+one_message v = omega arith
+
+numbered : (n : ℕ) (v : Verdict) → ((m : Message) → v ≡ Sequenced m → m.number ≡ n) → AreNumberedFrom n (messages_of v)
+numbered n (Sequenced m) each = (each m refl, tt)
+numbered n v each = tt
 
 pub sequence_few : (e : Entries) (d : Pushed) → IsLevelled e d → e.entered < most → e.state.sequencer.sequence < 2 ^ 53 - 1
 sequence_few e d level few = omega (arith, level.sequenced, few)
 
 -- the message of the next verdict, where it has one, is numbered behind those that were pushed, and can be kept
 pub next-numbered : (e : Entries) (d : Pushed) (raw : Raw) → IsLevelled e d → AreNumberedFrom (pushed d + 1) (messages_of (verdict_in e.state raw))
-next-numbered e d raw level =
-    numbered_same (messages_of (verdict_in e.state raw)) (e.state.sequencer.sequence + 1) (pushed d + 1) (ap (λ n. n + 1) level.level) (messages-numbered e.state raw)
+next-numbered e d raw level = numbered (pushed d + 1) (verdict_in e.state raw) (λ m is. verdict-number e.state raw m is ∙ ap (λ n. n + 1) level.level)
 
 pub next-keepable : (e : Entries) (d : Pushed) (raw : Raw) → IsLevelled e d → e.entered < most → Fits raw → All IsKeepable (messages_of (verdict_in e.state raw))
 next-keepable e d raw level few fits = messages-keepable e.state raw level.sound (sequence_few e d level few) fits
@@ -52,10 +54,6 @@ levelled-taken e d f raw level few count =
 
 -- ---- committing
 
-same_entries : (s t : State) (e n m : ℕ) → s ≡ t → n ≡ m
-    → (let one : Entries = record { state = s; entered = e; counted = n } in let other : Entries = record { state = t; entered = e; counted = m } in one ≡ other)
-same_entries s t e n m p q = λ i. record { state = p i; entered = e; counted = q i }
-
 pub verdict_prepared : (s : State) (raw : Raw) (ready : entering.Prepared) → ready ≡ entering.prepared s raw → ready.ticket.verdict ≡ verdict_in s raw
 verdict_prepared s raw ready is = (parts_of s raw ready is).verdict_is
 
@@ -63,7 +61,7 @@ pub committed : (e : Entries) (raw : Raw) (state : State) (verdict : Verdict) (m
     → (let now : Entries = record { state = state; entered = e.entered + 1; counted = e.counted + more } in now ≡ taken_up e raw)
 unfolding taken_up
 committed e raw state verdict more counted said is =
-    same_entries state (after e.state raw (verdict_in e.state raw)) (e.entered + 1) (e.counted + more) (e.counted + counts raw) (is ∙ ap (λ v. after e.state raw v) said) (ap (λ n. e.counted + n) counted)
+    same_entries _ _ (e.entered + 1) _ _ _ (is ∙ ap (after e.state raw) said) refl (ap (λ n. e.counted + n) counted)
 
 -- as many messages were pushed
 pub levelled_same : (e : Entries) (d f : Pushed) → pushed f ≡ pushed d → IsLevelled e d → IsLevelled e f

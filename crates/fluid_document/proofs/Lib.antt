@@ -1,10 +1,12 @@
 mod Answered
+mod Rows
 pub mod Onwards
 mod Levels
 mod Growing
 mod Records
 mod Entering
 mod Early
+mod Handed
 pub mod Keeps
 pub mod Foldings
 pub mod Orders

@@ -24,20 +24,15 @@ entries_all P rows each = All-from_get_or P (entries rows) nobody (λ i lt. each
 
 -- ---- their order
 
-moments_in : Pairs → Moments
-moments_in es = map (λ entry. (entry.0, entry.1.heard)) es
-
-below_moments : (k : List ℕ) (es : Pairs) → below_all byte_order k (moments_in es) ≡ below_all byte_order k es
-unfolding moments_in
+below_moments : (k : List ℕ) (es : Pairs) → below_all byte_order k (map (λ entry. (entry.0, entry.1.heard)) es) ≡ below_all byte_order k es
 below_moments k [] = refl
 below_moments k (e ∷ es) = ap (λ b. is_lt (byte_order k e.0) && b) (below_moments k es)
 
-sorted_moments : (es : Pairs) → is_sorted byte_order (moments_in es) ≡ is_sorted byte_order es
-unfolding moments_in
+sorted_moments : (es : Pairs) → is_sorted byte_order (map (λ entry. (entry.0, entry.1.heard)) es) ≡ is_sorted byte_order es
 sorted_moments [] = refl
 sorted_moments (e ∷ es) = ap₂ (λ a b. a && b) (below_moments e.0 es) (sorted_moments es)
 
-sorted_in : (rows : Rows) → T (is_sorted byte_order (moments_in (entries rows)))
+sorted_in : (rows : Rows) → T (is_sorted byte_order (moments_of rows))
 sorted_in rows = subst T (sym (sorted_moments (entries rows))) (entries_sorted rows)
 
 is_true : (b : Bool) → T b → b ≡ true
@@ -45,7 +40,6 @@ is_true true h = refl
 is_true false h = absurd h
 
 pub moments_sorted : (rows : Rows) → IsTrue (is_sorted byte_order (moments_of rows))
-unfolding moments_in
 moments_sorted rows = is_true _ (sorted_in rows)
 
 -- ---- the row under an id
@@ -84,22 +78,13 @@ get_with rows ((id, moment) ∷ moments) q sorted =
     ∙ heard_first (bytes_eq id q) q id moment rows (find byte_order q moments) refl (λ same. find_above byte_order_total q moments (subst (λ k. T (below_all byte_order k moments)) same (first _ _ sorted)))
     ∙ ap (λ tie. option_map (hear (cond tie (Some moment) (find byte_order q moments))) (get rows q)) (sym (tied_back q id))
 
-find_moments : (q : List ℕ) (es : Pairs) → find byte_order q (moments_in es) ≡ option_map (λ (row : Row). row.heard) (find byte_order q es)
-unfolding moments_in
-find_moments q [] = refl
-find_moments q (e ∷ es) = ap (cond (eq_by_cmp byte_order q e.0) (Some e.1.heard)) (find_moments q es) ∙ moved (eq_by_cmp byte_order q e.0) e.1 (find byte_order q es)
+find_each : {X : Type 0} (f : Row → X) (q : List ℕ) (es : Pairs) → find byte_order q (map (λ entry. (entry.0, f entry.1)) es) ≡ option_map f (find byte_order q es)
+find_each f q [] = refl
+find_each f q (e ∷ es) = ap (cond (eq_by_cmp byte_order q e.0) (Some (f e.1))) (find_each f q es) ∙ moved (eq_by_cmp byte_order q e.0)
   where
-    moved : (b : Bool) (row : Row) (rest : Option Row) → cond b (Some row.heard) (option_map (λ (r : Row). r.heard) rest) ≡ option_map (λ (r : Row). r.heard) (cond b (Some row) rest)
-    moved true row rest = refl
-    moved false row rest = refl
-
-find_unheard : (q : List ℕ) (es : Pairs) → find byte_order q (map (λ entry. (entry.0, unheard entry.1)) es) ≡ option_map unheard (find byte_order q es)
-find_unheard q [] = refl
-find_unheard q (e ∷ es) = ap (cond (eq_by_cmp byte_order q e.0) (Some (unheard e.1))) (find_unheard q es) ∙ moved (eq_by_cmp byte_order q e.0) e.1 (find byte_order q es)
-  where
-    moved : (b : Bool) (row : Row) (rest : Option Row) → cond b (Some (unheard row)) (option_map unheard rest) ≡ option_map unheard (cond b (Some row) rest)
-    moved true row rest = refl
-    moved false row rest = refl
+    moved : (b : Bool) → cond b (Some (f e.1)) (option_map f (find byte_order q es)) ≡ option_map f (cond b (Some e.1) (find byte_order q es))
+    moved true = refl
+    moved false = refl
 
 put_back : (o : Option Row) → option_map (hear (option_map (λ (row : Row). row.heard) o)) (option_map unheard o) ≡ o
 unfolding hear
@@ -107,12 +92,11 @@ put_back None = refl
 put_back (Some row) = refl
 
 pub moments_put_back : (rows : Rows) → with_moments (without_moments rows) (moments_of rows) ≡ rows
-unfolding moments_in
 moments_put_back rows =
     same_map byte_order_total byte_order-IsAntisymmetric _ _
     (λ q.
     get_with (without_moments rows) (moments_of rows) q (sorted_in rows)
-    ∙ ap (λ o. option_map (hear o) (get (without_moments rows) q)) (find_moments q (entries rows) ∙ ap (option_map (λ (row : Row). row.heard)) (sym (get-entries rows q)))
+    ∙ ap (λ o. option_map (hear o) (get (without_moments rows) q)) (find_each (λ row. row.heard) q (entries rows) ∙ ap (option_map (λ (row : Row). row.heard)) (sym (get-entries rows q)))
     ∙ ap (option_map (hear (option_map (λ (row : Row). row.heard) (get rows q))))
-    (get-from_entries byte_order_total (map (λ entry. (entry.0, unheard entry.1)) (entries rows)) q ∙ find_unheard q (entries rows) ∙ ap (option_map unheard) (sym (get-entries rows q)))
+    (get-from_entries byte_order_total (map (λ entry. (entry.0, unheard entry.1)) (entries rows)) q ∙ find_each unheard q (entries rows) ∙ ap (option_map unheard) (sym (get-entries rows q)))
     ∙ put_back (get rows q))

@@ -1,43 +1,38 @@
 -- The order of a legal ledger: its messages are numbered from 1, each can be kept, and each entry's message stands in its place.
-use Rattle.std.proofs.Common.{◌≡◌, ℕ, zero, suc, ◌+◌, ◌<◌, ◌≤◌, [], ◌∷◌, ◌++◌, length, take, drop, slice_get, Some, refl, sym, ap, subst, ◌∙◌, append_assoc, append-nil, length-append, arith}
+use Rattle.std.proofs.Common.{◌≡◌, ℕ, zero, suc, ◌+◌, ◌<◌, ◌≤◌, List, [], ◌∷◌, ◌++◌, length, take, drop, slice_get, Some, refl, sym, ap, subst, ◌∙◌, length-append, arith}
 use Rattle.std.specs.Prelude.{All}
-use Rattle.std.proofs.lemmas.List.Elements.{All-append, All-nil, All-cons, All-head, All-tail, All-weaker}
+use Rattle.std.proofs.lemmas.List.Elements.{All-append, All-nil, All-pop, All-weaker}
 use Rattle.std.proofs.Math.Seq.{drop-append_seam}
-use Rattle.std.proofs.lemmas.Option.{none-some, same_Some}
+use Rattle.std.proofs.lemmas.Option.{slice_get_within, get_or_from_slice_get}
 use Rattle.fluid_types.specs.declared.entries.Raw.{Raw}
 use Rattle.fluid_types.specs.declared.verdicts.Verdict.{Verdict}
-use Rattle.fluid_types.specs.declared.verdicts.Verdict.TheVariants.{Sequenced, Nacked, Dropped, Absorbed}
 use Rattle.fluid_types.specs.Ledger.{Ledger, order, seq, messages_of}
 use Rattle.fluid_types.proofs.Ledgers.{order-append, order-push, seq-le_length}
-use Rattle.fluid_rules.specs.Rules.{verdict, IsLegal, IsLegalBehind}
-use Rattle.fluid_rules.proofs.Legal.{legal-push, legal-first, legal-behind}
+use Rattle.fluid_rules.specs.Rules.{verdict, IsLegal}
+use Rattle.fluid_rules.proofs.Legal.{legal-induction, legal-first, legal-behind}
 use Rattle.fluid_readback.specs.Laws.{IsReadBack}
 use Rattle.fluid_readback.proofs.Messages.{sequenced_are_read_back}
 use Rattle.fluid_deltas.specs.Pushed.{IsKeepable}
 use Rattle.fluid_document.specs.Entries.{most}
 use Rattle.fluid_document.specs.Kept.{IsLoggable}
+use Rattle.fluid_document.proofs.Onwards.{message_all}
 
-messages_back : (l : Ledger) (entry : Raw × Verdict) → IsLegal l → entry.1 ≡ verdict l entry.0 → IsLoggable entry → length l < most → All IsReadBack (messages_of entry.1)
-messages_back l (raw, v) legal is is_loggable few = each v is
-  where
-    each : (w : Verdict) → w ≡ verdict l raw → All IsReadBack (messages_of w)
-    each (Sequenced m) same = All-cons IsReadBack m [] (sequenced_are_read_back l raw m legal (omega (arith, few, seq-le_length l)) is_loggable.fits (sym same)) (All-nil IsReadBack)
-    each (Nacked nack) same = All-nil IsReadBack
-    each Dropped same = All-nil IsReadBack
-    each Absorbed same = All-nil IsReadBack
-
-read_back_behind : (before l : Ledger) → IsLegal before → IsLegalBehind before l → All IsLoggable l → length before + length l ≤ most → All IsReadBack (order before) → All IsReadBack (order (before ++ l))
-read_back_behind before [] legal behind loggable few back = subst (λ m. All IsReadBack (order m)) (sym (append-nil before)) back
-read_back_behind before (entry ∷ l) legal behind loggable few back =
-    let one = messages_back before entry legal behind.0 (All-head IsLoggable entry l loggable) (omega (arith, few)) in
-    let grown : All IsReadBack (order (before ++ entry ∷ [])) = subst (All IsReadBack) (sym (order-push before entry)) (All-append IsReadBack (order before) (messages_of entry.1) back one) in
-    subst (λ m. All IsReadBack (order m)) (append_assoc before (entry ∷ []) l)
-    (read_back_behind (before ++ entry ∷ []) l (legal-push before entry legal behind.0) behind.1 (All-tail IsLoggable entry l loggable) (omega (arith, few, length-append before (entry ∷ []))) grown)
+-- what holds of no entries, and goes on with each verdict of the rules on an entry that a log takes, holds of each such ledger
+pub logged-induction : (P : Ledger → Type 0) → P [] → ((l : Ledger) (entry : Raw × Verdict) → IsLegal l → IsLoggable entry → length l < most → P l → entry.1 ≡ verdict l entry.0 → P (l ++ entry ∷ []))
+    → (l : Ledger) → IsLegal l → All IsLoggable l → length l ≤ most → P l
+logged-induction P begin step =
+    legal-induction (λ l. All IsLoggable l → length l ≤ most → P l) (λ all few. begin)
+    (λ l entry legal so_far is all few.
+    let parts = All-pop IsLoggable (l ++ entry ∷ []) l (Some entry) refl all in
+    let shorter : length l < most = omega (arith, few, length-append l (entry ∷ [])) in
+    step l entry legal parts.1 shorter (so_far parts.0 (omega (arith, shorter))) is)
 
 -- each message of the order is in the grammar and read back from its text
 pub order-read_back : (l : Ledger) → IsLegal l → All IsLoggable l → length l ≤ most → All IsReadBack (order l)
 unfolding order
-order-read_back l legal loggable few = read_back_behind [] l tt legal loggable (omega (arith, few)) (All-nil IsReadBack)
+order-read_back = logged-induction (λ l. All IsReadBack (order l)) (All-nil IsReadBack)
+    (λ l entry legal loggable few back is. subst (All IsReadBack) (sym (order-push l entry)) (All-append IsReadBack (order l) (messages_of entry.1) back
+    (message_all IsReadBack entry.1 (λ m said. sequenced_are_read_back l entry.0 m legal (omega (arith, few, seq-le_length l)) loggable.fits (sym is ∙ said)))))
 
 pub order-keepable : (l : Ledger) → IsLegal l → All IsLoggable l → length l ≤ most → All IsKeepable (order l)
 order-keepable l legal loggable few =
@@ -57,10 +52,8 @@ in_place [] place lt = absurd (omega (arith, lt))
 in_place (entry ∷ l) zero lt = record { entry = entry; there = refl; rest = l; splits = refl; next = refl }
 in_place (entry ∷ l) (suc place) lt =
     let is = in_place l place (omega (arith, lt)) in
-    record { entry = is.entry; there = is.there; rest = is.rest; splits = ap (λ m. entry ∷ m) is.splits; next = ap (λ n. take n (entry ∷ l)) (more place) ∙ ap (λ m. entry ∷ m) is.next }
-  where
-    more : (n : ℕ) → suc n + 1 ≡ suc (n + 1)
-    more n = omega arith
+    let more : suc place + 1 ≡ suc (place + 1) = omega arith in
+    record { entry = is.entry; there = is.there; rest = is.rest; splits = ap (λ m. entry ∷ m) is.splits; next = ap (λ n. take n (entry ∷ l)) more ∙ ap (λ m. entry ∷ m) is.next }
 
 -- its verdict is that of the entries before it, and its message stands behind theirs
 pub place-legal : (l : Ledger) (place : ℕ) (is : IsInPlace l place) → IsLegal l → IsLegal (take place l) × (is.entry.1 ≡ verdict (take place l) is.entry.0)
@@ -75,10 +68,8 @@ place-order l place is =
     ∙ ap (drop (length (order (take place l)))) (order-append (take place l) (is.entry ∷ is.rest))
     ∙ drop-append_seam (order (take place l)) (messages_of is.entry.1 ++ order is.rest)
 
-pub all-there : (P : Raw × Verdict → Type 0) (l : Ledger) (place : ℕ) (entry : Raw × Verdict) → slice_get l place ≡ Some entry → All P l → P entry
-all-there P [] place entry is all = absurd (none-some _ is)
-all-there P (x ∷ l) zero entry is all = subst P (same_Some _ _ is) (All-head P x l all)
-all-there P (x ∷ l) (suc place) entry is all = all-there P l place entry is (All-tail P x l all)
+pub all-there : {X : Type 0} (P : X → Type 0) (xs : List X) (place : ℕ) (x : X) → slice_get xs place ≡ Some x → All P xs → P x
+all-there P xs place x is all = subst P (get_or_from_slice_get xs place x x is) (all place x (slice_get_within xs place x is))
 
 pub seq-length : (l : Ledger) → length (order l) ≡ seq l
 unfolding seq

@@ -3,7 +3,7 @@ use Rattle.std.proofs.Common.{◌≡◌, ◌≤◌, Bool, true, false, List, ℕ
 use Rattle.std.specs.Prelude.{nat_le, if◌then◌else◌}
 use Rattle.std.specs.Str.{is_utf8}
 use Rattle.std.proofs.lemmas.Bool.{leb-true}
-use Rattle.std.proofs.lemmas.Option.{none-some, same_Some}
+use Rattle.std.proofs.lemmas.Option.{none-some, cond_some}
 use Rattle.fluid_types.specs.Forms.{Read}
 use Rattle.fluid_types.specs.Fits.{Fits, longest_record}
 use Rattle.fluid_types.specs.Printed.{raw_printed}
@@ -26,10 +26,6 @@ record_fits bytes raw is = of_read (raw_spelled bytes) refl (of_text (is_utf8 by
     of_text true is = is
     of_text false is = absurd (none-some _ is)
 
-    of_length : (x : Raw) (b : Bool) → raw_spelled bytes ≡ Ok x → nat_le (length (raw_printed x)) longest_record ≡ b → (if b then Some x else None) ≡ Some raw → Fits raw
-    of_length x true at short is = subst Fits (same_Some _ _ is) (spelled_fit bytes x at (leb-true _ _ short))
-    of_length x false at short is = absurd (none-some _ is)
-
     of_read : (r : Read Raw) → raw_spelled bytes ≡ r → fitting r ≡ Some raw → Fits raw
-    of_read (Ok x) at is = of_length x (nat_le (length (raw_printed x)) longest_record) at refl is
+    of_read (Ok x) at is = let fit = cond_some (nat_le (length (raw_printed x)) longest_record) x raw is in subst Fits fit.1 (spelled_fit bytes x at (leb-true _ _ fit.0))
     of_read (Err fault) at is = absurd (none-some _ is)

@@ -1,10 +1,9 @@
 -- What the text of a checkpoint says of what the entries made.
-use Rattle.std.proofs.Common.{◌≡◌, ◌⊎◌, ◌-◌, ◌^◌, ◌≤◌, ◌<◌, ℕ, zero, suc, min, false, List, [], ◌∷◌, ◌++◌, length, arith, ◌∙◌, All, Some, Result, Ok, Err, inl, inr, refl, ap, subst, ⊎_elim, le-leb, length-append, slice_get, codes}
+use Rattle.std.proofs.Common.{◌≡◌, ◌⊎◌, ◌-◌, ◌^◌, ◌≤◌, ℕ, min, false, List, ◌++◌, length, arith, ◌∙◌, All, Some, Result, Ok, Err, inl, inr, ap, subst, ⊎_elim, le-leb, length-append, slice_get}
 use Rattle.std.specs.Prelude.{IfOk}
 use Rattle.fluid_json.specs.declared.memory.NoMemory.{NoMemory}
-use Rattle.std.proofs.lemmas.Bool.{lt-leb}
-use Rattle.std.proofs.lemmas.Option.{none-some, same_Some}
-use Rattle.std.proofs.lemmas.List.Elements.{All-head, All-tail, All-nil, All-cons}
+use Rattle.std.proofs.Math.Seq.{take-append_seam, drop-append_seam}
+use Rattle.std.proofs.lemmas.List.Elements.{All-take, All-drop}
 use Rattle.fluid_types.specs.Ledger.{Ledger, seq}
 use Rattle.fluid_types.proofs.Ledgers.{seq-le_length}
 use Rattle.fluid_rules.specs.Rules.{IsLegal}
@@ -21,7 +20,6 @@ use Rattle.fluid_scribe.proofs.Within.{kept_within}
 use Rattle.fluid_core.specs.Entering.{State, sequencer_of, within, state_of}
 use Rattle.fluid_log.specs.Keeping.{Content}
 use Rattle.fluid_checkpoint.specs.declared.fault.CheckpointFault.{CheckpointFault}
-use Rattle.fluid_checkpoint.specs.declared.fault.CheckpointFault.TheVariants.{BadField}
 use Rattle.fluid_checkpoint.specs.declared.state.State.{State as Checkpoint}
 use Rattle.fluid_checkpoint.specs.declared.state.Form.{Form}
 use Rattle.fluid_checkpoint.specs.declared.state.Form.TheVariants.{One, Two}
@@ -31,31 +29,26 @@ use Rattle.fluid_checkpoint.specs.Laws.{IsWritten}
 use Rattle.fluid_checkpoint.proofs.Back.{read_back, first_read}
 use Rattle.fluid_readback.specs.Quorums.{QuorumsAreReadBack}
 use Rattle.fluid_checkpoint.specs.Reading.{answer}
-use Rattle.fluid_document.specs.declared.fault.LoadFault.TheVariants.{BadCheckpoint}
 use Rattle.fluid_document.specs.Entries.{Entries, most, entries_of}
 use Rattle.fluid_document.specs.Kept.{IsLoggable, checkpoint_state, checkpoint_text, IsPrinted, IsOfFirst, IsCheckpointOf, IsKept}
 use Rattle.fluid_document.specs.Loading.{entries_in, begun_from}
 use Rattle.fluid_document.proofs.InForm.{in_form}
+use Rattle.fluid_document.proofs.Foldings.{entered-entries_of}
+use Rattle.fluid_document.proofs.Orders.{all-there}
 
 -- ---- printing
 
-parts_are : (p : Parts) (s : ticket.State) → sequencer_of p ≡ s → ◌≡◌ {A = Parts} p (record { sequence = s.sequence; minimum = s.last_minimum; rows = s.rows })
-parts_are p s is = ap (λ (t : ticket.State). record { sequence = t.sequence; minimum = t.last_minimum; rows = t.rows }) is
-
 -- what is handed to be printed is what a checkpoint keeps
-pub printed_of : (e : Entries) (p : Parts) (scribe : ScribeState) (heard : Moments) (bytes : List ℕ) → sequencer_of p ≡ e.state.sequencer → scribe ≡ e.state.scribe → heard ≡ moments_of p.rows
-    → (let s : Checkpoint = record { entered = e.entered; counted = e.counted; sequencer = p; scribe = scribe; heard = heard } in bytes ≡ state_printed s → IsWritten s → IsPrinted e bytes)
-unfolding checkpoint_text
-printed_of e p scribe heard bytes sequencer_is scribe_is heard_is text written =
-    let at : p ≡ (checkpoint_state e).sequencer = parts_are p e.state.sequencer sequencer_is in
-    let same : ◌≡◌ {A = Checkpoint} (record { entered = e.entered; counted = e.counted; sequencer = p; scribe = scribe; heard = heard }) (checkpoint_state e) =
-    λ i. record { entered = e.entered; counted = e.counted; sequencer = at i; scribe = scribe_is i; heard = (heard_is ∙ ap (λ (q : Parts). moments_of q.rows) at) i } in
-    record { text = text ∙ ap state_printed same; written = subst IsWritten same written }
+pub state_is : (e : Entries) (p : Parts) (scribe : ScribeState) (heard : Moments) → sequencer_of p ≡ e.state.sequencer → scribe ≡ e.state.scribe → heard ≡ moments_of p.rows
+    → ◌≡◌ {A = Checkpoint} (record { entered = e.entered; counted = e.counted; sequencer = p; scribe = scribe; heard = heard }) (checkpoint_state e)
+state_is e p scribe heard sequencer_is scribe_is heard_is =
+    let at : p ≡ (checkpoint_state e).sequencer = ap (λ (t : ticket.State). record { sequence = t.sequence; minimum = t.last_minimum; rows = t.rows }) sequencer_is in
+    λ i. record { entered = e.entered; counted = e.counted; sequencer = at i; scribe = scribe_is i; heard = (heard_is ∙ ap (λ (q : Parts). moments_of q.rows) at) i }
 
-pub printed_ok : (r : Result (List ℕ) NoMemory) (e : Entries) (p : Parts) (scribe : ScribeState) (heard : Moments) → sequencer_of p ≡ e.state.sequencer → scribe ≡ e.state.scribe → heard ≡ moments_of p.rows
-    → (let s : Checkpoint = record { entered = e.entered; counted = e.counted; sequencer = p; scribe = scribe; heard = heard } in IfOk r (λ bytes. bytes ≡ state_printed s) → IfOk r (λ _. IsWritten s) → IfOk r (IsPrinted e))
-printed_ok (Ok bytes) e p scribe heard sequencer_is scribe_is heard_is text written = printed_of e p scribe heard bytes sequencer_is scribe_is heard_is text written
-printed_ok (Err fault) e p scribe heard sequencer_is scribe_is heard_is text written = tt
+pub printed_ok : (r : Result (List ℕ) NoMemory) (e : Entries) (s : Checkpoint) → s ≡ checkpoint_state e → IfOk r (λ bytes. bytes ≡ state_printed s) → IfOk r (λ _. IsWritten s) → IfOk r (IsPrinted e)
+unfolding checkpoint_text
+printed_ok (Ok bytes) e s same text written = record { text = text ∙ ap state_printed same; written = subst IsWritten same written }
+printed_ok (Err fault) e s same text written = tt
 
 -- ---- reading
 
@@ -76,32 +69,18 @@ pub sequence-entries_of : (l : Ledger) → (entries_of l).state.sequencer.sequen
 unfolding entries_of state_of
 sequence-entries_of l = sequence-state_of l
 
-pub length-entries_of : (l : Ledger) → (entries_of l).entered ≡ length l
-unfolding entries_of
-length-entries_of l = refl
-
-pub begun_within : (number deltas : ℕ) (s : Checkpoint) → s.sequencer.sequence ≤ min s.entered deltas → begun_from number deltas s ≡ Ok (entries_in s)
-begun_within number deltas s low = rw (le-leb s.sequencer.sequence (min s.entered deltas) low) refl
-
 pub begun_kept : (number deltas : ℕ) (l : Ledger) → IsLegal l → length l ≤ most → seq l ≤ deltas → begun_from number deltas (checkpoint_state (entries_of l)) ≡ Ok (entries_of l)
 begun_kept number deltas l legal few reached =
     let low = seq-le_length l in
-    begun_within number deltas (checkpoint_state (entries_of l)) (omega (arith, sequence-entries_of l, length-entries_of l, low, reached)) ∙ ap Ok (entries_back l legal (omega (arith, low, few)))
+    rw (le-leb (entries_of l).state.sequencer.sequence (min (entries_of l).entered deltas) (omega (arith, sequence-entries_of l, entered-entries_of l, low, reached))) (ap Ok (entries_back l legal (omega (arith, low, few))))
 
 -- ---- a checkpoint of a keeper that is kept
 
-at_place : {X : Type 0} (P : X → Type 0) (xs : List X) (i : ℕ) (x : X) → slice_get xs i ≡ Some x → All P xs → P x
-at_place P [] i x is all = absurd (none-some _ is)
-at_place P (y ∷ xs) zero x is all = subst P (same_Some _ _ is) (All-head P y xs all)
-at_place P (y ∷ xs) (suc i) x is all = at_place P xs i x is (All-tail P y xs all)
-
 pub first_part : {X : Type 0} (P : X → Type 0) (xs ys : List X) → All P (xs ++ ys) → All P xs
-first_part P [] ys all = All-nil P
-first_part P (x ∷ xs) ys all = All-cons P x xs (All-head P x (xs ++ ys) all) (first_part P xs ys (All-tail P x (xs ++ ys) all))
+first_part P xs ys all = subst (All P) (take-append_seam xs ys) (All-take P (length xs) (xs ++ ys) all)
 
 pub last_part : {X : Type 0} (P : X → Type 0) (xs ys : List X) → All P (xs ++ ys) → All P ys
-last_part P [] ys all = all
-last_part P (x ∷ xs) ys all = last_part P xs ys (All-tail P x (xs ++ ys) all)
+last_part P xs ys all = subst (All P) (drop-append_seam xs ys) (All-drop P (length xs) (xs ++ ys) all)
 
 -- it says what the entries of a first part of the ledger made, or how many there are of them
 pub record SaysBefore (l : Ledger) (deltas : ℕ) (said : Result Form CheckpointFault) : Type 0 where
@@ -113,10 +92,18 @@ pub record SaysBefore (l : Ledger) (deltas : ℕ) (said : Result Form Checkpoint
   pub reached : seq before ≤ deltas
   pub says : (said ≡ Ok (Two (checkpoint_state (entries_of before)))) ⊎ (said ≡ Ok (One (length before)))
 
-pub says_before : QuorumsAreReadBack → (l : Ledger) (content : Content) (number : ℕ) (text : List ℕ) → slice_get content.checkpoints number ≡ Some text → IsKept false l content → SaysBefore l (length content.deltas) (answer text)
+-- a text that says a state is of these entries
+pub says_two : (l : Ledger) (deltas : ℕ) (said : Result Form CheckpointFault) (says : SaysBefore l deltas said) (s : Checkpoint) → said ≡ Ok (Two s) → s ≡ checkpoint_state (entries_of says.before)
+says_two l deltas said says s is =
+    ⊎_elim (λ (two : said ≡ Ok (Two (checkpoint_state (entries_of says.before)))). cc) (λ (one : said ≡ Ok (One (length says.before))). absurd (cc)) says.says
+
+pub says_printed : QuorumsAreReadBack → (l : Ledger) → IsLegal l → All IsLoggable l → length l ≤ most → (text : List ℕ) → IsPrinted (entries_of l) text → answer text ≡ Ok (Two (checkpoint_state (entries_of l)))
 unfolding checkpoint_text
+says_printed back l legal loggable few text printed = ap answer printed.text ∙ read_back (checkpoint_state (entries_of l)) (in_form back l legal loggable few printed.written.blobs) printed.written
+
+pub says_before : QuorumsAreReadBack → (l : Ledger) (content : Content) (number : ℕ) (text : List ℕ) → slice_get content.checkpoints number ≡ Some text → IsKept false l content → SaysBefore l (length content.deltas) (answer text)
 says_before back l content number text at kept =
-    let is = at_place (IsCheckpointOf l (length content.deltas)) content.checkpoints number text at kept.checkpoints in
+    let is = all-there (IsCheckpointOf l (length content.deltas)) content.checkpoints number text at kept.checkpoints in
     let legal = legal-first is.before is.behind (subst IsLegal is.splits kept.legal) in
     let loggable = first_part IsLoggable is.before is.behind (subst (All IsLoggable) is.splits kept.loggable) in
     let few : length is.before ≤ most = omega (arith, kept.few, ap length is.splits, length-append is.before is.behind) in
@@ -128,10 +115,9 @@ says_before back l content number text at kept =
       few = few;
       reached = is.reached;
       says = ⊎_elim
-          (λ (printed : IsPrinted (entries_of is.before) text).
-          inl (ap answer printed.text ∙ read_back (checkpoint_state (entries_of is.before)) (in_form back is.before legal loggable few printed.written.blobs) printed.written))
+          (λ (printed : IsPrinted (entries_of is.before) text). inl (says_printed back is.before legal loggable few text printed))
           (λ (first : IsOfFirst (entries_of is.before) text).
-          inr (ap answer first.text ∙ first_read (checkpoint_state (entries_of is.before)) (in_form back is.before legal loggable few first.blobs) first.utf8 ∙ ap (λ n. Ok (One n)) (length-entries_of is.before)))
+          inr (ap answer first.text ∙ first_read (checkpoint_state (entries_of is.before)) (in_form back is.before legal loggable few first.blobs) first.utf8 ∙ ap (λ n. Ok (One n)) (entered-entries_of is.before)))
           is.text;
     }
 

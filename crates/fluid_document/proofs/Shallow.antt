@@ -5,31 +5,16 @@ use Rattle.fluid_json.specs.Tree.{Tree, text, trees, members, depth, trees_depth
 use Rattle.fluid_types.specs.Printed.{Row as Pair, or_null, row_if_any, scope_words, message_rows, message_tree}
 use Rattle.fluid_types.specs.declared.fault.Field.{Field}
 use Rattle.fluid_types.specs.declared.messages.Message.{Message}
-use Rattle.fluid_tree.specs.declared.id.SummaryRef.{SummaryRef}
 use Rattle.fluid_clients.specs.declared.table.Row.{Row}
 use Rattle.fluid_codec.specs.Laws.{IsNested, IsMessage}
-use Rattle.fluid_checkpoint.specs.Heard.{Moments}
-use Rattle.fluid_checkpoint.specs.Text.{ack_tree, client_tree, moment_tree, change_tree}
+use Rattle.fluid_checkpoint.specs.Text.{client_tree}
 
-pub acks_shallow : (acks : List SummaryRef) → trees_depth (trees (map ack_tree acks)) ≤ 1
-acks_shallow [] = omega arith
-acks_shallow (ack ∷ acks) = omega (arith, acks_shallow acks)
+pub list_shallow : {X : Type 0} (f : X → Tree) (most : ℕ) (xs : List X) → All (λ x. depth (f x) ≤ most) xs → trees_depth (trees (map f xs)) ≤ most
+list_shallow f most [] all = omega arith
+list_shallow f most (x ∷ xs) all = omega (arith, All-head (λ y. depth (f y) ≤ most) x xs all, list_shallow f most xs (All-tail (λ y. depth (f y) ≤ most) x xs all))
 
-pub moments_shallow : (moments : Moments) → trees_depth (trees (map moment_tree moments)) ≤ 1
-moments_shallow [] = omega arith
-moments_shallow ((id, moment) ∷ moments) = omega (arith, moments_shallow moments)
-
-pub changes_shallow : (changes : List (ℕ × ℕ)) → trees_depth (trees (map change_tree changes)) ≤ 1
-changes_shallow [] = omega arith
-changes_shallow ((number, minimum) ∷ changes) = omega (arith, changes_shallow changes)
-
-texts_shallow : (words : List (List ℕ)) → trees_depth (trees (map text words)) ≤ 0
-texts_shallow [] = omega arith
-texts_shallow (word ∷ words) = omega (arith, texts_shallow words)
-
-pub clients_shallow : (clients : List (List ℕ × Row)) → trees_depth (trees (map client_tree clients)) ≤ 2
-clients_shallow [] = omega arith
-clients_shallow ((id, row) ∷ clients) = omega (arith, texts_shallow (scope_words row.scopes), clients_shallow clients)
+pub client_shallow : (client : List ℕ × Row) → depth (client_tree client) ≤ 2
+client_shallow (id, row) = omega (arith, list_shallow text 0 (scope_words row.scopes) (λ k d lt. omega arith))
 
 -- ---- messages
 
@@ -57,7 +42,7 @@ name_shallow : (o : Option (List ℕ)) → depth (or_null text o) ≤ 99
 name_shallow None = omega arith
 name_shallow (Some id) = omega arith
 
-message_shallow : (m : Message) → IsMessage m → depth (message_tree m) ≤ 100
+pub message_shallow : (m : Message) → IsMessage m → depth (message_tree m) ≤ 100
 unfolding message_rows
 message_shallow m is =
     let h = members_shallow (message_rows m) (
@@ -72,7 +57,3 @@ message_shallow m is =
       ),
     ) in
     omega (arith, h)
-
-pub messages_shallow : (ms : List Message) → All IsMessage ms → trees_depth (trees (map message_tree ms)) ≤ 100
-messages_shallow [] all = omega arith
-messages_shallow (m ∷ ms) all = omega (arith, message_shallow m (All-head IsMessage m ms all), messages_shallow ms (All-tail IsMessage m ms all))

@@ -3,7 +3,7 @@ use Rattle.std.proofs.Common.{ℕ, ◌≤◌, arith}
 use Rattle.fluid_io.specs.declared.faults.FaultNote.{FaultNote}
 use Rattle.fluid_deltas.specs.Ranges.{IsNoted}
 use Rattle.fluid_lane.specs.declared.fault.LaneFault.{LaneFault}
-use Rattle.fluid_lane.specs.declared.fault.LaneFault.TheVariants.{LogFailed, Full, BadRecord, NoCheckpoint, CheckpointsFull, TooManyClients, DeltaFailed, NoMemory, BadCheckpoint, TooLarge, Worn}
+use Rattle.fluid_lane.specs.declared.fault.LaneFault.TheVariants.{LogFailed, DeltaFailed}
 use Rattle.fluid_lane.specs.Faults.{IsCausedBy}
 
 noted : (first before now : ℕ) (note : FaultNote) → first ≤ before → IsNoted before now note → IsNoted first now note
@@ -11,13 +11,5 @@ noted first before now note le is = record { first = omega (arith, le, is.first)
 
 pub caused_earlier : (first before now : ℕ) (fault : LaneFault) → first ≤ before → IsCausedBy before now fault → IsCausedBy first now fault
 caused_earlier first before now (LogFailed note) le is = noted first before now note le is
-caused_earlier first before now (Full entries) le is = tt
-caused_earlier first before now (BadRecord place) le is = tt
-caused_earlier first before now (NoCheckpoint asked stored) le is = tt
-caused_earlier first before now CheckpointsFull le is = tt
-caused_earlier first before now TooManyClients le is = tt
 caused_earlier first before now (DeltaFailed note) le is = noted first before now note le is
-caused_earlier first before now NoMemory le is = tt
-caused_earlier first before now (BadCheckpoint number bad) le is = tt
-caused_earlier first before now (TooLarge bytes) le is = tt
-caused_earlier first before now Worn le is = tt
+caused_earlier first before now other le is = tt

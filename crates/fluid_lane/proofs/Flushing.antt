@@ -1,91 +1,72 @@
 -- What a lane's messages stand for behind a flush.
-use Rattle.std.proofs.Common.{◌≡◌, ℕ, ◌-◌, ◌≤◌, false, List, length, map, is_some, Option, Some, None, Result, Ok, Err, refl, sym, ap, subst, ◌∙◌, length-append, arith}
-use Rattle.std.specs.Option.{option_map}
+use Rattle.std.proofs.Common.{◌≡◌, ℕ, ◌-◌, ◌≤◌, false, List, length, map, is_some, Option, Result, Ok, sym, ap, subst, ◌∙◌, length-append, arith}
 use Rattle.fluid_io.specs.Causes.{Tells}
 use Rattle.fluid_types.specs.declared.messages.Message.{Message}
 use Rattle.fluid_types.specs.Ledger.{Ledger, order}
 use Rattle.fluid_types.specs.Printed.{message_printed}
-use Rattle.fluid_log.specs.Keeping.{Content, Keeping}
+use Rattle.fluid_log.specs.Keeping.{Content}
 use Rattle.fluid_log.specs.Calls.{KeepsSame}
-use Rattle.fluid_deltas.specs.Pushed.{Pushed, StandIn, StandFor}
+use Rattle.fluid_deltas.specs.Pushed.{Pushed, pushed, StandIn, StandFor}
 use Rattle.fluid_deltas.specs.Ranges.{IsAnswer, IsHeldAnswer, AreHeld, Reads, held_between, range_of}
 use Rattle.fluid_deltas.specs.declared.fault.DeltaFault.{DeltaFault}
 use Rattle.fluid_deltas.specs.Flushes.{put_behind, with_deltas}
-use Rattle.fluid_deltas.proofs.Telling.{tells_from, tells_both, tells_along, tells_becomes}
+use Rattle.fluid_deltas.proofs.Telling.{tells_from, tells_both}
 use Rattle.fluid_document.specs.Entries.{InMemory}
 use Rattle.fluid_document.specs.Kept.{IsKept}
 use Rattle.fluid_document.specs.Loading.{PutsDeltas}
 use Rattle.fluid_document.specs.Taking.{ReadsKept}
-use Rattle.fluid_document.specs.declared.fault.LoadFault.{LoadFault}
 use Rattle.fluid_lane.specs.declared.steps.Step.{Step}
 use Rattle.fluid_lane.specs.Steps.{ledger}
-use Rattle.fluid_lane.specs.Standing.{Standing, IsFor, IsTold, LaneStands, Goes}
+use Rattle.fluid_lane.specs.Standing.{Standing, IsFor, LaneStands, Goes}
 use Rattle.fluid_lane.specs.Ranges.{Ranges}
-use Rattle.fluid_lane.proofs.Stands.{Was, StillStand, StillFor, Ends, ends, goes_put, still_whole, owes_still}
-
-same_told : {A : Type 0} (change : A → A) (told : Option A) → is_some (option_map change told) ≡ is_some told
-same_told change None = refl
-same_told change (Some a) = refl
-
-pub put_still : (d : Pushed) (ms : List Message) (old new : Keeping) → KeepsSame (with_deltas ms old) new → ((order : List Message) → Tells old.content (StandIn d order) → Tells new.content (StandIn d order))
-    → (order : List Message) → Tells old.content (StandFor d order) → Tells new.content (StandFor d order)
-put_still d ms old new kept each = still_whole d old new (ap is_some kept.content ∙ same_told (put_behind ms) old.content) each
+use Rattle.fluid_lane.proofs.Stands.{goes_from, told_too, told_map, told_changed, Ends, ends, goes_put, owes_still}
 
 -- messages in memory and the keeper's deltas are the order
 pub messages_stand : (s : Standing) (l : List Step) → LaneStands s l → Tells s.keeping.content (StandFor s.messages (order (ledger l)))
-messages_stand s l stands = tells_from s.keeping.content (IsTold s l) (StandFor s.messages (order (ledger l))) (λ c told. told.stands.messages) stands.told
+messages_stand s l stands = tells_from s.keeping.content _ _ (λ c told. told.stands.messages) stands.told
 
 -- what stood for an order over the keeper stands for it behind a flush
-pub still_flushed : (s t : Standing) (ms : List Message) → KeepsSame (with_deltas ms s.keeping) t.keeping → t.messages ≡ s.messages → ((order : List Message) → Tells s.keeping.content (StandIn s.messages order) → Tells t.keeping.content (StandIn s.messages order))
-    → StillStand s t
-still_flushed s t ms kept messages each o stands = subst (λ d. Tells t.keeping.content (StandFor d o)) (sym messages) (put_still s.messages ms s.keeping t.keeping kept each o stands)
+still_flushed : (d : Pushed) (old new : Option Content) (o : List Message) → is_some new ≡ is_some old → (Tells old (StandIn d o) → Tells new (StandIn d o)) → Tells old (StandFor d o) → Tells new (StandFor d o)
+still_flushed d old new o same each stands =
+    tells_both new (StandIn d o) (λ _. length o ≡ pushed d) (StandFor d o) (λ c stand whole. record { stand = stand; whole = whole }) (each (tells_from old _ _ (λ c one. one.stand) stands))
+    (told_too old new _ same (tells_from old _ _ (λ c one. one.whole) stands))
 
 -- messages in memory were put, and nothing else happened
 pub goes_flushed : (s t : Standing) (more : List Step) (ms : List Message) → Ends s t more → KeepsSame (with_deltas ms s.keeping) t.keeping → s.keeping.faults ≤ t.keeping.faults → t.entries ≡ s.entries → t.messages ≡ s.messages → t.owed ≡ s.owed → t.opened ≡ s.opened → t.limits ≡ s.limits
     → ((order : List Message) → Tells s.keeping.content (StandIn s.messages order) → Tells t.keeping.content (StandIn s.messages order)) → Goes s t more
-goes_flushed s t more ms end kept faults entries messages owed opened limits each = goes_put s t more ms end kept faults entries owed opened limits (still_flushed s t ms kept messages each)
+goes_flushed s t more ms end kept faults entries messages owed opened limits each =
+    goes_put s t more ms (λ c. c) end kept.content kept.checkpoints faults entries opened limits (owes_still s t more end owed)
+    (λ o stands. rw messages (still_flushed s.messages s.keeping.content t.keeping.content o (ap is_some kept.content ∙ told_map (put_behind ms) s.keeping.content) (each o) stands)) (λ l c kept. rw owed kept)
 
 -- ---- a keeper that was read
 
-grown : (c : Content) (ms : List Message) → length c.deltas ≤ length (put_behind ms c).deltas
-grown c ms = omega (arith, length-append c.deltas (map message_printed ms))
-
 -- messages may have been put among the deltas to make room, and what the keeper was kept for it is kept for still
-pub for_read : (s t : Standing) → PutsDeltas s.keeping t.keeping → s.owed ≡ false → t.owed ≡ s.owed → t.entries ≡ s.entries → t.messages ≡ s.messages → ((l : Ledger) → Tells s.keeping.content (IsKept false l) → Tells t.keeping.content (IsKept false l)) → StillFor s t
-for_read s t puts level owed entries messages kept l is =
-    tells_both t.keeping.content (Was s l (put_behind puts.messages)) (IsKept false l) (IsFor t.owed t.entries t.messages l)
-    (λ d was new. record {
-      kept = subst (λ o. IsKept o l d) (sym (owed ∙ level)) new;
-      entries = entries ∙ was.said.entries;
-      messages = subst (λ m. StandFor m (order l) d) (sym messages) (record {
-        stand = record {
-          part = was.said.messages.stand.part;
-          deltas = new.deltas;
-          reached = omega (arith, was.said.messages.stand.reached, grown was.was puts.messages, ap (λ x. length x.deltas) was.is);
-        };
-        whole = was.said.messages.whole;
-      });
-    })
-    (tells_along _ _ (Was s l (put_behind puts.messages)) (sym puts.kept.content)
-    (tells_becomes s.keeping.content (put_behind puts.messages) (IsFor s.owed s.entries s.messages l) (Was s l (put_behind puts.messages)) (λ c one. record { was = c; is = refl; said = one }) is))
-    (kept l (tells_from s.keeping.content (IsFor s.owed s.entries s.messages l) (IsKept false l) (λ c one. subst (λ o. IsKept o l c) level one.kept) is))
-
-pub goes_read : (s t : Standing) (more : List Step) → Ends s t more → PutsDeltas s.keeping t.keeping → s.keeping.faults ≤ t.keeping.faults → s.owed ≡ false → t.owed ≡ s.owed → t.entries ≡ s.entries → t.messages ≡ s.messages → t.opened ≡ s.opened → t.limits ≡ s.limits
-    → ((l : Ledger) → Tells s.keeping.content (IsKept false l) → Tells t.keeping.content (IsKept false l)) → Goes s t more
-goes_read s t more end puts faults level owed entries messages opened limits kept =
-    ends s t more end (ap is_some puts.kept.content ∙ same_told (put_behind puts.messages) s.keeping.content) puts.kept.checkpoints faults (ap (λ e. e.entered) entries) opened limits (owes_still s t more end owed) (for_read s t puts level owed entries messages kept)
+pub goes_read : (s r t : Standing) (more : List Step) → s ≡ r → Ends s t more → PutsDeltas s.keeping t.keeping → s.keeping.faults ≤ t.keeping.faults → r.owed ≡ false → t.owed ≡ s.owed → t.entries ≡ s.entries → t.messages ≡ s.messages → t.opened ≡ s.opened → t.limits ≡ s.limits
+    → ((l : Ledger) → Tells s.keeping.content (IsKept false l) → Tells t.keeping.content (IsKept false l)) → Goes r t more
+goes_read s r t more same end puts faults none owed entries messages opened limits kept =
+    let level : s.owed ≡ false = ap (λ u. u.owed) same ∙ none in
+    goes_from s r t more same (ends s t more end (ap is_some puts.kept.content ∙ told_map (put_behind puts.messages) s.keeping.content) puts.kept.checkpoints faults (ap (λ e. e.entered) entries) opened limits (owes_still s t more end owed)
+    (λ l is. rw (entries, messages, owed)
+    (told_changed s.keeping.content t.keeping.content (put_behind puts.messages) (IsFor s.owed s.entries s.messages l) (IsKept false l) (IsFor s.owed s.entries s.messages l) puts.kept.content
+    (λ c one new.
+    let stand : StandIn s.messages (order l) (put_behind puts.messages c) = record {
+      part = one.messages.stand.part;
+      deltas = new.deltas;
+      reached = omega (arith, one.messages.stand.reached, length-append c.deltas (map message_printed puts.messages));
+    } in
+    record { kept = rw level new; entries = one.entries; messages = record { stand = stand; whole = one.messages.whole } })
+    is (kept l (tells_from s.keeping.content _ _ (λ c one. rw level at one.kept) is)))))
 
 -- what the keeper is kept for
-pub kept_for : (s : Standing) (l : List Step) → s.owed ≡ false → LaneStands s l → Tells s.keeping.content (IsKept false (ledger l))
-kept_for s l level stands = tells_from s.keeping.content (IsTold s l) (IsKept false (ledger l)) (λ c told. subst (λ o. IsKept o (ledger l) c) level told.stands.kept) stands.told
+pub kept_for : (s r : Standing) (l : List Step) → s ≡ r → r.owed ≡ false → LaneStands r l → Tells s.keeping.content (IsKept false (ledger l))
+kept_for s r l same level stands = rw same (tells_from r.keeping.content _ _ (λ c told. rw level at told.stands.kept) stands.told)
 
 -- of what was read of a keeper that is kept the keeper is kept still
-pub read_kept : {A : Type 0} (view : A → InMemory) (l : Ledger) (result : Result A LoadFault) (told : Option Content) → Tells told (ReadsKept view l result) → Tells told (IsKept false l)
-read_kept view l (Ok a) told read = tells_from told (ReadsKept view l (Ok a)) (IsKept false l) (λ c both. both.0) read
-read_kept view l (Err fault) told read = read
+pub read_kept : (m : InMemory) (l : Ledger) (told : Option Content) → Tells told (ReadsKept {A = InMemory} (λ d. d) l (Ok m)) → Tells told (IsKept false l)
+read_kept m l told read = tells_from told _ _ (λ c both. both.0) read
 
-pub read_stands : {A : Type 0} (view : A → InMemory) (a : A) (l : Ledger) (told : Option Content) → Tells told (ReadsKept view l (Ok a)) → Tells told (StandFor (view a).messages (order l))
-read_stands view a l told read = tells_from told (ReadsKept view l (Ok a)) (StandFor (view a).messages (order l)) (λ c both. both.1) read
+pub read_stands : (m : InMemory) (l : Ledger) (told : Option Content) → Tells told (ReadsKept {A = InMemory} (λ d. d) l (Ok m)) → Tells told (StandFor m.messages (order l))
+read_stands m l told read = tells_from told _ _ (λ c both. both.1) read
 
 -- ---- ranges
 

@@ -1,13 +1,11 @@
 -- What a list of steps says with more steps at its end.
 use Rattle.std.proofs.Common.{◌≡◌, ℕ, ◌+◌, ◌≤◌, arith, List, [], ◌∷◌, ◌++◌, length, Option, Some, None, refl, ap, ◌∙◌}
 use Rattle.std.specs.Option.{option_or}
-use Rattle.fluid_types.specs.declared.entries.Raw.{Raw}
-use Rattle.fluid_types.specs.declared.verdicts.Verdict.{Verdict}
 use Rattle.fluid_lane.specs.declared.steps.Side.{Side}
-use Rattle.fluid_lane.specs.declared.steps.Side.TheVariants.{Failed, Stored, Restarted}
+use Rattle.fluid_lane.specs.declared.steps.Side.TheVariants.{Failed}
 use Rattle.fluid_lane.specs.declared.steps.Step.{Step}
 use Rattle.fluid_lane.specs.declared.steps.Step.TheVariants.{Entered, Aside}
-use Rattle.fluid_lane.specs.Steps.{ledger, last_side, stored, asides, IsNotedIn, AreNoted}
+use Rattle.fluid_lane.specs.Steps.{ledger, last_side, stored, asides, AreNoted}
 
 pub ledger-append : (l more : List Step) → ledger (l ++ more) ≡ ledger l ++ ledger more
 ledger-append [] more = refl
@@ -24,15 +22,17 @@ asides-append [] more = omega arith
 asides-append (Entered raw verdict ∷ l) more = asides-append l more
 asides-append (Aside side ∷ l) more = omega (arith, asides-append l more)
 
-noted_in_more : (n m : ℕ) (side : Side) → n ≤ m → IsNotedIn n side → IsNotedIn m side
-noted_in_more n m (Failed note) le noted = omega arith
-noted_in_more n m (Stored number) le noted = tt
-noted_in_more n m (Restarted number) le noted = tt
+-- a step is an entry or a side step
+pub length-parts : (l : List Step) → length l ≡ length (ledger l) + asides l
+length-parts [] = refl
+length-parts (Entered raw verdict ∷ l) = omega (arith, length-parts l)
+length-parts (Aside side ∷ l) = omega (arith, length-parts l)
 
 pub noted_more : (n m : ℕ) (l : List Step) → n ≤ m → AreNoted n l → AreNoted m l
 noted_more n m [] le noted = tt
 noted_more n m (Entered raw verdict ∷ l) le noted = noted_more n m l le noted
-noted_more n m (Aside side ∷ l) le noted = (noted_in_more n m side le noted.0, noted_more n m l le noted.1)
+noted_more n m (Aside (Failed note) ∷ l) le noted = (omega (arith, le, noted.0), noted_more n m l le noted.1)
+noted_more n m (Aside other ∷ l) le noted = (tt, noted_more n m l le noted.1)
 
 pub noted-append : (n : ℕ) (l more : List Step) → AreNoted n l → AreNoted n more → AreNoted n (l ++ more)
 noted-append n [] more a b = b

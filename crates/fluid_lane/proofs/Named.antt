@@ -11,7 +11,7 @@ use Rattle.fluid_json.specs.Tree.{Tree}
 use Rattle.fluid_rules.specs.Past.{is_sequenced}
 use Rattle.fluid_core.specs.Entering.{verdict_in}
 use Rattle.fluid_types.specs.declared.entries.Raw.{Raw}
-use Rattle.fluid_types.specs.declared.entries.Raw.TheVariants.{Join, Leave, Submit, Report}
+use Rattle.fluid_types.specs.declared.entries.Raw.TheVariants.{Join}
 use Rattle.fluid_document.specs.Entries.{Entries, taken_up}
 use Rattle.fluid_lane.specs.Standing.{AreNamed, IsOwn}
 use Rattle.fluid_document.proofs.Onwards.{IsJoinOf, rows-after, join-sequenced}
@@ -19,19 +19,18 @@ use Rattle.fluid_document.proofs.Onwards.{IsJoinOf, rows-after, join-sequenced}
 abbrev Name : ℕ → List ℕ → Type 0
 Name entered id = (n : ℕ) × ((n < entered) × (id ≡ entry_name n))
 
-earlier : (entered : ℕ) (id : List ℕ) → Name entered id → Name (entered + 1) id
-earlier entered id name = (name.0, (omega (arith, name.1.0), name.1.1))
-
 own : (entered : ℕ) (raw : Raw) (id : List ℕ) → IsOwn entered raw → IsJoinOf id raw → Name (entered + 1) id
 own entered (Join c scopes detail moment) id is join = (entered, (omega arith, sym join ∙ is))
-own entered (Leave c moment) id is join = absurd join
-own entered (Submit c submission moment) id is join = absurd join
-own entered (Report summary found moment) id is join = absurd join
+own entered other id is join = absurd join
 
 pub named_after : (f : Entries) (raw : Raw) → AreNamed f.entered f.state.sequencer.rows → IsOwn f.entered raw → AreNamed (taken_up f raw).entered (taken_up f raw).state.sequencer.rows
 unfolding taken_up
 named_after f raw named is = λ id there.
-    ⊎_elim (λ old. earlier f.entered id (named id old)) (λ join. own f.entered raw id is join) (rows-after f.state raw id there)
+    ⊎_elim (λ old. let name = named id old in (name.0, (omega (arith, name.1.0), name.1.1))) (λ join. own f.entered raw id is join) (rows-after f.state raw id there)
+
+pub taken-entered : (e : Entries) (raw : Raw) → (taken_up e raw).entered ≡ e.entered + 1
+unfolding taken_up
+taken-entered e raw = refl
 
 names_differ : (n m : ℕ) → n < 2 ^ 64 → m < n → entry_name n ≡ entry_name m → ⊥
 names_differ n m fits lt same =

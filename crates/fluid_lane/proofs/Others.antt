@@ -1,5 +1,5 @@
 -- A restart from a checkpoint whose clients are others is refused.
-use Rattle.std.proofs.Common.{◌≡◌, ◌⊎◌, ℕ, Option, Some, Ok, List, [], refl, sym, ap, subst, ⊎_elim, codes, inl, inr, ◌∙◌}
+use Rattle.std.proofs.Common.{◌≡◌, ◌⊎◌, ℕ, Option, Some, Ok, List, [], refl, sym, ap, ⊎_elim, codes, inl, inr, ◌∙◌}
 use Rattle.std.specs.Prelude.{◌≢◌}
 use Rattle.std.specs.FinMap.{keys}
 use Rattle.fluid_io.specs.Causes.{Tells}
@@ -14,7 +14,7 @@ use Rattle.fluid_lane.specs.declared.fault.LaneFault.{LaneFault}
 use Rattle.fluid_lane.specs.declared.fault.LaneFault.TheVariants.{BadCheckpoint, NoMemory}
 use Rattle.fluid_lane.specs.Faults.{of_loading}
 use Rattle.fluid_lane.specs.Steps.{fault_steps}
-use Rattle.fluid_lane.specs.Restarts.{IsAtDeltas, RefusesRestart}
+use Rattle.fluid_lane.specs.Restarts.{RefusesRestart}
 
 -- the fault of a bad member, or of memory
 abbrev pub IsBadOf : (number : ℕ) (name : List ℕ) → LaneFault → Type 0
@@ -27,15 +27,7 @@ bad_of number name fault answer (inr bad) is = inr (is ∙ ap of_loading bad)
 pub bad_steps : (number : ℕ) (name : List ℕ) (answer : LaneFault) → IsBadOf number name answer → [] ≡ fault_steps answer
 bad_steps number name answer is = ⊎_elim (λ memory. ap fault_steps (sym memory)) (λ bad. ap fault_steps (sym bad)) is
 
-pub bad_elsewhere : (number : ℕ) (name : List ℕ) (entered : ℕ) (answer : LaneFault) → IsBadOf number name answer → IsAtDeltas entered answer
-bad_elsewhere number name entered answer is = ⊎_elim (λ memory. subst (IsAtDeltas entered) (sym memory) tt) (λ bad. subst (IsAtDeltas entered) (sym bad) tt) is
-
 pub others_refused : (told : Option Content) (number : ℕ) (old e : Entries) (answer : LaneFault) → Tells told (λ content. loaded content (Some number) ≡ Ok e) → keys e.state.sequencer.rows ≢ keys old.state.sequencer.rows
     → IsBadOf number (codes "clients") answer → Tells told (λ content. RefusesRestart number old content answer)
-others_refused told number old e answer loads others is =
-    ⊎_elim
-    (λ memory. subst (λ fault. Tells told (λ content. RefusesRestart number old content fault)) (sym memory) (tells_each told _ (λ content. tt)))
-    (λ bad. subst (λ fault. Tells told (λ content. RefusesRestart number old content fault)) (sym bad)
-    (tells_from told (λ content. loaded content (Some number) ≡ Ok e) (λ content. RefusesRestart number old content (BadCheckpoint number (BadField (codes "clients"))))
-    (λ content loads. inr (record { entries = e; is = loads; others = others; answered = refl })) loads))
-    is
+others_refused told number old e answer loads others (inl memory) = rw memory (tells_each told _ (λ content. tt))
+others_refused told number old e answer loads others (inr bad) = rw bad (tells_from told _ _ (λ content is. inr (record { entries = e; is = is; others = others; answered = refl })) loads)

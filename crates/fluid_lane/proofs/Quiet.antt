@@ -1,12 +1,13 @@
 -- The first of the joined clients that is silent, place by place.
-use Rattle.std.proofs.Common.{◌≡◌, is_some, ℕ, zero, suc, ◌+◌, ◌<◌, ◌≤◌, Bool, true, false, List, [], ◌∷◌, length, drop, slice_get, Option, Some, None, refl, sym, ap, ◌∙◌, arith}
+use Rattle.std.proofs.Common.{◌≡◌, is_some, ℕ, zero, suc, ◌+◌, ◌<◌, ◌≤◌, Bool, true, false, List, [], ◌∷◌, length, drop, slice_get, Option, Some, None, refl, sym, ap, ◌∙◌, arith, get_or}
 use Rattle.std.specs.Prelude.{IsSome, nat_lt, if◌then◌else◌}
 use Rattle.std.specs.List.{list_any}
 use Rattle.std.specs.Ordering.{eq_by_cmp}
 use Rattle.std.specs.Option.{option_map, option_map_or}
 use Rattle.std.specs.FinMap.{get, keys, len, contains_key-keys}
 use Rattle.std.proofs.lemmas.Bool.{false≢true, lt-ltb, le-ltb, or_left, or_right}
-use Rattle.std.proofs.lemmas.Option.{none-some}
+use Rattle.std.proofs.Math.ListN.{drop_of_length-le}
+use Rattle.std.proofs.lemmas.Option.{none-some, same_Some, slice_get-get_or}
 use Rattle.std.proofs.lemmas.Slice.Eq.{bytes_eq-Decides}
 use Rattle.fluid_types.specs.declared.entries.Raw.TheVariants.{Leave}
 use Rattle.fluid_clients.specs.declared.table.Row.{Row}
@@ -21,26 +22,17 @@ use Rattle.fluid_lane.proofs.Ids.{length-keys}
 
 -- ---- places
 
-in_list : {X : Type 0} (xs : List X) (n : ℕ) → n < length xs → None ≡ slice_get xs n → ⊥
-in_list [] n lt is = absurd (omega (arith, lt))
-in_list (x ∷ xs) zero lt is = absurd (none-some _ is)
-in_list (x ∷ xs) (suc n) lt is = in_list xs n (omega (arith, lt)) is
+pub at_place : (ids : List (List ℕ)) (n : ℕ) → n < length ids → (id : List ℕ) × (slice_get ids n ≡ Some id)
+at_place ids n lt = (get_or ids n [], slice_get-get_or ids n [] lt)
 
 -- a place among the joined clients has an id
 pub id_there : (rows : Rows) (place : ℕ) → place < len rows → None ≡ slice_get (keys rows) place → ⊥
-id_there rows place lt none = in_list (keys rows) place (omega (arith, lt, length-keys rows)) none
+id_there rows place lt none = none-some _ (none ∙ (at_place (keys rows) place (omega (arith, lt, length-keys rows))).1)
 
 -- and an id that stands there has a row
 any_at : (id : List ℕ) (ids : List (List ℕ)) (n : ℕ) → slice_get ids n ≡ Some id → list_any (eq_by_cmp byte_order id) ids ≡ true
 any_at id [] n is = absurd (none-some _ is)
-any_at id (x ∷ ids) zero is = or_left _ _ (tied_back id x ∙ (bytes_eq-Decides x id).1 (some_is x id is))
-  where
-    value : List ℕ → Option (List ℕ) → List ℕ
-    value d None = d
-    value d (Some y) = y
-
-    some_is : (y z : List ℕ) → Some y ≡ Some z → y ≡ z
-    some_is y z same = ap (value y) same
+any_at id (x ∷ ids) zero is = or_left _ _ (tied_back id x ∙ (bytes_eq-Decides x id).1 (same_Some x id is))
 any_at id (x ∷ ids) (suc n) is = or_right _ _ (any_at id ids n is)
 
 pub row_there : (rows : Rows) (id : List ℕ) (place : ℕ) → slice_get (keys rows) place ≡ Some id → IsSome (get rows id)
@@ -53,11 +45,7 @@ row_absent rows id place is none = false≢true (ap is_some none ∙ row_there r
 
 drop_at : (xs : List (List ℕ)) (n : ℕ) (x : List ℕ) → slice_get xs n ≡ Some x → drop n xs ≡ x ∷ drop (n + 1) xs
 drop_at [] n x is = absurd (none-some _ is)
-drop_at (y ∷ xs) zero x is = ap (λ z. z ∷ xs) (ap (value y) is)
-  where
-    value : List ℕ → Option (List ℕ) → List ℕ
-    value d None = d
-    value d (Some z) = z
+drop_at (y ∷ xs) zero x is = ap (λ z. z ∷ xs) (same_Some y x is)
 drop_at (y ∷ xs) (suc n) x is =
     let on : suc (n + 1) ≡ suc n + 1 = omega arith in
     drop_at xs n x is ∙ ap (λ k. x ∷ drop k (y ∷ xs)) on
@@ -74,18 +62,9 @@ record IsOne (rows : Rows) (place heard : ℕ) : Type 0 where
   there : get rows id ≡ Some row
   at : row.heard ≡ heard
 
-pub at_place : (ids : List (List ℕ)) (n : ℕ) → n < length ids → (id : List ℕ) × (slice_get ids n ≡ Some id)
-at_place [] n lt = absurd (omega (arith, lt))
-at_place (id ∷ ids) zero lt = (id, refl)
-at_place (id ∷ ids) (suc n) lt = at_place ids n (omega (arith, lt))
-
 row_with : (o : Option Row) (heard : ℕ) → option_map (λ (row : Row). row.heard) o ≡ Some heard → (row : Row) × ((o ≡ Some row) × (row.heard ≡ heard))
 row_with None heard is = absurd (none-some _ is)
-row_with (Some row) heard is = (row, (refl, ap (value row.heard) is))
-  where
-    value : ℕ → Option ℕ → ℕ
-    value d None = d
-    value d (Some n) = n
+row_with (Some row) heard is = (row, (refl, same_Some row.heard heard is))
 
 one_at : (rows : Rows) (place heard : ℕ) → place < len rows → IsHeardAt rows place heard → IsOne rows place heard
 one_at rows place heard lt is =
@@ -120,14 +99,8 @@ silent_here moment silence rows place heard quiet lt is early =
     ∙ by_test (is_silent moment silence rows) one.id (drop (place + 1) (keys rows)) true
     (silent_at moment silence rows one.id one.row true one.there (lt-ltb (one.row.heard + silence) moment (omega (arith, early, one.at)))))
 
-drop_past : {X : Type 0} (xs : List X) (n : ℕ) → length xs ≤ n → drop n xs ≡ []
-drop_past [] zero le = refl
-drop_past [] (suc n) le = refl
-drop_past (x ∷ xs) zero le = absurd (omega (arith, le))
-drop_past (x ∷ xs) (suc n) le = drop_past xs n (omega (arith, le))
-
 pub quiet_all : (moment silence : ℕ) (rows : Rows) (place : ℕ) → IsQuiet moment silence rows place → len rows ≤ place → first_silent moment silence rows ≡ None
-quiet_all moment silence rows place quiet le = quiet.rest ∙ ap (first_by (is_silent moment silence rows)) (drop_past (keys rows) place (omega (arith, le, length-keys rows)))
+quiet_all moment silence rows place quiet le = quiet.rest ∙ ap (first_by (is_silent moment silence rows)) (drop_of_length-le (keys rows) (omega (arith, le, length-keys rows)))
 
 -- ---- the leave
 

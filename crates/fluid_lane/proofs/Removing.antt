@@ -1,5 +1,5 @@
 -- Behind a leave of the first of the joined clients the others are joined.
-use Rattle.std.proofs.Common.{◌≡◌, ℕ, Bool, true, false, cond, List, [], ◌∷◌, map, length, Option, Some, None, is_some, Ordering, refl, sym, ap, subst, ◌∙◌, arith}
+use Rattle.std.proofs.Common.{◌≡◌, ℕ, Bool, true, false, cond, List, [], ◌∷◌, map, Option, Some, None, is_some, Ordering, refl, sym, ap, subst, ◌∙◌}
 use Rattle.std.specs.Prelude.{T, ◌&&◌, ◌||◌}
 use Rattle.std.specs.declared.cmp.Ordering.TheVariants.{Less, Equal, Greater}
 use Rattle.std.specs.Ordering.{eq_by_cmp, is_eq, is_lt}
@@ -56,35 +56,15 @@ first_removed rows id row es is =
     ap entries (same_map byte_order_total byte_order-IsAntisymmetric (remove rows id) (from_sorted es) (removed_get rows id row es is sorted))
     ∙ entries-from_sorted byte_order es (second_of (below_all byte_order id es) (is_sorted byte_order es) sorted)
 
--- a list of entries by its first key
-record BeginsWith (id : List ℕ) (rest : List (List ℕ)) (es : List (List ℕ × Row)) : Type 0 where
-  row : Row
-  behind : List (List ℕ × Row)
-  is : es ≡ (id, row) ∷ behind
-  others : map (λ e. e.0) behind ≡ rest
-
-head_key : List ℕ → List (List ℕ) → List ℕ
-head_key d [] = d
-head_key d (k ∷ ks) = k
-
-tail_keys : List (List ℕ) → List (List ℕ)
-tail_keys [] = []
-tail_keys (k ∷ ks) = ks
-
-begins_with : (id : List ℕ) (rest : List (List ℕ)) (es : List (List ℕ × Row)) → map (λ e. e.0) es ≡ id ∷ rest → BeginsWith id rest es
-unfolding head_key tail_keys
-begins_with id rest [] same = absurd (omega (arith, ap length same))
-begins_with id rest (e ∷ es) same = record {
-  row = e.1;
-  behind = es;
-  is = ap (λ k. (k, e.1) ∷ es) (ap (head_key id) same);
-  others = ap tail_keys same;
-}
-
-pub keys_removed : (rows : Rows) (id : List ℕ) (rest : List (List ℕ)) → keys rows ≡ id ∷ rest → keys (remove rows id) ≡ rest
-keys_removed rows id rest same =
-    let b = begins_with id rest (entries rows) same in
-    ap (map (λ e. e.0)) (first_removed rows id b.row b.behind b.is) ∙ b.others
+keys_removed : (rows : Rows) (id : List ℕ) (rest : List (List ℕ)) → keys rows ≡ id ∷ rest → keys (remove rows id) ≡ rest
+keys_removed rows id rest same = by (entries rows) refl same
+  where
+    by : (es : List (List ℕ × Row)) → entries rows ≡ es → map (λ e. e.0) es ≡ id ∷ rest → keys (remove rows id) ≡ rest
+    by [] is none = cc
+    by (e ∷ es) is first =
+        let own : e.0 ≡ id = cc in
+        let others : map (λ (e : List ℕ × Row). e.0) es ≡ rest = cc in
+        ap (map (λ e. e.0)) (first_removed rows id e.1 es (is ∙ ap (λ k. (k, e.1) ∷ es) own)) ∙ others
 
 joined_first : (rows : Rows) (id : List ℕ) (rest : List (List ℕ)) → keys rows ≡ id ∷ rest → is_some (get rows id) ≡ true
 joined_first rows id rest same =

@@ -1,8 +1,10 @@
 -- A restart over a keeper that is kept for the lane's ledger comes back to what the lane had, and refuses nothing.
-use Rattle.std.proofs.Common.{◌≡◌, ℕ, ◌<◌, false, List, Some, Result, Ok, Err, sym, ap, subst, ◌∙◌, arith, ⊎_elim}
+use Rattle.std.proofs.Common.{◌≡◌, ℕ, ◌<◌, false, List, Some, Result, Ok, Err, sym, ap, ◌∙◌, arith, inl, inr, refl}
 use Rattle.std.specs.FinMap.{keys}
 use Rattle.fluid_io.specs.Causes.{Tells}
-use Rattle.fluid_log.specs.Keeping.{Content, HasLengths, IsSized}
+use Rattle.fluid_log.specs.Keeping.{Content, Keeping, HasLengths, IsSized}
+use Rattle.fluid_types.specs.Ledger.{Ledger}
+use Rattle.fluid_lane.proofs.Flushing.{kept_for}
 use Rattle.fluid_deltas.proofs.Telling.{tells_both}
 use Rattle.fluid_document.specs.declared.fault.LoadFault.{LoadFault}
 use Rattle.fluid_document.specs.declared.fault.LoadFault.TheVariants as loading
@@ -11,63 +13,39 @@ use Rattle.fluid_document.specs.Loading.{loaded}
 use Rattle.fluid_document.specs.Kept.{IsKept}
 use Rattle.fluid_document.specs.Laws.{CheckpointIsLoaded}
 use Rattle.fluid_lane.specs.declared.fault.LaneFault.{LaneFault}
-use Rattle.fluid_lane.specs.declared.fault.LaneFault.TheVariants.{LogFailed, Full, BadRecord, NoCheckpoint, CheckpointsFull, TooManyClients, DeltaFailed, NoMemory, BadCheckpoint, TooLarge, Worn}
+use Rattle.fluid_lane.specs.declared.fault.LaneFault.TheVariants.{BadRecord, BadCheckpoint}
 use Rattle.fluid_lane.specs.declared.steps.Step.{Step}
 use Rattle.fluid_lane.specs.Steps.{ledger}
-use Rattle.fluid_lane.specs.Standing.{Standing, IsFor, IsTold, LaneStands}
-use Rattle.fluid_lane.specs.Restarts.{HasOthers, RefusesRestart, IsNotBad}
+use Rattle.fluid_lane.specs.Standing.{Standing, IsTold, LaneStands}
+use Rattle.fluid_lane.specs.Restarts.{RefusesRestart, IsNotBad}
 
 pub same_ok : (e f : Entries) (r : Result Entries LoadFault) → r ≡ Ok e → r ≡ Ok f → e ≡ f
-same_ok e f r a b = ap (value e) (sym a ∙ b)
-  where
-    value : Entries → Result Entries LoadFault → Entries
-    value d (Ok x) = x
-    value d (Err fault) = d
+same_ok e f r a b = cc
 
 pub never_err : (e : Entries) (fault : LoadFault) (r : Result Entries LoadFault) → r ≡ Ok e → r ≡ Err fault → ⊥
-never_err e fault r a b = subst is_err (sym b ∙ a) tt
-  where
-    is_err : Result Entries LoadFault → Type 0
-    is_err (Ok x) = ⊥
-    is_err (Err x) = Unit {0}
+never_err e fault r a b = cc
 
--- what a lane over such a keeper has
-record Knows (s : Standing) (l : List Step) (number : ℕ) (c : Content) : Type 0 where
-  loads : loaded c (Some number) ≡ Ok (entries_of (ledger l))
-  said : IsFor s.owed s.entries s.messages (ledger l) c
-
-knows : CheckpointIsLoaded → (s : Standing) (l : List Step) (number : ℕ) → IsSized s.keeping → s.owed ≡ false → number < s.keeping.checkpoints → LaneStands s l → Tells s.keeping.content (Knows s l number)
-knows law s l number sized level lt stands =
-    tells_both s.keeping.content (HasLengths s.keeping) (IsTold s l) (Knows s l number)
-    (λ c lengths told. record {
-      loads = law (ledger l) c number (subst (λ o. IsKept o (ledger l) c) level told.stands.kept) (omega (arith, lt, lengths.checkpoints));
-      said = told.stands;
-    }) sized stands.told
+-- of a keeper that is kept for a ledger its entries are read
+kept_loads : CheckpointIsLoaded → (k : Keeping) (l : Ledger) (number : ℕ) → IsSized k → number < k.checkpoints → Tells k.content (IsKept false l) → Tells k.content (λ c. loaded c (Some number) ≡ Ok (entries_of l))
+kept_loads law k l number sized lt kept =
+    tells_both k.content (HasLengths k) (IsKept false l) (λ c. loaded c (Some number) ≡ Ok (entries_of l)) (λ c lengths is. law l c number is (omega (arith, lt, lengths.checkpoints))) sized kept
 
 -- what was read is what the lane had
 pub restart_same : CheckpointIsLoaded → (s : Standing) (l : List Step) (number : ℕ) (e : Entries) → IsSized s.keeping → s.owed ≡ false → number < s.keeping.checkpoints → LaneStands s l → Tells s.keeping.content (λ content. loaded content (Some number) ≡ Ok e)
     → Tells s.keeping.content (λ _. e ≡ entries_of (ledger l))
 restart_same law s l number e sized level lt stands loads =
-    tells_both s.keeping.content (Knows s l number) (λ content. loaded content (Some number) ≡ Ok e) (λ _. e ≡ entries_of (ledger l))
-    (λ c known is. same_ok e (entries_of (ledger l)) (loaded c (Some number)) is known.loads) (knows law s l number sized level lt stands) loads
+    tells_both s.keeping.content (λ c. loaded c (Some number) ≡ Ok e) (λ c. loaded c (Some number) ≡ Ok (entries_of (ledger l))) (λ _. e ≡ entries_of (ledger l)) (λ c is known. same_ok e (entries_of (ledger l)) (loaded c (Some number)) is known)
+    loads (kept_loads law s.keeping (ledger l) number sized lt (kept_for s s l refl level stands))
 
-never_bad : (s : Standing) (l : List Step) (number : ℕ) (c : Content) (fault : LaneFault) → Knows s l number c → RefusesRestart number s.entries c fault → IsNotBad fault
-never_bad s l number c (LogFailed note) known refuses = tt
-never_bad s l number c (Full entries) known refuses = tt
-never_bad s l number c (BadRecord place) known refuses = never_err (entries_of (ledger l)) (loading.BadRecord place) (loaded c (Some number)) known.loads refuses
-never_bad s l number c (NoCheckpoint asked stored) known refuses = tt
-never_bad s l number c CheckpointsFull known refuses = tt
-never_bad s l number c TooManyClients known refuses = tt
-never_bad s l number c (DeltaFailed note) known refuses = tt
-never_bad s l number c NoMemory known refuses = tt
-never_bad s l number c (BadCheckpoint bad fault) known refuses =
-    ⊎_elim (λ err. never_err (entries_of (ledger l)) (loading.BadCheckpoint bad fault) (loaded c (Some number)) known.loads err)
-    (λ (has : HasOthers number s.entries c (BadCheckpoint bad fault)).
-    has.others (ap (λ e. keys e.state.sequencer.rows) (same_ok has.entries (entries_of (ledger l)) (loaded c (Some number)) has.is known.loads ∙ sym known.said.entries))) refuses
-never_bad s l number c (TooLarge bytes) known refuses = tt
-never_bad s l number c Worn known refuses = tt
+never_bad : (old e : Entries) (number : ℕ) (c : Content) (fault : LaneFault) → old ≡ e → loaded c (Some number) ≡ Ok e → RefusesRestart number old c fault → IsNotBad fault
+never_bad old e number c (BadRecord place) said loads refuses = never_err e (loading.BadRecord place) (loaded c (Some number)) loads refuses
+never_bad old e number c (BadCheckpoint bad fault) said loads (inl err) = never_err e (loading.BadCheckpoint bad fault) (loaded c (Some number)) loads err
+never_bad old e number c (BadCheckpoint bad fault) said loads (inr has) = has.others (ap (λ f. keys f.state.sequencer.rows) (same_ok has.entries e (loaded c (Some number)) has.is loads ∙ sym said))
+never_bad old e number c other said loads refuses = tt
 
 pub restart_never : CheckpointIsLoaded → (s : Standing) (l : List Step) (number : ℕ) (fault : LaneFault) → IsSized s.keeping → s.owed ≡ false → number < s.keeping.checkpoints → LaneStands s l
     → Tells s.keeping.content (λ content. RefusesRestart number s.entries content fault) → Tells s.keeping.content (λ _. IsNotBad fault)
 restart_never law s l number fault sized level lt stands refuses =
-    tells_both s.keeping.content (Knows s l number) (λ content. RefusesRestart number s.entries content fault) (λ _. IsNotBad fault) (λ c known r. never_bad s l number c fault known r) (knows law s l number sized level lt stands) refuses
+    tells_both s.keeping.content (λ c. IsTold s l c × RefusesRestart number s.entries c fault) (λ c. loaded c (Some number) ≡ Ok (entries_of (ledger l))) (λ _. IsNotBad fault)
+    (λ c both loads. never_bad s.entries (entries_of (ledger l)) number c fault both.0.stands.entries loads both.1)
+    (tells_both s.keeping.content (IsTold s l) (λ c. RefusesRestart number s.entries c fault) _ (λ c told bad. (told, bad)) stands.told refuses) (kept_loads law s.keeping (ledger l) number sized lt (kept_for s s l refl level stands))

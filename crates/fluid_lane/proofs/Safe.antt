@@ -1,5 +1,5 @@
 -- What holds of every lane holds behind each thing that may happen to it.
-use Rattle.std.proofs.Common.{◌≡◌, ◌⊎◌, ℕ, ◌+◌, ◌<◌, ◌≤◌, true, false, List, inl, inr, refl, sym, ap, subst, ◌∙◌, arith}
+use Rattle.std.proofs.Common.{◌≡◌, ◌⊎◌, ℕ, ◌+◌, ◌<◌, ◌≤◌, true, false, List, ⊎_elim, sym, ap, subst, ◌∙◌, arith}
 use Rattle.std.specs.Prelude.{nat_le}
 use Rattle.std.specs.FinMap.{keys}
 use Rattle.std.proofs.lemmas.Bool.{leb-false, false≢true}
@@ -8,21 +8,24 @@ use Rattle.fluid_types.specs.declared.messages.Message.{Message}
 use Rattle.fluid_log.specs.Calls.{KeepsSame, with_record}
 use Rattle.fluid_log.specs.declared.keeper.TheConstants.{LONGEST_KEPT}
 use Rattle.fluid_deltas.specs.Flushes.{with_deltas}
-use Rattle.fluid_document.specs.Entries.{Entries, most, taken_up}
+use Rattle.fluid_document.specs.Entries.{most, taken_up}
 use Rattle.fluid_lane.specs.Standing.{Standing, AreNamed, IsOwn, IsSafe, is_worn}
-use Rattle.fluid_lane.proofs.Named.{named_after}
+use Rattle.fluid_lane.proofs.Named.{named_after, taken-entered}
 use Rattle.fluid_lane.proofs.Ids.{named_same}
 
 -- the entries stay
-pub safe_beside : (s t : Standing) → t.keeping.records ≡ s.keeping.records → t.messages.before ≤ t.keeping.deltas → t.entries ≡ s.entries → t.owed ≡ s.owed → s.entries.entered + t.sides ≤ most → t.limits ≡ s.limits → IsSafe s → IsSafe t
-safe_beside s t records reached entries owed few limits safe = record {
+safe_left : (s t : Standing) → s.keeping.records ≤ t.keeping.records → (t.owed ≡ false → (t.keeping.records ≡ s.keeping.records) × (s.owed ≡ false)) → t.messages.before ≤ t.keeping.deltas → t.entries ≡ s.entries → s.entries.entered + t.sides ≤ most → t.limits ≡ s.limits → IsSafe s → IsSafe t
+safe_left s t more level reached entries few limits safe = record {
   few = omega (arith, ap (λ e. e.entered) entries, few);
-  logged = omega (arith, ap (λ e. e.entered) entries, records, safe.logged);
-  level = λ is. records ∙ safe.level (sym owed ∙ is) ∙ ap (λ e. e.entered) (sym entries);
+  logged = omega (arith, ap (λ e. e.entered) entries, more, safe.logged);
+  level = λ is. (level is).0 ∙ safe.level (level is).1 ∙ ap (λ e. e.entered) (sym entries);
   reached = reached;
-  small = subst (λ l. l.bytes ≤ LONGEST_KEPT) (sym limits) safe.small;
-  named = subst (λ e. AreNamed e.entered e.state.sequencer.rows) (sym entries) safe.named;
+  small = rw limits safe.small;
+  named = rw entries safe.named;
 }
+
+pub safe_beside : (s t : Standing) → t.keeping.records ≡ s.keeping.records → t.messages.before ≤ t.keeping.deltas → t.entries ≡ s.entries → t.owed ≡ s.owed → s.entries.entered + t.sides ≤ most → t.limits ≡ s.limits → IsSafe s → IsSafe t
+safe_beside s t records reached entries owed few limits safe = safe_left s t (omega (arith, records)) (λ is. (records, sym owed ∙ is)) reached entries few limits safe
 
 -- a call of the keeper that changed nothing
 pub safe_same : (s t : Standing) → KeepsSame s.keeping t.keeping → t.entries ≡ s.entries → t.messages ≡ s.messages → t.owed ≡ s.owed → t.sides ≡ s.sides → t.limits ≡ s.limits → IsSafe s → IsSafe t
@@ -31,10 +34,6 @@ safe_same s t same entries messages owed sides limits safe =
 
 pub not_worn : (entered sides : ℕ) → nat_le most (entered + sides) ≡ false → entered + sides < most
 not_worn entered sides is = leb-false most (entered + sides) is
-
-taken-entered : (e : Entries) (raw : Raw) → (taken_up e raw).entered ≡ e.entered + 1
-unfolding taken_up
-taken-entered e raw = refl
 
 -- an entry was entered, with its record
 pub safe_entered : (s t : Standing) (raw : Raw) (bytes : List ℕ) (ms : List Message) → KeepsSame (with_record bytes (with_deltas ms s.keeping)) t.keeping → t.messages.before ≤ t.keeping.deltas → t.entries ≡ taken_up s.entries raw → s.owed ≡ false
@@ -53,18 +52,9 @@ safe_entered s t raw bytes ms same reached entries level worn own sides limits s
 -- an append failed
 pub safe_torn : (s t : Standing) (bytes : List ℕ) (ms : List Message) → KeepsSame (with_deltas ms s.keeping) t.keeping ⊎ KeepsSame (with_record bytes (with_deltas ms s.keeping)) t.keeping → t.messages.before ≤ t.keeping.deltas → t.entries ≡ s.entries
     → t.owed ≡ true → t.sides ≡ s.sides → t.limits ≡ s.limits → IsSafe s → IsSafe t
-safe_torn s t bytes ms left reached entries owed sides limits safe = record {
-  few = omega (arith, ap (λ e. e.entered) entries, sides, safe.few);
-  logged = omega (arith, ap (λ e. e.entered) entries, more left, safe.logged);
-  level = λ is. absurd (false≢true (sym is ∙ owed));
-  reached = reached;
-  small = subst (λ l. l.bytes ≤ LONGEST_KEPT) (sym limits) safe.small;
-  named = subst (λ e. AreNamed e.entered e.state.sequencer.rows) (sym entries) safe.named;
-}
-  where
-    more : KeepsSame (with_deltas ms s.keeping) t.keeping ⊎ KeepsSame (with_record bytes (with_deltas ms s.keeping)) t.keeping → s.keeping.records ≤ t.keeping.records
-    more (inl same) = omega (arith, same.records)
-    more (inr one) = omega (arith, one.records)
+safe_torn s t bytes ms left reached entries owed sides limits safe =
+    let more : s.keeping.records ≤ t.keeping.records = ⊎_elim (λ same. omega (arith, same.records)) (λ one. omega (arith, one.records)) left in
+    safe_left s t more (λ is. absurd (false≢true (sym is ∙ owed))) reached entries (omega (arith, sides, safe.few)) limits safe
 
 -- the state was built anew, with the same entries and ids
 pub safe_restarted : (s t : Standing) → t.keeping ≡ s.keeping → t.entries.entered ≡ s.entries.entered → t.messages.before ≤ s.keeping.deltas → keys s.entries.state.sequencer.rows ≡ keys t.entries.state.sequencer.rows → t.owed ≡ s.owed

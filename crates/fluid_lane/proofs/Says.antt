@@ -5,7 +5,7 @@ use Rattle.std.specs.List.{list_any}
 use Rattle.std.specs.Ordering.{eq_by_cmp}
 use Rattle.std.specs.Option.{option_map, option_map_or}
 use Rattle.std.specs.FinMap.{get, keys, len, contains_key-keys}
-use Rattle.std.proofs.lemmas.Bool.{false≢true, or_left, or_right}
+use Rattle.std.proofs.lemmas.Bool.{false≢true, false_from_ne_true, or_left, or_right}
 use Rattle.std.proofs.lemmas.Option.{none-some, same_Some}
 use Rattle.std.proofs.lemmas.Slice.Eq.{bytes_eq-Decides}
 use Rattle.fluid_types.specs.declared.entries.Raw.{Raw}
@@ -88,13 +88,7 @@ full_for s l raw counts =
 
 -- who has no row isn't joined
 not_joined : (l : Ledger) (id : List ℕ) → get (tickets.state_of l).rows id ≡ None → is_joined l id ≡ false
-not_joined l id none = by (is_joined l id) refl
-  where
-    by : (b : Bool) → is_joined l id ≡ b → b ≡ false
-    by false is = refl
-    by true is =
-        let there = client-joined l id is in
-        absurd (none-some _ (sym none ∙ get-state_of l id ∙ ap (option_map rowed) there))
+not_joined l id none = false_from_ne_true (is_joined l id) (λ is. none-some _ (sym none ∙ get-state_of l id ∙ ap (option_map rowed) (client-joined l id is)))
 
 too_many_for : (s : Standing) (l : Ledger) (scopes : Scopes) (detail : Tree) (moment : ℕ) → length l ≤ most → len s.entries.state.sequencer.rows ≡ length (joined l) → get s.entries.state.sequencer.rows (entry_name (length l)) ≡ None
     → get s.entries.state.sequencer.rows (entry_name (length l)) ≡ get (tickets.state_of l).rows (entry_name (length l))

@@ -10,6 +10,7 @@ use Rattle.fluid_types.specs.declared.messages.Message.{Message}
 use Rattle.fluid_log.specs.Keeping.{Content, Keeping}
 use Rattle.fluid_log.specs.Calls.{KeepsSame, with_records}
 use Rattle.fluid_deltas.specs.Flushes.{with_deltas}
+use Rattle.fluid_deltas.specs.declared.pages.TheConstants.{RESIDENT}
 use Rattle.fluid_core.specs.Entering.{State, verdict_in, after, state_of}
 use Rattle.fluid_document.specs.declared.fault.EnterFault.{EnterFault}
 use Rattle.fluid_document.specs.declared.fault.EnterFault.TheVariants as entering
@@ -21,7 +22,7 @@ use Rattle.fluid_document.specs.Kept.{records, IsKept}
 use Rattle.fluid_rules.specs.declared.limits.Limits.{Limits}
 use Rattle.fluid_lane.specs.declared.fault.LaneFault.{LaneFault}
 use Rattle.fluid_lane.specs.declared.fault.LaneFault.TheVariants.{LogFailed, BadRecord, DeltaFailed, NoMemory, BadCheckpoint, Worn}
-use Rattle.fluid_lane.specs.Faults.{IsCausedBy}
+use Rattle.fluid_lane.specs.Faults.{IsCausedBy, IsLogFailed}
 use Rattle.fluid_lane.specs.Steps.{steps}
 use Rattle.fluid_lane.specs.Standing.{Standing, IsFor, LaneStands}
 use Rattle.fluid_lane.specs.Restarts.{IsNotBad}
@@ -72,7 +73,7 @@ pub record Waits (old new : Keeping) (before now : InMemory) : Type 0 where
 abbrev pub LeaveDoes : ℕ → Keeping → Keeping → InMemory → InMemory → Result (Unit {0}) LaneFault → Type 0
 LeaveDoes moment old new before now (Ok done) = LeavesFirst moment old new before now (Ok tt)
 LeaveDoes moment old new before now (Err (LogFailed note)) = LeavesFirst moment old new before now (Err (entering.LogFailed note))
-LeaveDoes moment old new before now (Err (DeltaFailed note)) = LeavesFirst moment old new before now (Err (entering.DeltaFailed note))
+LeaveDoes moment old new before now (Err (DeltaFailed note)) = LeavesFirst moment old new before now (Err (entering.DeltaFailed note)) × (RESIDENT ≤ before.entries.entered)
 LeaveDoes moment old new before now (Err NoMemory) = Waits old new before now ⊎ LeavesFirst moment old new before now (Err entering.NoMemory)
 LeaveDoes moment old new before now (Err Worn) = Waits old new before now × (most ≤ before.entries.entered)
 LeaveDoes moment old new before now (Err other) = ⊥
@@ -91,6 +92,11 @@ pub record HasLeft (moment : ℕ) (old new : Keeping) (before now : InMemory) : 
   pub reached : now.messages.before ≤ new.deltas
   pub stands : (l : Ledger) → Tells old.content (IsFor false before.entries before.messages l) → Tells new.content (IsFor false now.entries now.messages (l ++ done))
 
+-- some, and not all
+pub record HasSomeLeft (moment : ℕ) (old new : Keeping) (before now : InMemory) : Type 0 where
+  pub has : HasLeft moment old new before now
+  pub more : 0 < len now.entries.state.sequencer.rows
+
 -- behind them the leave of the next one, with this fault
 pub record HasStopped (moment : ℕ) (old new : Keeping) (before now : InMemory) (fault : EnterFault) : Type 0 where
   pub mid : Keeping
@@ -102,9 +108,9 @@ pub record HasStopped (moment : ℕ) (old new : Keeping) (before now : InMemory)
 abbrev pub LeavesAll : ℕ → Keeping → Keeping → InMemory → InMemory → Result (Unit {0}) LaneFault → Type 0
 LeavesAll moment old new before now (Ok done) = HasLeft moment old new before now × (keys now.entries.state.sequencer.rows ≡ [])
 LeavesAll moment old new before now (Err (LogFailed note)) = HasStopped moment old new before now (entering.LogFailed note)
-LeavesAll moment old new before now (Err (DeltaFailed note)) = HasStopped moment old new before now (entering.DeltaFailed note)
-LeavesAll moment old new before now (Err NoMemory) = HasLeft moment old new before now ⊎ HasStopped moment old new before now entering.NoMemory
-LeavesAll moment old new before now (Err Worn) = HasLeft moment old new before now × ((most < before.entries.entered + len before.entries.state.sequencer.rows) × (most ≤ now.entries.entered))
+LeavesAll moment old new before now (Err (DeltaFailed note)) = HasStopped moment old new before now (entering.DeltaFailed note) × (RESIDENT ≤ now.entries.entered)
+LeavesAll moment old new before now (Err NoMemory) = HasSomeLeft moment old new before now ⊎ HasStopped moment old new before now entering.NoMemory
+LeavesAll moment old new before now (Err Worn) = HasSomeLeft moment old new before now × (most ≤ now.entries.entered)
 LeavesAll moment old new before now (Err other) = ⊥
 
 -- ---- the start
@@ -165,22 +171,38 @@ StartsBad from content (BadCheckpoint number fault) = loaded content from ≡ Er
 StartsBad from content Worn = (loaded content from ≡ Err loading.Worn) ⊎ HasNoRoom from content
 StartsBad from content other = ⊥
 
--- whatever the keeper tells, a start has no other fault: the keeper failed, memory was wanting, what was read is refused, or the numbers
--- don't suffice
-abbrev pub IsFaultOfStart : LaneFault → Type 0
-IsFaultOfStart (LogFailed note) = ⊤
-IsFaultOfStart (DeltaFailed note) = ⊤
-IsFaultOfStart NoMemory = ⊤
-IsFaultOfStart (BadRecord place) = ⊤
-IsFaultOfStart (BadCheckpoint number fault) = ⊤
-IsFaultOfStart Worn = ⊤
-IsFaultOfStart other = ⊥
+-- which faults a start has over every keeper, by the records that are then in the log: deltas are put only where these are as many as
+-- messages may be in memory, and it is worn only where they are as many as there are numbers
+abbrev pub IsFaultOfStart : (records : ℕ) → LaneFault → Type 0
+IsFaultOfStart records (LogFailed note) = ⊤
+IsFaultOfStart records (DeltaFailed note) = RESIDENT ≤ records
+IsFaultOfStart records NoMemory = ⊤
+IsFaultOfStart records (BadRecord place) = ⊤
+IsFaultOfStart records (BadCheckpoint number fault) = ⊤
+IsFaultOfStart records Worn = most ≤ records
+IsFaultOfStart records other = ⊥
 
--- nothing that a kept keeper gives is refused. Records of leaves and deltas may have been added to the keeper
+-- these are the first leaves of those joined in what was read; all of them only where the log failed
+pub record StopsAtLeave (moment : ℕ) (old : Keeping) (added : Ledger) (fault : LaneFault) : Type 0 where
+  pub entries : Entries
+  pub is : IsRead old entries
+  pub rest : Ledger
+  pub splits : run entries.state (leaves moment entries.state) ≡ added ++ rest
+  pub short : IsLogFailed fault ⊎ (0 < length rest)
+
+-- whose records a start has added, by its fault: none where what was read is refused, else the first leaves
+abbrev pub Adds : ℕ → Keeping → Ledger → LaneFault → Type 0
+Adds moment old added (BadRecord place) = added ≡ []
+Adds moment old added (BadCheckpoint number fault) = added ≡ []
+Adds moment old added other = (added ≡ []) ⊎ StopsAtLeave moment old added other
+
+-- nothing that a kept keeper gives is refused. Behind the old records stand those of some leaves, and perhaps some deltas were put
 pub record StartsPartly (old new : Keeping) (moment : ℕ) (fault : LaneFault) : Type 0 where
   pub left : (l : Ledger) → Tells old.content (IsKept false l) → Tells new.content (LeftSome moment l)
   pub never : (l : Ledger) → Tells old.content (IsKept false l) → Tells old.content (λ _. IsNotBad fault)
   pub bad : Tells old.content (λ content. StartsBad (newest old.checkpoints) content fault)
-  pub named : IsFaultOfStart fault
+  pub named : IsFaultOfStart new.records fault
   pub cause : IsCausedBy old.faults new.faults fault
-  pub grew : (more : List (List ℕ)) × Grew more old new
+  pub added : Ledger
+  pub grew : Grew (records added) old new
+  pub adds : Adds moment old added fault

@@ -90,7 +90,7 @@ module _ (limits : Limits) (name : List ℕ) (moment : ℕ) (old between new : S
   memory : NoMemory ≡ Lane lane.NoMemory → ⊥
   memory same = cc
 
-  risen_for : (fault : LaneFault) (left : Keeping) → of_starting fault ≡ Lane fault → IsFaultOfStart fault → old.faults ≤ between.faults → IsCausedBy keeper.faults left.faults fault → PutsBack name between new left
+  risen_for : (fault : LaneFault) (left : Keeping) → of_starting fault ≡ Lane fault → IsFaultOfStart left.records fault → old.faults ≤ between.faults → IsCausedBy keeper.faults left.faults fault → PutsBack name between new left
       → IsRisenFor old.faults new.faults fault
   risen_for (lane.LogFailed note) left own named le cause back = rose_back note left le cause back
   risen_for (lane.Full entries) left own named le cause back = absurd named

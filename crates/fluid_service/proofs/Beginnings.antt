@@ -22,7 +22,7 @@ use Rattle.fluid_core.proofs.Entered.{verdict-state_of, state_of-push}
 use Rattle.fluid_document.specs.declared.fault.LoadFault.TheVariants as loading
 use Rattle.fluid_document.specs.Entries.{Entries, most, taken_up, entries_of}
 use Rattle.fluid_document.specs.Loading.{loaded, newest}
-use Rattle.fluid_document.specs.Kept.{IsKept}
+use Rattle.fluid_document.specs.Kept.{records, IsKept}
 use Rattle.fluid_document.specs.Laws.{CheckpointIsLoaded}
 use Rattle.fluid_document.proofs.Foldings.{state-entries_of, entered-entries_of}
 use Rattle.fluid_document.proofs.Reloading.{loaded-first}
@@ -179,10 +179,10 @@ module _ (law : CheckpointIsLoaded) (k left : Keeping) (moment : ℕ) (fault : L
   l = kept.kept.0
 
   abbrev more : List (List ℕ)
-  more = partly.grew.0
+  more = records partly.added
 
   abbrev grew : Grew more k left
-  grew = partly.grew.1
+  grew = partly.grew
 
   abbrev now : Content
   now = put_behind grew.messages (add_records more c)

@@ -1,33 +1,29 @@
-use Rattle.std.proofs.Common.{ap, ◌∙◌}
-use Rattle.std.proofs.lemmas.Result.{err_from_is_err_and}
+use Rattle.std.proofs.Common.{Ok, Err, refl, ap, ◌∙◌}
 use Rattle.fluid_core.specs.Entering.{verdict_in}
+use Rattle.fluid_document.specs.declared.fault.EnterFault.TheVariants.{NoMemory}
 use Rattle.fluid_document.proofs.Levels.{verdict_prepared}
-use Rattle.fluid_document.proofs.Entering.{enters_one, enters_none, enters_unread, enters_nowhere}
+use Rattle.fluid_document.proofs.Entering.{whole_some, enters_by, enters_nowhere}
+use Rattle.fluid_document.proofs.Handed.{handed_on}
 use Rattle.fluid_document.proofs.entry.enter.Goals as goal
 
 pub returns-in_err-record-clause-enters : goal.returns-in_err-record-clause-enters
 returns-in_err-record-clause-enters g c =
     let none = c.in_err-record.ensures in
-    let e = err_from_is_err_and c.from_residual.result c.from_residual.ensures.1 in
-    rw (e.1, e.2)
+    rw (handed_on c.from_residual.result _ c.from_residual.ensures.1)
     (enters_nowhere c.args.raw.now _ _ c.args.document.now c.prepared.new.document c.in_err-record.field-0.0 none.later none.reads none.cause none.entries none.room none.reached none.stands)
 
 pub returns-in_err-verdict-clause-enters : goal.returns-in_err-verdict-clause-enters
 returns-in_err-verdict-clause-enters g c =
     let done = c.in_ok-record.ensures in
-    let e = err_from_is_err_and c.from_residual-in_err-verdict.result c.from_residual-in_err-verdict.ensures.1 in
-    rw (e.1, e.2)
-    (enters_unread c.args.raw.now _ _ c.args.document.now c.prepared.new.document
-    (record { later = done.later; reads = done.reads; entries = done.entries; room = done.room; reached = done.reached; stands = done.stands }))
+    rw (handed_on c.from_residual-in_err-verdict.result _ c.from_residual-in_err-verdict.ensures.1)
+    (enters_nowhere c.args.raw.now _ _ c.args.document.now c.prepared.new.document NoMemory done.later done.reads tt done.entries (whole_some _ _ _ done.room) done.reached done.stands)
 
 pub returns-in_err-finish-clause-enters : goal.returns-in_err-finish-clause-enters
 returns-in_err-finish-clause-enters g c =
     let done = c.in_ok-record.ensures in
     let finish = c.in_err-finish.ensures in
-    let text = c.as_str.ensures ∙ done.record in
-    let e = err_from_is_err_and c.from_residual-in_err-finish.result c.from_residual-in_err-finish.ensures.1 in
-    rw (e.1, e.2)
-    (enters_none c.args.raw.now c.as_str.result.now _ (g.K.Keeper.seen c.prepared.new.keeper) _ c.args.document.now c.prepared.new.document c.finish.new.document c.in_err-finish.field-0.0 text
+    rw (handed_on c.from_residual-in_err-finish.result _ c.from_residual-in_err-finish.ensures.1)
+    (enters_by c.args.raw.now c.as_str.result.now _ (g.K.Keeper.seen c.prepared.new.keeper) _ c.args.document.now c.prepared.new.document c.finish.new.document (Err c.in_err-finish.field-0.0) _ refl (c.as_str.ensures ∙ done.record)
     (record { later = done.later; reads = done.reads; entries = done.entries; room = done.room; reached = done.reached; stands = done.stands })
     finish.later finish.reads finish.cause finish.log (finish.does c.args.raw.now done.ready))
 
@@ -35,10 +31,9 @@ pub returns-clause-enters : goal.returns-clause-enters
 returns-clause-enters g c =
     let done = c.in_ok-record.ensures in
     let finish = c.in_ok-finish.ensures in
-    let text = c.as_str.ensures ∙ done.record in
-    enters_one c.in_ok-verdict.verdict c.args.raw.now c.as_str.result.now _ (g.K.Keeper.seen c.prepared.new.keeper) _ c.args.document.now c.prepared.new.document c.finish.new.document text
+    enters_by c.args.raw.now c.as_str.result.now _ (g.K.Keeper.seen c.prepared.new.keeper) _ c.args.document.now c.prepared.new.document c.finish.new.document (Ok c.in_ok-verdict.verdict) _ refl (c.as_str.ensures ∙ done.record)
     (record { later = done.later; reads = done.reads; entries = done.entries; room = done.room; reached = done.reached; stands = done.stands })
-    finish.later finish.reads finish.log (finish.does c.args.raw.now done.ready)
+    finish.later finish.reads finish.cause finish.log (finish.does c.args.raw.now done.ready)
 
 pub returns-clause-said : goal.returns-clause-said
 returns-clause-said g c =

@@ -1,20 +1,18 @@
 use Rattle.std.proofs.Common.{◌∙◌}
-use Rattle.std.proofs.lemmas.Result.{err_from_is_err_and}
-use Rattle.fluid_document.proofs.Entering.{enters_by, enters_nowhere}
+use Rattle.fluid_document.proofs.Entering.{enters_by, enters_nowhere, done-same}
+use Rattle.fluid_document.proofs.Handed.{handed_on}
 use Rattle.fluid_document.proofs.entry.take_in.Goals as goal
 
 pub returns-in_err-record : goal.returns-in_err-record
 returns-in_err-record g c =
     let none = c.in_err-record.ensures in
-    let e = err_from_is_err_and c.from_residual.result c.from_residual.ensures.1 in
-    rw (e.1, e.2)
+    rw (handed_on c.from_residual.result _ c.from_residual.ensures.1)
     (enters_nowhere c.args.raw.now _ _ c.args.document.now c.prepared.new.document c.in_err-record.field-0.0 none.later none.reads none.cause none.entries none.room none.reached none.stands)
 
 pub returns : goal.returns
 returns g c =
     let done = c.in_ok-record.ensures in
     let finish = c.finish.ensures in
-    let text = c.as_str.ensures ∙ done.record in
-    enters_by c.args.raw.now c.as_str.result.now _ (g.K.Keeper.seen c.prepared.new.keeper) _ c.args.document.now c.prepared.new.document c.finish.new.document c.finish.result text
+    enters_by c.args.raw.now c.as_str.result.now _ (g.K.Keeper.seen c.prepared.new.keeper) _ c.args.document.now c.prepared.new.document c.finish.new.document c.finish.result _ (done-same c.finish.result) (c.as_str.ensures ∙ done.record)
     (record { later = done.later; reads = done.reads; entries = done.entries; room = done.room; reached = done.reached; stands = done.stands })
     finish.later finish.reads finish.cause finish.log (finish.does c.args.raw.now done.ready)

@@ -1,7 +1,7 @@
 use Rattle.std.proofs.Common.{arith, sym, subst}
-use Rattle.std.proofs.lemmas.Result.{err_from_is_err_and}
 use Rattle.fluid_document.proofs.Takes.{takes_all, kept_at}
 use Rattle.fluid_document.proofs.Progress.{HasFolded, has_folded_nothing, has_folded_more, has_folded_bad, has_folded_left, has_folded_worn, has_folded_all, puts_both, cause_behind}
+use Rattle.fluid_document.proofs.Handed.{handed_on}
 use Rattle.fluid_document.proofs.loading.fold_behind.Goals as goal
 
 pub loop-place-init : goal.loop-place-init
@@ -11,7 +11,7 @@ loop-place-init g c =
 pub loop-place-preserved : goal.loop-place-preserved
 loop-place-preserved g c =
     let took = c.in_ok-take_next.ensures in
-    has_folded_more _ (g.K.Keeper.seen c.loop-place.keeper) _ _ _ _ _ c.loop-place.invariant (omega (arith, c.if-place-ge-MOST.false)) (omega (arith, c.loop-place-test.true, c.len-end.ensures)) (g.K.Keeper.sized c.loop-place.keeper)
+    has_folded_more _ (g.K.Keeper.seen c.loop-place.keeper) _ _ _ c.loop-place.invariant _ _ (omega (arith, c.if-place-ge-MOST.false)) (omega (arith, c.loop-place-test.true, c.len-end.ensures)) (g.K.Keeper.sized c.loop-place.keeper)
     took.later took.reads took.puts took.reached took.early took.lacked took.takes
 
 pub returns-then-place-ge-MOST-clause-loaded : goal.returns-then-place-ge-MOST-clause-loaded
@@ -23,24 +23,21 @@ returns-then-place-ge-MOST-clause-kept g c = λ l stands. kept_at l _ _ _ (c.loo
 
 pub returns-in_err-take_next-clause-cause : goal.returns-in_err-take_next-clause-cause
 returns-in_err-take_next-clause-cause g c =
-    let e = err_from_is_err_and c.from_residual.result c.from_residual.ensures.1 in
     let has = c.loop-place.invariant in
-    rw (e.1, e.2) (cause_behind _ _ _ _ _ c.in_err-take_next.field-0.0 has.puts.kept.records has.later c.in_err-take_next.ensures.cause)
+    rw (handed_on c.from_residual.result _ c.from_residual.ensures.1) (cause_behind _ _ _ _ _ c.in_err-take_next.field-0.0 has.puts.kept.records has.later c.in_err-take_next.ensures.cause)
 
 pub returns-in_err-take_next-clause-puts : goal.returns-in_err-take_next-clause-puts
 returns-in_err-take_next-clause-puts g c = puts_both _ (g.K.Keeper.seen c.loop-place.keeper) _ c.loop-place.invariant.puts c.in_err-take_next.ensures.puts
 
 pub returns-in_err-take_next-clause-loaded : goal.returns-in_err-take_next-clause-loaded
 returns-in_err-take_next-clause-loaded g c =
-    let e = err_from_is_err_and c.from_residual.result c.from_residual.ensures.1 in
-    rw (e.1, e.2) (has_folded_bad _ (g.K.Keeper.seen c.loop-place.keeper) _ _ _ c.in_err-take_next.field-0.0 c.loop-place.invariant (omega (arith, c.if-place-ge-MOST.false)) c.in_err-take_next.ensures.takes.0)
+    rw (handed_on c.from_residual.result _ c.from_residual.ensures.1) (has_folded_bad _ (g.K.Keeper.seen c.loop-place.keeper) _ _ _ c.loop-place.invariant c.in_err-take_next.field-0.0 (omega (arith, c.if-place-ge-MOST.false)) c.in_err-take_next.ensures.takes.0)
 
 pub returns-in_err-take_next-clause-kept : goal.returns-in_err-take_next-clause-kept
 returns-in_err-take_next-clause-kept g c =
-    let e = err_from_is_err_and c.from_residual.result c.from_residual.ensures.1 in
     let left = c.in_err-take_next.ensures in
-    rw (e.1, e.2)
-    (λ l stands. has_folded_left _ (g.K.Keeper.seen c.loop-place.keeper) _ _ _ _ _ c.in_err-take_next.field-0.0 c.loop-place.invariant (omega (arith, c.loop-place-test.true, c.len-end.ensures)) (g.K.Keeper.sized c.loop-place.keeper)
+    rw (handed_on c.from_residual.result _ c.from_residual.ensures.1)
+    (λ l stands. has_folded_left _ (g.K.Keeper.seen c.loop-place.keeper) _ _ _ c.loop-place.invariant _ _ c.in_err-take_next.field-0.0 (omega (arith, c.loop-place-test.true, c.len-end.ensures)) (g.K.Keeper.sized c.loop-place.keeper)
     left.puts left.takes.1 l stands)
 
 pub returns-clause-loaded : goal.returns-clause-loaded

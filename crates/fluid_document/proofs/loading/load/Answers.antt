@@ -1,8 +1,8 @@
 use Rattle.std.proofs.Common.{sym, arith}
-use Rattle.std.proofs.lemmas.Result.{err_from_is_err_and}
 use Rattle.fluid_deltas.proofs.Telling.{tells_along}
 use Rattle.fluid_document.proofs.Beginnings.{reads_behind, bad_behind}
 use Rattle.fluid_document.proofs.Progress.{puts_none, puts_both}
+use Rattle.fluid_document.proofs.Handed.{handed_on}
 use Rattle.fluid_document.proofs.loading.load.Goals as goal
 
 pub returns-in_err-document-clause-puts : goal.returns-in_err-document-clause-puts
@@ -10,16 +10,14 @@ returns-in_err-document-clause-puts g c = puts_none _ _ c.in_err-document.ensure
 
 pub returns-in_err-document-clause-kept : goal.returns-in_err-document-clause-kept
 returns-in_err-document-clause-kept g c =
-    let e = err_from_is_err_and c.from_residual.result c.from_residual.ensures.1 in
-    rw (e.1, e.2) (λ l kept. tells_along _ _ _ (sym c.in_err-document.ensures.same.content) kept)
+    rw (handed_on c.from_residual.result _ c.from_residual.ensures.1) (λ l kept. tells_along _ _ _ (sym c.in_err-document.ensures.same.content) kept)
 
 pub returns-in_err-fold_behind-clause-puts : goal.returns-in_err-fold_behind-clause-puts
 returns-in_err-fold_behind-clause-puts g c = puts_both _ (g.K.Keeper.seen c.begin.new.keeper) _ (puts_none _ _ c.in_ok-document.ensures.same) c.in_err-fold_behind.ensures.puts
 
 pub returns-in_err-fold_behind-clause-kept : goal.returns-in_err-fold_behind-clause-kept
 returns-in_err-fold_behind-clause-kept g c =
-    let e = err_from_is_err_and c.from_residual-in_err-fold_behind.result c.from_residual-in_err-fold_behind.ensures.1 in
-    rw (e.1, e.2)
+    rw (handed_on c.from_residual-in_err-fold_behind.result _ c.from_residual-in_err-fold_behind.ensures.1)
     (λ l kept. c.in_err-fold_behind.ensures.kept l (tells_along _ _ _ (sym c.in_ok-document.ensures.same.content) (c.in_ok-document.ensures.kept l kept)))
 
 pub returns-clause-puts : goal.returns-clause-puts
@@ -34,8 +32,7 @@ returns-clause-kept g c = λ l kept.
 
 pub returns-in_err-fold_behind-clause-loaded : goal.returns-in_err-fold_behind-clause-loaded
 returns-in_err-fold_behind-clause-loaded g c =
-    let e = err_from_is_err_and c.from_residual-in_err-fold_behind.result c.from_residual-in_err-fold_behind.ensures.1 in
-    rw (e.1, e.2)
+    rw (handed_on c.from_residual-in_err-fold_behind.result _ c.from_residual-in_err-fold_behind.ensures.1)
     (bad_behind _ c.args.from _ c.in_err-fold_behind.field-0.0 c.in_ok-document.ensures.begun (tells_along _ _ _ c.in_ok-document.ensures.same.content c.in_err-fold_behind.ensures.loaded))
 
 pub returns-in_err-document-clause-lacked : goal.returns-in_err-document-clause-lacked

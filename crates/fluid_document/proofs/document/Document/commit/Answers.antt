@@ -8,38 +8,32 @@ use Rattle.fluid_document.proofs.document.Document.commit.Goals as goal
 
 pub push-requires-clause-next : goal.push-requires-clause-next
 push-requires-clause-next c =
-    let raw = c.requires.raw in
     let is = rw (← c.self.view_is) at c.requires.is in
-    let said = c.commit-verdict.ensures.verdict ∙ verdict_prepared c.self.inside.core.state raw _ is.ready in
-    rw said is.next
+    rw (c.commit-verdict.ensures.verdict ∙ verdict_prepared c.self.inside.core.state c.requires.raw _ is.ready) is.next
 
 pub push-requires-clause-keepable : goal.push-requires-clause-keepable
 push-requires-clause-keepable c =
-    let raw = c.requires.raw in
     let is = rw (← c.self.view_is) at c.requires.is in
-    let said = c.commit-verdict.ensures.verdict ∙ verdict_prepared c.self.inside.core.state raw _ is.ready in
-    subst (λ v. All IsKeepable (messages_of v)) (sym said) is.keepable
+    subst (λ v. All IsKeepable (messages_of v)) (sym (c.commit-verdict.ensures.verdict ∙ verdict_prepared c.self.inside.core.state c.requires.raw _ is.ready)) is.keepable
 
 pub invariant_of-self : goal.invariant_of-self
 invariant_of-self c =
     let raw = c.requires.raw in
     let is = rw (← c.self.view_is) at c.requires.is in
-    let inside = c.self.inside in
-    let e : Entries = record { state = inside.core.state; entered = inside.entered; counted = inside.counted } in
+    let e : Entries = record { state = c.self.inside.core.state; entered = c.self.inside.entered; counted = c.self.inside.counted } in
     let said = c.commit-verdict.ensures.verdict ∙ verdict_prepared e.state raw _ is.ready in
     subst (λ now. IsLevelled now c.push.new.messages)
     (sym (committed e raw c.commit-verdict.new.self.state c.commit-verdict.result c.args.prepared.counts is.counts said (c.commit-verdict.ensures.after raw is.ready)))
-    (levelled-taken e inside.messages c.push.new.messages raw c.self.invariant is.few (rw said at c.push.ensures.count))
+    (levelled-taken e c.self.inside.messages c.push.new.messages raw c.self.invariant is.few (rw said at c.push.ensures.count))
 
 pub returns : goal.returns
 returns c = rw (← c.self.view_is)
     (λ raw is.
-    let inside = c.self.inside in
-    let e : Entries = record { state = inside.core.state; entered = inside.entered; counted = inside.counted } in
+    let e : Entries = record { state = c.self.inside.core.state; entered = c.self.inside.entered; counted = c.self.inside.counted } in
     let verdict = c.commit-verdict.ensures.verdict in
     let ready = verdict_prepared e.state raw _ is.ready in
     record {
       said = ready;
       entries = committed e raw c.commit-verdict.new.self.state c.commit-verdict.result c.args.prepared.counts is.counts (verdict ∙ ready) (c.commit-verdict.ensures.after raw is.ready);
-      messages = subst (λ v. GoOn inside.messages c.push.new.messages v) verdict c.push.ensures;
+      messages = subst (λ v. GoOn c.self.inside.messages c.push.new.messages v) verdict c.push.ensures;
     })

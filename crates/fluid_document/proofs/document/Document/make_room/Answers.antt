@@ -1,5 +1,4 @@
 use Rattle.std.proofs.Common.{◌≤◌, rules, ap, sym, subst, arith, ◌∙◌, OnErr}
-use Rattle.std.specs.Bool.{IsTrue}
 use Rattle.fluid_deltas.specs.Pushed.{Pushed, pushed}
 use Rattle.fluid_deltas.specs.Flushes.{PutsAll}
 use Rattle.fluid_document.specs.Entries.{InMemory}
@@ -11,18 +10,15 @@ use Rattle.fluid_document.proofs.document.Document.make_room.Goals as goal
 
 pub invariant_of-self : goal.invariant_of-self
 invariant_of-self g c =
-    let full : IsTrue c.full.result = search rules in
-    levelled_same _ c.self.inside.messages c.make_room.new.self (room_pushed c.make_room.result _ _ (c.full.ensures.full.0 full) c.make_room.ensures.drops c.make_room.ensures.same) c.self.invariant
+    levelled_same _ c.self.inside.messages c.make_room.new.self (room_pushed c.make_room.result _ _ (c.full.ensures.full.0 (search rules)) c.make_room.ensures.drops c.make_room.ensures.same) c.self.invariant
 
 pub returns-clause-pushed : goal.returns-clause-pushed
 returns-clause-pushed g c =
-    let full : IsTrue c.full.result = search rules in
-    room_pushed c.make_room.result c.self.inside.messages c.make_room.new.self (c.full.ensures.full.0 full) c.make_room.ensures.drops c.make_room.ensures.same ∙ ap (λ m. pushed m.messages) c.self.view_is
+    room_pushed c.make_room.result c.self.inside.messages c.make_room.new.self (c.full.ensures.full.0 (search rules)) c.make_room.ensures.drops c.make_room.ensures.same ∙ ap (λ m. pushed m.messages) c.self.view_is
 
 pub returns-clause-room : goal.returns-clause-room
 returns-clause-room g c =
-    let full : IsTrue c.full.result = search rules in
-    on_ok c.make_room.result c.flushed.result _ c.flushed.ensures (room_free c.make_room.result c.self.inside.messages c.make_room.new.self (c.full.ensures.full.0 full) c.make_room.ensures.drops)
+    on_ok c.make_room.result c.flushed.result _ c.flushed.ensures (room_free c.make_room.result c.self.inside.messages c.make_room.new.self (c.full.ensures.full.0 (search rules)) c.make_room.ensures.drops)
 
 pub returns-clause-same : goal.returns-clause-same
 returns-clause-same g c =
@@ -36,23 +32,20 @@ returns-clause-same g c =
 
 pub returns-clause-flushes : goal.returns-clause-flushes
 returns-clause-flushes g c =
-    let full : IsTrue c.full.result = search rules in
     let old = g.K.Keeper.seen c.args.keeper.now in
-    let puts = subst (λ ms. PutsAll ms old (g.K.Keeper.seen c.make_room.new.keeper) c.make_room.result) (sym (room_is c.self.inside.messages old.deltas (c.full.ensures.full.0 full))) c.make_room.ensures.puts in
+    let puts = subst (λ ms. PutsAll ms old (g.K.Keeper.seen c.make_room.new.keeper) c.make_room.result) (sym (room_is c.self.inside.messages old.deltas (c.full.ensures.full.0 (search rules)))) c.make_room.ensures.puts in
     subst (λ m. Flushes (for_room m.messages old.deltas) old (g.K.Keeper.seen c.make_room.new.keeper) c.flushed.result) c.self.view_is
     (flushes_of _ c.make_room.result c.flushed.result old _ c.flushed.ensures c.make_room.ensures.writes puts)
 
 pub returns-clause-first : goal.returns-clause-first
 returns-clause-first g c =
-    let full : IsTrue c.full.result = search rules in
-    page_first c.make_room.result c.flushed.result c.self.inside.messages c.make_room.new.self (g.K.Keeper.seen c.args.keeper.now) _ c.flushed.ensures (c.full.ensures.full.0 full)
+    page_first c.make_room.result c.flushed.result c.self.inside.messages c.make_room.new.self (g.K.Keeper.seen c.args.keeper.now) _ c.flushed.ensures (c.full.ensures.full.0 (search rules))
     (omega (arith, c.requires, ap (λ m. m.messages.before) c.self.view_is)) c.make_room.ensures.puts c.make_room.ensures.drops
 
 pub returns-clause-few : goal.returns-clause-few
 returns-clause-few g c =
-    let full : IsTrue c.full.result = search rules in
     subst (λ m. PutsFew m.entries.entered (g.K.Keeper.seen c.args.keeper.now) (g.K.Keeper.seen c.make_room.new.keeper)) c.self.view_is
-    (page_few c.make_room.result c.self.inside.messages (g.K.Keeper.seen c.args.keeper.now) _ c.self.inside.entered c.self.inside.core.state.sequencer.sequence (c.full.ensures.full.0 full) c.self.invariant.level c.self.invariant.sequenced
+    (page_few c.make_room.result c.self.inside.messages (g.K.Keeper.seen c.args.keeper.now) _ c.self.inside.entered c.self.inside.core.state.sequencer.sequence (c.full.ensures.full.0 (search rules)) c.self.invariant.level c.self.invariant.sequenced
     (omega (arith, c.requires, ap (λ m. m.messages.before) c.self.view_is)) c.make_room.ensures.puts)
 
 pub returns-clause-onwards : goal.returns-clause-onwards
@@ -61,6 +54,5 @@ returns-clause-onwards g c =
 
 pub returns-clause-needed : goal.returns-clause-needed
 returns-clause-needed g c =
-    let full : IsTrue c.full.result = search rules in
     subst (λ (m : InMemory). OnErr c.flushed.result (4096 ≤ m.entries.entered)) c.self.view_is
-    (page_needed c.flushed.result c.self.inside.messages c.self.inside.entered c.self.inside.core.state.sequencer.sequence (c.full.ensures.full.0 full) c.self.invariant.level c.self.invariant.sequenced)
+    (page_needed c.flushed.result c.self.inside.messages c.self.inside.entered c.self.inside.core.state.sequencer.sequence (c.full.ensures.full.0 (search rules)) c.self.invariant.level c.self.invariant.sequenced)

@@ -1,7 +1,7 @@
 use Rattle.std.proofs.Common.{refl, sym, ap, subst, ◌∙◌, arith}
 use Rattle.fluid_types.specs.Printed.{raw_printed}
 use Rattle.fluid_lane.specs.Standing.{IsOwn, is_worn}
-use Rattle.fluid_lane.proofs.Stands.{goes_from, goes_to, goes_some, goes_broken, enters, quietly, failed}
+use Rattle.fluid_lane.proofs.Stands.{goes_from, goes_to, front_some, goes_some, goes_broken, enters, quietly, failed}
 use Rattle.fluid_lane.proofs.Safe.{safe_beside, safe_entered, safe_torn, not_worn}
 use Rattle.fluid_lane.proofs.lane.Lane.add.Goals as goal
 
@@ -20,7 +20,7 @@ invariant_of-self-in-Err-LogFailed g c =
 pub invariant_of-self-in-Err-DeltaFailed : goal.invariant_of-self-in-Err-DeltaFailed
 invariant_of-self-in-Err-DeltaFailed g c =
     let e = (rw c.in-Err-DeltaFailed.field-0-is at c.in-Err-DeltaFailed.ensures).enters in
-    safe_beside _ _ e.does.1.kept.records e.reached e.does.0 refl c.self.invariant.few refl c.self.invariant
+    safe_beside _ _ e.does.1.puts.kept.records e.reached e.does.0 refl c.self.invariant.few refl c.self.invariant
 
 pub invariant_of-self-in-Err-NoMemory : goal.invariant_of-self-in-Err-NoMemory
 invariant_of-self-in-Err-NoMemory g c =
@@ -30,11 +30,10 @@ invariant_of-self-in-Err-NoMemory g c =
 pub returns-in-Ok-clause-goes : goal.returns-in-Ok-clause-goes
 returns-in-Ok-clause-goes g c =
     let e = c.in-Ok.ensures.enters in
-    let said = c.in-Ok.ensures.said in
     let level = ap (λ s. s.owed) c.self.view_is ∙ c.requires.level in
-    goes_from _ _ _ _ c.self.view_is
-    (enters _ _ _ c.args.raw.now c.in-Ok.verdict e.does.kept e.later said e.does.entries level level (record { fits = c.requires.fits; text = e.does.text })
-    (omega (arith, not_worn _ _ (ap is_worn c.self.view_is ∙ c.requires.worn))) refl refl refl refl (rw (sym said) at e.stands))
+    rw c.in-Ok.ensures.said
+    (goes_from _ _ _ _ c.self.view_is
+    (enters _ _ _ c.args.raw.now e.does.kept e.later e.does.entries level level (record { fits = c.requires.fits; text = e.does.text }) (omega (arith, not_worn _ _ (ap is_worn c.self.view_is ∙ c.requires.worn))) refl refl refl refl e.stands))
 
 pub returns-in-Err-LogFailed-clause-goes : goal.returns-in-Err-LogFailed-clause-goes
 returns-in-Err-LogFailed-clause-goes g c =
@@ -49,7 +48,7 @@ returns-in-Err-DeltaFailed-clause-goes g c =
     let e = (rw c.in-Err-DeltaFailed.field-0-is at c.in-Err-DeltaFailed.ensures).enters in
     goes_to _ _ _ _ c.failed-in-Err-DeltaFailed.ensures
     (goes_from _ _ _ _ c.self.view_is
-    (goes_some _ _ _ _ (failed _ _ c.in-Err-DeltaFailed.note refl refl e.cause.last) e.does.1 e.later e.does.0 refl refl refl e.stands))
+    (goes_some _ _ _ _ (failed _ _ c.in-Err-DeltaFailed.note refl refl e.cause.last) (front_some _ _ _ e.does.1) e.later e.does.0 refl refl refl e.stands))
 
 pub returns-in-Err-NoMemory-clause-goes : goal.returns-in-Err-NoMemory-clause-goes
 returns-in-Err-NoMemory-clause-goes g c =

@@ -1,9 +1,6 @@
-use Rattle.std.proofs.Common.{refl, ap, sym, subst, arith}
-use Rattle.fluid_types.specs.Ledger.{order}
-use Rattle.fluid_lane.specs.Steps.{ledger}
-use Rattle.fluid_lane.specs.Standing.{LaneStands}
+use Rattle.std.proofs.Common.{refl, ap, arith}
 use Rattle.fluid_lane.proofs.Stands.{goes_from, goes_to, quietly, failed}
-use Rattle.fluid_lane.proofs.Flushing.{goes_flushed, messages_stand}
+use Rattle.fluid_lane.proofs.Flushing.{goes_flushed}
 use Rattle.fluid_lane.proofs.Safe.{safe_beside}
 use Rattle.fluid_lane.proofs.lane.Lane.flush.Goals as goal
 
@@ -27,9 +24,6 @@ returns-in-Ok-clause-goes g c =
     let e = c.in-Ok.ensures in
     goes_from _ _ _ _ c.self.view_is
     (goes_flushed _ _ _ _ (quietly _ _ refl refl) e.flushes.puts.kept e.flushes.later (ap (λ m. m.entries) e.same) (ap (λ m. m.messages) e.same) refl refl refl e.stands)
-
-pub returns-in-Ok-clause-whole : goal.returns-in-Ok-clause-whole
-returns-in-Ok-clause-whole g c = λ l h. c.in-Ok.ensures.whole (order (ledger l)) (messages_stand _ l (subst (λ s. LaneStands s l) (sym c.self.view_is) h))
 
 pub returns-in-Err-DeltaFailed-clause-goes : goal.returns-in-Err-DeltaFailed-clause-goes
 returns-in-Err-DeltaFailed-clause-goes g c =

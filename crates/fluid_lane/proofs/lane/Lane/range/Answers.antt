@@ -59,9 +59,6 @@ returns-in-Err-NoMemory-clause-ranges g c = λ worn.
     let e = rw c.in-Err-NoMemory.field-0-is at c.in-Err-NoMemory.ensures in
     ranges_of _ _ _ _ _ _ _ c.self.view_is (ap (λ m. m.entries) e.same) (ap (λ m. m.messages) e.same) refl e.reads e.answer (λ held. (e.memory held, same_parts _ _ (e.untouched held) (ap (λ m. m.entries) e.same) (ap (λ m. m.messages) e.same) refl refl refl refl refl))
 
-pub unreachable-requires : goal.unreachable-requires
-unreachable-requires g c = (rw c.in-Err-Worn.field-0-is at c.in-Err-Worn.ensures).reads.cause
-
 pub returns-in-Ok-clause-slice : goal.returns-in-Ok-clause-slice
 returns-in-Ok-clause-slice g c = λ worn l h. sliced _ _ l _ c.self.view_is h (c.in-Ok.ensures.slice (order (ledger l)))
 

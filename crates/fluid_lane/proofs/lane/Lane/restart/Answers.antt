@@ -1,11 +1,10 @@
-use Rattle.std.proofs.Common.{◌+◌, Some, ap, refl, sym, subst, arith, ◌∙◌, ◌≡◌, false}
+use Rattle.std.proofs.Common.{◌+◌, Some, ap, refl, sym, subst, arith, ◌∙◌, ◌≡◌}
 use Rattle.std.specs.FinMap.{keys}
 use Rattle.fluid_log.specs.Keeping.{IsSized}
 use Rattle.fluid_document.specs.Entries.{entries_of}
 use Rattle.fluid_document.specs.Loading.{ReadsBehind, PutsDeltas}
 use Rattle.fluid_io.specs.Causes.{Tells}
 use Rattle.fluid_lane.specs.Steps.{ledger}
-use Rattle.fluid_lane.specs.Standing.{is_worn}
 use Rattle.fluid_lane.proofs.Stands.{told_too, goes_on, goes_restarted, nothing_less}
 use Rattle.fluid_lane.proofs.Safe.{safe_restarted, not_worn}
 use Rattle.fluid_lane.proofs.Composed.{restarts_on}
@@ -16,11 +15,10 @@ pub invariant_of-self : goal.invariant_of-self
 invariant_of-self g c =
     let s = c.in-Ok.ensures in
     let r = c.in-Ok-reload.ensures in
-    let worn : is_worn c.args.self.now ≡ false = sym c.is_worn.ensures ∙ c.if-is_worn.false in
     safe_restarted _ _ refl (r.whole.0 ∙ sym (ap (λ e. e.entered) r.same.0) ∙ sym (ap (λ u. u.entries.entered) c.self-2.view_is))
     (omega (arith, r.whole.1, ap (λ u. u.keeping.deltas) c.self-2.view_is))
     (ap (λ u. keys u.entries.state.sequencer.rows) c.self-2.view_is ∙ ap (λ e. keys e.state.sequencer.rows) r.same.0 ∙ sym r.clients) refl
-    (omega (arith, not_worn c.args.self.now.entries.entered c.args.self.now.sides worn, ap (λ u. u.entries.entered) c.self-2.view_is, ap (λ u. u.sides) c.self-2.view_is, ap (λ e. e.entered) r.same.0, ap (λ e. e.entered) s.same.0, r.sides, s.sides))
+    (omega (arith, not_worn c.args.self.now.entries.entered c.args.self.now.sides (sym c.is_worn.ensures ∙ c.if-is_worn.false), ap (λ u. u.entries.entered) c.self-2.view_is, ap (λ u. u.sides) c.self-2.view_is, ap (λ e. e.entered) r.same.0, ap (λ e. e.entered) s.same.0, r.sides, s.sides))
     refl c.self-2.invariant
 
 pub returns-in-Ok-reload-clause-goes : goal.returns-in-Ok-reload-clause-goes

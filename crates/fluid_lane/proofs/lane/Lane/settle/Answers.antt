@@ -1,9 +1,6 @@
 use Rattle.std.proofs.Common.{refl, ap}
-use Rattle.fluid_lane.proofs.Stands.{goes_from, goes_to, goes_nowhere, goes_cut, goes_same, quietly, failed}
+use Rattle.fluid_lane.proofs.Stands.{goes_from, goes_to, goes_cut, goes_same, quietly, failed}
 use Rattle.fluid_lane.proofs.lane.Lane.settle.Goals as goal
-
-pub returns-then-not-self-clause-goes : goal.returns-then-not-self-clause-goes
-returns-then-not-self-clause-goes g c = goes_nowhere _
 
 pub returns-in-Ok-clause-goes : goal.returns-in-Ok-clause-goes
 returns-in-Ok-clause-goes g c =

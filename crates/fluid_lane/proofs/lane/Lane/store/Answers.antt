@@ -6,7 +6,6 @@ use Rattle.fluid_document.specs.Kept.{IsPrinted}
 use Rattle.fluid_lane.specs.Steps.{ledger}
 use Rattle.fluid_lane.specs.Standing.{LaneStands}
 use Rattle.fluid_lane.proofs.Stands.{goes_to, goes_same, failed, quietly, stored_beside, stored_list, beside_of}
-use Rattle.fluid_lane.proofs.Storing.{stored_there}
 use Rattle.fluid_lane.proofs.lane.Lane.store.Goals as goal
 
 pub returns-in-Ok-clause-terms : goal.returns-in-Ok-clause-terms
@@ -41,7 +40,3 @@ pub returns-in-Err-NoMemory-clause-goes : goal.returns-in-Err-NoMemory-clause-go
 returns-in-Err-NoMemory-clause-goes g c = λ l is all h.
     let e = rw c.in-Err-NoMemory.field-0-is at c.in-Err-NoMemory.ensures in
     (goes_same _ _ _ (quietly _ _ refl refl) e.does e.cause.later refl refl refl refl refl).list l (subst (λ s. LaneStands s l) (sym c.self.view_is) h)
-
-pub returns-in-Ok-clause-stored : goal.returns-in-Ok-clause-stored
-returns-in-Ok-clause-stored g c =
-    stored_there _ _ c.in-Ok.number c.args.text.now (g.K.Keeper.sized c.self.inside.keeper) c.in-Ok.ensures.does.0 c.in-Ok.ensures.does.1
