@@ -6,3 +6,4 @@ pub mod Calls
 pub mod Hearing
 pub mod Orders
 pub mod Law
+pub mod Ran

@@ -1,11 +1,15 @@
 -- Runs worked out: what is acknowledged, what waits and what may be sent behind each call.
-use Rattle.std.specs.Prelude.{◌≡◌, ℕ, pos, negsuc, Bool, true, false, List, [], ◌∷◌, ◌++◌, codes, reverse, take, Option, Some, None, option_map}
+use Rattle.std.specs.Prelude.{◌≡◌, ℕ, pos, negsuc, Bool, true, false, List, [], ◌∷◌, ◌++◌, codes, map, reverse, take, drop, Option, Some, None, option_map}
 use Rattle.fluid_json.specs.Tree.{Tree, null, whole, text}
 use Rattle.fluid_json.specs.Printed.{printed}
+use Rattle.fluid_types.specs.declared.entries.Raw.TheVariants.{Join as Joins, Leave as Leaves, Submit}
+use Rattle.fluid_types.specs.declared.entries.Scopes.{Scopes}
+use Rattle.fluid_types.specs.Ledger.{Ledger, order}
+use Rattle.fluid_rules.specs.Rules.{ledger}
 use Rattle.fluid_types.specs.declared.messages.Kind.{Kind}
 use Rattle.fluid_types.specs.declared.messages.Kind.TheVariants.{Op, Join, Leave}
 use Rattle.fluid_outbox.specs.Past.{Given, Call, Pushed, Joined, Gave, Heard, Lost, Past, messages, acknowledged, first_waiting, may_send, next, op_with}
-use Rattle.fluid_outbox.specs.Runs.{standing}
+use Rattle.fluid_outbox.specs.Runs.{standing, IsRun}
 
 -- what is said behind each of these calls, made behind a past
 abbrev pub behind_each : {A : Type 0} → (Past → A) → Past → List Call → List A
@@ -156,3 +160,31 @@ left_before_loss = Joined a ∷ Pushed ten ∷ gave a 0 1 1 ten ∷ leave a 1 �
 pub record LeftBeforeLoss : Type 0 where
   pub waiting_are : behind_each first_waiting [] left_before_loss ≡ None ∷ Some 0 ∷ None ∷ None ∷ Some 0 ∷ Some 0 ∷ []
   pub may_send_are : behind_each may_send [] left_before_loss ≡ true ∷ true ∷ true ∷ true ∷ false ∷ true ∷ []
+
+-- ---- a whole run, beside its ledger
+
+abbrev all_scopes : Scopes
+all_scopes = record { read = true; write = true; summary = true }
+
+-- of two edits the second one's submission is lost on its way
+abbrev pub entered : Ledger
+entered = ledger (
+    Joins a all_scopes null 1
+    ∷ Submit a (op_with 1 1 ten) 2
+    ∷ Leaves a 3
+    ∷ Joins b all_scopes null 4
+    ∷ Submit b (op_with 1 4 eleven) 5
+    ∷ [])
+
+-- so many messages of its order are heard, from behind so many on
+abbrev pub heard_of : (from count : ℕ) → List Call
+heard_of from count = map Heard (take count (drop from (order entered)))
+
+abbrev pub came_back : List Call
+came_back =
+    Pushed ten ∷ Pushed eleven ∷ Joined a ∷ heard_of 0 1 ++ gave a 0 1 1 ten ∷ gave a 1 2 1 eleven ∷ Lost ∷ heard_of 1 3
+    ++ Joined b ∷ gave b 1 1 4 eleven ∷ heard_of 4 1
+
+pub record CameBack : Type 0 where
+  pub run : IsRun came_back entered
+  pub stand : standing (reverse came_back) (order entered) ≡ 0 ∷ 1 ∷ []

@@ -1,5 +1,5 @@
 // Runs worked out from the definitions. Each is the contract of a function that does nothing.
-ghost use Rattle.fluid_outbox.specs.Examples.{Losses, LostBehindSending, LeftBeforeLoss};
+ghost use Rattle.fluid_outbox.specs.Examples.{CameBack, Losses, LostBehindSending, LeftBeforeLoss};
 
 /// Three edits, with a loss at each point of sending and hearing them.
 pub fn losses()
@@ -14,4 +14,9 @@ pub fn lost_behind_sending()
 /// The leave is heard before the connection is lost.
 pub fn left_before_loss()
     ensures { LeftBeforeLoss }
+{}
+
+/// A whole run beside its ledger: of two edits one stands when the connection is lost, and the other is sent again.
+pub fn came_back()
+    ensures { CameBack }
 {}

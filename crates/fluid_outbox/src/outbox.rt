@@ -47,6 +47,7 @@ impl Outbox {
     /// Adds an edit, which waits, and gives its number: how many were added before. After `NoMemory` nothing has changed.
     pub fn push(&mut self, contents: Json) -> Result<u64, NoMemory>
         ensures number { (calls : List Call) → StandsFor self.old calls → IfOk result (λ number. number ≡ length (edits (past_of calls))) }
+        ensures counts { IfOk result (λ number. number ≡ self.old.acknowledged + length self.old.pending) }
         ensures stands { (calls : List Call) → StandsFor self.old calls → OnOk result (StandsFor self.new (calls ++ Pushed contents ∷ [])) }
         ensures kept { OnOk result (self.new ≡ with_edit self.old contents) }
         ensures unchanged { OnErr result (self.new ≡ self.old) }
@@ -96,7 +97,8 @@ impl Outbox {
 
     /// Whether `next` gives an edit where one waits. Takes no memory.
     pub fn may_send(&self) -> bool
-        ensures { (calls : List Call) → StandsFor self.now calls → result ≡ may_send (past_of calls) }
+        ensures kept { result ≡ (is_some self.now.current && not (is_some self.now.awaited)) }
+        ensures answer { (calls : List Call) → StandsFor self.now calls → result ≡ may_send (past_of calls) }
     {
         self.sends()
     }

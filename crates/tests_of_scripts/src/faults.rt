@@ -298,3 +298,67 @@ fn what_is_stored_may_be_refused(rt: HostRuntime) {
         stored(&rt, rt.alloc(), record);
     }
 }
+
+// A roamer that comes back, and what is written then.
+const RETURNS: &str = r#"roam r d
+say r {"type":"attach","address":"n","kind":"counter"}
+lose r
+say r {"address":"n","contents":{"type":"increment","incrementAmount":5}}
+back r
+acked r
+"#;
+
+const RETURNS_SAY: &str = r#"r roams d as c0 at 1
+r said 0
+r lost
+r said 1
+r back as c3 at 4
+r acked 2 of 2
+"#;
+
+// It comes back with this call of the keeper failing. Gives whether the script ended without a fault.
+fn returns(rt: &impl Abort, alloc: Global, call: u64) -> bool {
+    let input = Vec::from_slice(alloc, RETURNS.as_bytes()).expect(rt, "memory");
+    let mut source = MemorySource::new(input, Vec::new(alloc));
+    let mut sink = MemorySink::new(alloc, Vec::new(alloc));
+    let (end, shelves, objects) = script_within(
+        rt,
+        alloc,
+        &mut source,
+        &mut sink,
+        shelves_of(rt, alloc, &[call], &[]),
+        MemoryObjects::new(alloc, Vec::new(alloc)),
+        None,
+        Limits::FULL,
+    );
+    let told = told_end(&end);
+    let whole = told == "done";
+    assert!(rt; whole || told == "keeper fault", "{told}");
+    let written = sink.written();
+    assert!(rt;
+        RETURNS_SAY.as_bytes().starts_with(written),
+        "another output"
+    );
+    assert!(rt;
+        !whole || written.len() == RETURNS_SAY.len(),
+        "not all lines"
+    );
+    drop(end);
+    drop(shelves);
+    drop(objects);
+    drop(sink);
+    drop(source);
+    whole
+}
+
+#[test]
+fn each_call_of_a_keeper_may_fail_while_a_roamer_comes_back(rt: HostRuntime) {
+    let mut failed = 0_u64;
+    for call in 1..1_000_u64 {
+        if returns(&rt, rt.alloc(), call) {
+            break;
+        }
+        failed = failed.saturating_add(1);
+    }
+    assert!(rt; 5 <= failed && failed < 999, "{failed} calls failed");
+}

@@ -12,6 +12,32 @@ const REFUSED: &[(&[u8], &str)] = &[
         "p loaded d at 1\nbad line 2: name in use\n",
     ),
     (b"pump p\n", "bad line 1: unknown name\n"),
+    (b"say nobody {\n", "bad line 1: unknown name\n"),
+    (b"back r\n", "bad line 1: unknown name\n"),
+    (
+        b"roam r e\nback r\n",
+        "r roams e as c0 at 1\nbad line 2: unknown name\n",
+    ),
+    (
+        b"roam r e\nlose r\nlose r\n",
+        "r roams e as c0 at 1\nr lost\nbad line 3: unknown name\n",
+    ),
+    (
+        b"roam r e\npump r\n",
+        "r roams e as c0 at 1\nbad line 2: unknown name\n",
+    ),
+    (
+        b"load p d none\nacked p\n",
+        "p loaded d at 1\nbad line 2: unknown name\n",
+    ),
+    (
+        b"roam r e\nroam r d\n",
+        "r roams e as c0 at 1\nbad line 2: name in use\n",
+    ),
+    (
+        b"roam r e\nsay r nothing\n",
+        "r roams e as c0 at 1\nbad line 2: not JSON\n",
+    ),
     (
         b"load p d none\nsend p x\n",
         "p loaded d at 1\nbad line 2: unknown name\n",

@@ -1,6 +1,8 @@
 // A run of a script over memory.
+ghost use Rattle.std.specs.Prelude.{◌≤◌};
 ghost use Rattle.fluid_log.specs.Places.{shelves_seen};
 ghost use Rattle.fluid_log.specs.Shelving.{AreWhole};
+ghost use Rattle.fluid_log.specs.declared.keeper.TheConstants.{LONGEST_KEPT};
 
 use fluid_io::{MemorySink, MemorySource};
 use fluid_log::{MemoryKeeper, MemoryShelves};
@@ -56,6 +58,21 @@ pub fn is_done_as(
     end: &str,
     output: &str,
 ) {
+    is_done_within(rt, alloc, input, load, Limits::FULL, end, output);
+}
+
+// The same within these limits.
+pub fn is_done_within(
+    rt: &impl Abort,
+    alloc: Global,
+    input: &[u8],
+    load: Option<&str>,
+    limits: Limits,
+    end: &str,
+    output: &str,
+)
+    requires { limits.bytes ≤ LONGEST_KEPT }
+{
     let bytes = Vec::from_slice(alloc, input).expect(rt, "memory");
     let mut source = MemorySource::new(bytes, Vec::new(alloc));
     let mut sink = MemorySink::new(alloc, Vec::new(alloc));
@@ -73,7 +90,7 @@ pub fn is_done_as(
         shelves,
         objects,
         document.as_ref(),
-        Limits::FULL,
+        limits,
     );
     let told = told_end(&ended);
     assert!(rt; told == end, "{told}, wanted {end}");

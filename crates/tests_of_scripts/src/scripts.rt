@@ -1,5 +1,6 @@
 // What scripts write.
-use crate::runs::is_done_as;
+use crate::runs::{is_done_as, is_done_within};
+use fluid_rules::Limits;
 use std::alloc::Global;
 use std::process::Abort;
 
@@ -267,6 +268,47 @@ send w ["submitOp","c0",[{"clientSequenceNumber":1,"contents":{"handle":"20f87b5
 scribe d
 "#;
 
+// A roamer whose connection is lost with edits that stand and one that waits; and then its client is taken for gone, and an edit is refused.
+const ROAMS: &str = r#"roam r e
+say r {"type":"attach","address":"n","kind":"counter"}
+say r {"address":"n","contents":{"type":"increment","incrementAmount":5}}
+lose r
+say r {"address":"n","contents":{"type":"increment","incrementAmount":7}}
+back r
+acked r
+show r
+say r {"address":"n","contents":{"type":"clear"}}
+reopen e
+say r {"address":"n","contents":{"type":"increment","incrementAmount":1}}
+say r {"address":"n","contents":{"type":"increment","incrementAmount":2}}
+show r
+acked r
+back r
+show r
+acked r
+show r
+"#;
+
+const ROAMS_SAY: &str = r#"r roams e as c0 at 1
+r said 0
+r said 1
+r lost
+r said 2
+r back as c4 at 5
+r acked 3 of 3
+r at 6: {"n":{"kind":"counter","value":"12"}}
+r edit fault WrongKind
+e reopened: 7 entries, number 7, minimum 7
+r refused 400: Nonexistent client
+r said 4
+r at 6: {"n":{"kind":"counter","value":"15"}}
+r acked 3 of 5
+r back as c9 at 8
+r at 8: {"n":{"kind":"counter","value":"15"}}
+r acked 5 of 5
+r at 10: {"n":{"kind":"counter","value":"15"}}
+"#;
+
 // Two clients join, and each adds an item to a queue and is given one. The first item is given back, and the holder of the second
 // leaves; then the first is given again and done.
 const ITEMS: &str = r#"send a ["connect_document",{"id":"d","scopes":["doc:read","doc:write"]}]
@@ -323,6 +365,7 @@ const SCRIPTS: &[(&str, &str, &str)] = &[
     (EDITS, "done", EDITS_SAY),
     (REOPENED, "done", REOPENED_SAYS),
     (SWEEPS, "done", SWEEPS_SAY),
+    (ROAMS, "done", ROAMS_SAY),
     (WRITES, "bad line", WRITES_SAY),
     (BAD_SUMMARIES, "bad line", BAD_SUMMARIES_SAY),
     (ITEMS, "done", ITEMS_SAY),
@@ -353,6 +396,89 @@ const LOADS: &[(&str, &str, &str, &str)] = &[
     ),
 ];
 
+// Within so many entries and clients: roamers whose edit, whose join and whose coming back is refused.
+const LIMITED: &[(u64, u32, &str, &str, &str)] = &[
+    (
+        3,
+        9,
+        r#"roam r e
+say r {"type":"attach","address":"n","kind":"counter"}
+say r {"address":"n","contents":{"type":"increment","incrementAmount":5}}
+say r {"address":"n","contents":{"type":"increment","incrementAmount":7}}
+acked r
+show r
+back r
+count e
+acked r
+roam q e
+acked q
+"#,
+        "bad line",
+        r#"r roams e as c0 at 1
+r said 0
+r said 1
+r refused 429: document is full
+r acked 2 of 3
+r at 3: {"n":{"kind":"counter","value":"12"}}
+r refused 429: document is full
+e 4 entries, number 4, minimum 4
+r acked 2 of 3
+q refused 429: document is full
+bad line 11: unknown name
+"#,
+    ),
+    (
+        4,
+        9,
+        r#"roam r e
+say r {"type":"attach","address":"n","kind":"counter"}
+say r {"address":"n","contents":{"type":"increment","incrementAmount":5}}
+lose r
+say r {"address":"n","contents":{"type":"increment","incrementAmount":7}}
+back r
+show r
+acked r
+back r
+lose r
+"#,
+        "bad line",
+        r#"r roams e as c0 at 1
+r said 0
+r said 1
+r lost
+r said 2
+r refused 429: document is full
+r at 5: {"n":{"kind":"counter","value":"12"}}
+r acked 2 of 3
+r refused 429: document is full
+bad line 10: unknown name
+"#,
+    ),
+    (
+        9,
+        1,
+        r#"roam r e
+roam q e
+reopen e
+roam p e
+lose r
+back r
+show r
+roam q d
+"#,
+        "bad line",
+        r#"r roams e as c0 at 1
+q refused 429: too many clients
+e reopened: 2 entries, number 2, minimum 2
+p roams e as c2 at 3
+r lost
+r refused 429: too many clients
+r at 1: {}
+bad line 8: name in use
+"#,
+    ),
+];
+
 // One document more than may be open, and each that is opened counted.
 fn too_many(rt: &impl Abort, alloc: Global) {
     let mut input = String::new(alloc);
@@ -366,11 +492,11 @@ fn too_many(rt: &impl Abort, alloc: Global) {
         output.push_str(line.as_str()).expect(rt, "memory");
     }
     input
-        .push_str("count e\ncount d7\ntasks e\nload p e none\n")
+        .push_str("count e\ncount d7\ntasks e\nload p e none\nroam r e\n")
         .expect(rt, "memory");
     output
         .push_str(
-            "e refused 429: too many documents\nd7 0 entries, number 0, minimum 0\ne refused 429: too many documents\np refused 429: too many documents\n",
+            "e refused 429: too many documents\nd7 0 entries, number 0, minimum 0\ne refused 429: too many documents\np refused 429: too many documents\nr refused 429: too many documents\n",
         )
         .expect(rt, "memory");
     is_done_as(
@@ -396,6 +522,27 @@ fn steps_write_their_lines(rt: HostRuntime) {
 fn the_last_container_is_all_that_is_written(rt: HostRuntime) {
     for row in LOADS {
         is_done_as(&rt, rt.alloc(), row.0.as_bytes(), Some(row.1), row.2, row.3);
+    }
+}
+
+#[test]
+fn a_document_takes_no_more_than_its_limits(rt: HostRuntime) {
+    for row in LIMITED {
+        let limits = Limits {
+            entries: row.0,
+            clients: row.1,
+            checkpoints: 9,
+            bytes: 1_048_576,
+        };
+        is_done_within(
+            &rt,
+            rt.alloc(),
+            row.2.as_bytes(),
+            None,
+            limits,
+            row.3,
+            row.4,
+        );
     }
 }
 

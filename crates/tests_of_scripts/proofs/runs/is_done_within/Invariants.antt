@@ -1,5 +1,5 @@
 use Rattle.std.specs.Prelude.{None}
-use Rattle.tests_of_scripts.proofs.runs.is_done_as.Given as goal
+use Rattle.tests_of_scripts.proofs.runs.is_done_within.Given as goal
 
 abbrev pub ghost-script_within : goal.ghost-script_within
 ghost-script_within g a = None
