@@ -1,14 +1,10 @@
 -- Messages that a cursor gets.
-use Rattle.std.proofs.Common.{◌≡◌, ℕ, ◌+◌, ◌-◌, ◌≤◌, true, false, Bool, List, [], length, take, drop, min, is_some, Result, Ok, Err, refl, sym, ap, subst, ◌∙◌, arith}
+use Rattle.std.proofs.Common.{◌≡◌, ℕ, ◌+◌, ◌-◌, ◌≤◌, true, false, Bool, List, [], length, take, drop, min, Result, Ok, Err, refl, sym, ap, subst, ◌∙◌, arith}
 use Rattle.std.specs.Prelude.{IfOk, IfErr}
-use Rattle.std.proofs.Math.Nat.{min-le_left, min-le_right}
-use Rattle.fluid_io.specs.Causes.{Tells}
 use Rattle.fluid_types.specs.Ledger.{Ledger, order, seq}
 use Rattle.fluid_types.specs.declared.messages.Message.{Message}
-use Rattle.fluid_types.specs.Order.{AreNumberedFrom}
-use Rattle.fluid_document.specs.Entries.{most}
 use Rattle.fluid_deltas.specs.Pushed.{slice}
-use Rattle.fluid_deltas.specs.Ranges.{IsSlice, IsBadIn, IsFaultOf, AreNumbersOf}
+use Rattle.fluid_deltas.specs.Ranges.{IsSlice, IsBadIn, IsFaultOf}
 use Rattle.fluid_deltas.specs.declared.fault.DeltaFault.{DeltaFault}
 use Rattle.fluid_deltas.specs.declared.fault.DeltaFault.TheVariants.{DeltaFailed, NoMemory, BadDelta, Worn}
 use Rattle.fluid_lane.specs.declared.steps.Step.{Step}
@@ -18,7 +14,7 @@ use Rattle.fluid_lane.specs.Ranges.{Ranges}
 use Rattle.fluid_lane.specs.Laws.{LaneSays, SaysOf}
 use Rattle.fluid_doors.specs.Terms.{terms_of}
 use Rattle.fluid_doors.specs.Answers.{is_worn_behind}
-use Rattle.fluid_doors.specs.Collecting.{IsReadFault, IsWornDelta, AreNext, IsFaultIn, Collects, CollectsTold}
+use Rattle.fluid_doors.specs.Collecting.{IsReadFault, IsWornDelta, AreNext, IsFaultIn, Collects}
 use Rattle.fluid_doors.proofs.Answering.{worn_same, told_is}
 
 pub seq_is : (l : Ledger) → seq l ≡ length (order l)

@@ -33,7 +33,7 @@ use Rattle.fluid_doors.specs.declared.bench.Terms.{Terms}
 use Rattle.fluid_doors.specs.Terms.{terms_of}
 use Rattle.fluid_doors.specs.Passing.{Continues}
 use Rattle.fluid_doors.specs.Answers.{is_worn_behind}
-use Rattle.fluid_doors.specs.Collecting.{gathered, IsEventUnder, IsReadCause, IsReadFault, IsWornDelta, IsFaultIn, Collects}
+use Rattle.fluid_doors.specs.Collecting.{gathered, IsReadCause, IsReadFault, IsWornDelta, IsFaultIn, Collects}
 use Rattle.fluid_doors.specs.Tailed.{IsIn, IsTailOf, BenchStands, Begins, KeepsUp, KeepsUpBy}
 use Rattle.fluid_doors.proofs.Answering.{told_is}
 use Rattle.fluid_doors.proofs.Reading.{seq_is, fault_worn, sliced_right, sliced_faults, fault_in}

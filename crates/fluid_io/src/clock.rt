@@ -38,6 +38,7 @@ impl Model for FixedClock {
 }
 
 impl FixedClock {
+    /// It always tells this moment, in milliseconds.
     pub fn new(moment: u64) -> FixedClock
         requires { moment ≤ LAST_MOMENT }
         ensures { result ≡ moment }

@@ -30,6 +30,7 @@ pub enum Recv {
     TooLong(u64),
 }
 
+/// Why a wire gives no text, or takes none.
 #[derive(Clone, Copy, Debug, PartialEq, Eq)]
 pub enum WireFault {
     Failed,

@@ -49,23 +49,14 @@ where
     ensures refusals { Refuses (P.refusals spawner) (P.refusals result.3) result.0 }
     ensures shelves { ShelvesComeBack (B.seen desk.shelves) (B.seen result.1.shelves) }
 {
+    let Ok((hints, hinted)) = unbounded(alloc) else {
+        return (FrontEnd::NoMemory, desk, front, spawner);
+    };
     let Desk {
         shelves,
         objects,
         clock,
     } = desk;
-    let Ok((hints, hinted)) = unbounded(alloc) else {
-        return (
-            FrontEnd::NoMemory,
-            Desk {
-                shelves,
-                objects,
-                clock,
-            },
-            front,
-            spawner,
-        );
-    };
     let service = match Service::new(alloc, shelves, Limits::FULL) {
         Ok(service) => service,
         Err((shelves, _)) => {

@@ -1,5 +1,9 @@
 //! The names and records of the protocol, with public fields: what clients hand to a document, the
 //! messages that it puts in order, and its refusals. Every other crate speaks of these.
+//!
+//! - `words`: the words of the protocol. `names`: ids, names of documents, addresses. `lists`: messages and submissions in a row.
+//! - `entries`: raw entries. `verdicts`, `messages`, `nacks`: what becomes of them. `contents`: what an op says. `quorum`: members and values.
+//! - `fault`: why a text isn't read. `examples`: worked examples.
 #![tactic(auto)]
 
 pub mod contents;

@@ -33,6 +33,7 @@ pub enum NackKind {
 }
 
 impl NackKind {
+    /// The code of this sort, as in HTTP.
     #[tactic(auto, unfolding(crate::specs::Texts::code_of))]
     pub fn code(self) -> u32
         ensures { result ≡ code_of self }
@@ -75,6 +76,7 @@ impl NackRule {
         }
     }
 
+    /// The code of its sort, as in HTTP.
     pub fn code(&self) -> u32
         ensures { result ≡ code_of (kind_of self.now) }
     {

@@ -110,6 +110,7 @@ impl Model for ClientId {
 }
 
 impl ClientId {
+    /// The id that a text spells: 1 to 64 bytes of `A-Z a-z 0-9 _ -`.
     pub fn read(alloc: Global, text: &str) -> Result<ClientId, NameFault>
         ensures { IsUnless NameFault.NoMemory result (read_name text.now) }
     {

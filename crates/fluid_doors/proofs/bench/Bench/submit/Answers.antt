@@ -1,4 +1,3 @@
-use Rattle.std.proofs.Common.{◌≤◌, subst}
 use Rattle.fluid_doors.proofs.Passes.{continues}
 use Rattle.fluid_doors.proofs.Answering.{submits}
 use Rattle.fluid_doors.proofs.Tails.{kept_up_by, kept_short_by}
