@@ -47,6 +47,12 @@ def built(crate, words):
     return Program(crate, [program, *words])
 
 
+def as_shipped():
+    """From here on programs run with what bin/fluidd sets for the C library, where the caller hasn't set it."""
+    set_there = re.search(r"GLIBC_TUNABLES:-([^}]+)}", (TOP / "bin" / "fluidd").read_text())
+    os.environ.setdefault("GLIBC_TUNABLES", set_there[1])
+
+
 def proved():
     """The proved program that gives a verdict line for each record."""
     return built("fluidd", ["sequence"])
