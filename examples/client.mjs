@@ -86,7 +86,7 @@ function come() {
   console.log(`-- calling ${url}`);
   socket = new Socket(url);
   socket.onopen = () => say("connect_document", { id: name, scopes: ["doc:read", "doc:write"], client: "client.mjs" });
-  socket.onmessage = (message) => hear(JSON.parse(message.data));
+  socket.onmessage = (message) => { if (socket.readyState === 1) hear(JSON.parse(message.data)); }; // `ws` goes on behind close()
   socket.onerror = () => {};
   socket.onclose = () => {
     console.log("-- no line");
@@ -102,8 +102,11 @@ setInterval(() => { if (id !== null && isReady) submit("noop", null); }, 60000);
 createInterface({ input: process.stdin }).on("line", (line) => {
   if (line.trim() === "") return;
   const [key, value = ""] = line.split(/=(.*)/s).map((part) => part.trim());
-  edits.push({ id: null, body: /^[+-]\d{1,15}$/.test(key)
+  const body = /^[+-]\d{1,15}$/.test(key)
     ? { address: "count", contents: { type: "increment", incrementAmount: Number(key) } }
-    : { address: "board", contents: { type: "set", key, value: { type: "Plain", value } } } });
+    : { address: "board", contents: { type: "set", key, value: { type: "Plain", value } } };
+  // a text beyond maxMessageSize ends the line, and would end each one after it
+  if (Buffer.byteLength(JSON.stringify(body)) > 1000000) return console.log("-- too long, left out");
+  edits.push({ id: null, body });
   sendWaiting();
 });

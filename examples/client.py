@@ -7,7 +7,10 @@ import json
 import sys
 import threading
 
-import websockets
+try:
+    import websockets
+except ModuleNotFoundError:
+    sys.exit("the library `websockets` is missing: pip install websockets, or Debian's python3-websockets and /usr/bin/python3")
 
 CHANNELS = [{"type": "attach", "address": "board", "kind": "map"}, {"type": "attach", "address": "count", "kind": "counter"}]
 
@@ -27,7 +30,7 @@ class Client:
         else:  # an error or a nack: the line is of no more use
             print("--", json.dumps(rest), flush=True)
             if event == "nack" and not self.id:  # the connect itself isn't taken, and never will be
-                sys.exit("a document's name has 1 to 64 of A-Z a-z 0-9 _ -")
+                raise ValueError("a document's name has 1 to 64 of A-Z a-z 0-9 _ -")
             self.id = None
             return
         if is_other:
@@ -84,11 +87,14 @@ class Client:
         body = {"address": "board", "contents": {"type": "set", "key": key, "value": {"type": "Plain", "value": value}}}
         if key[:1] in ("+", "-") and key[1:].isdecimal() and len(key) < 17:
             body = {"address": "count", "contents": {"type": "increment", "incrementAmount": int(key)}}
+        if len(json.dumps(body)) > 1_000_000:  # a text beyond maxMessageSize ends the line, and would end each one after it
+            return print("-- too long, left out", flush=True)
         self.edits.append([body, None])
         await self.send_waiting()
 
 
 async def main(document, place="7070"):
+    sys.stdin.reconfigure(errors="replace")  # what is typed and isn't UTF-8 would be no text
     client, loop = Client(document), asyncio.get_running_loop()
     typed = (asyncio.run_coroutine_threadsafe(client.type(line), loop).result() for line in sys.stdin if line.strip())
     threading.Thread(target=list, args=[typed], daemon=True).start()
@@ -96,9 +102,15 @@ async def main(document, place="7070"):
     while not (await asyncio.wait([staying], timeout=60))[0]:
         if client.id and client.is_ready:  # who says nothing for five minutes is taken for gone
             await client.submit("noop", None)
+    staying.result()  # the fault that ended it
 
 
 words = sys.argv[1:]
 if len(words) not in (1, 2) or not all("://" in place or place.isdecimal() for place in words[1:]):
     sys.exit("usage: examples/client.py DOCUMENT [PORT or URL]")
-asyncio.run(main(*words))
+try:
+    asyncio.run(main(*words))
+except KeyboardInterrupt:
+    sys.exit(130)
+except (OSError, ValueError, websockets.InvalidURI) as fault:
+    sys.exit(f"client.py: {fault}")
