@@ -92,11 +92,11 @@ usage: fluidd script
   count D           how many entries D has, and its numbers
   tasks D           the queues and tasks of D, as its messages make them
 
-A name has 1 to 16 characters of a-z and 0-9. The moment of a step, in
-milliseconds, is its line's number. An input has at most 16,777,216 lines, and a
-line at most 1,048,576 bytes; an empty line is passed over. At the first line
-that is refused the run ends with `bad line N: WHY` and status 3. All is kept in
-memory.
+C, P and R are names of 1 to 16 characters of a-z and 0-9; D is a document's, of
+1 to 64 of A-Z, a-z, 0-9, `_` and `-`. The moment of a step, in milliseconds, is
+its line's number. An input has at most 16,777,216 lines, and a line at most
+1,048,576 bytes; an empty line is passed over. At the first line that is refused
+the run ends with `bad line N: WHY` and status 3. All is kept in memory.
 
 example:
   $ printf 'load p d none\\nedit p {\"type\":\"attach\",\"address\":\"m\",\"kind\":\"map\"}\\nshow p\\n' | fluidd script
@@ -117,8 +117,8 @@ The name of a document has 1 to 64 characters of A-Z, a-z, 0-9, `_` and `-`. At
 the first line that is refused `bad line N: WHY` is all that is written.
 
 example:
-  $ fluidd load d < steps.txt
-  d at 10: {\"m\":{\"kind\":\"map\",\"value\":{}}}
+  $ printf 'load p d none\\nedit p {\"type\":\"attach\",\"address\":\"m\",\"kind\":\"map\"}\\n' | fluidd load d
+  d at 3: {\"m\":{\"kind\":\"map\",\"value\":{}}}
 ";
 
 const WORKLOAD: &str = "\
