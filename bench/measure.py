@@ -114,6 +114,15 @@ def run(program, source, written):
     return Run(float(user) + float(system), int(kilobytes) * 1024)
 
 
+def instructions(program, source):
+    """How many instructions a program takes over the file `source`, by callgrind."""
+    counts = OUT / "counts"
+    command = ["valgrind", "-q", "--tool=callgrind", f"--callgrind-out-file={counts}", *program.words]
+    with source.open("rb") as into:
+        subprocess.run(command, stdin=into, stdout=subprocess.DEVNULL, check=True)
+    return int(re.search(r"^(?:summary|totals): (\d+)", counts.read_text(), re.M)[1])
+
+
 def peak(program, *words):
     """The most memory, in bytes, that a program holds over records that come by a pipe from one of the generators, since they
     may be many."""
