@@ -165,16 +165,6 @@ const TEXTS: &[(&str, Told)] = &[
     (FIRST, Told::One(1)),
 ];
 
-#[test]
-fn the_version_is_looked_at_first(rt: HostRuntime) {
-    let alloc = rt.alloc();
-    for (text, wanted) in TEXTS {
-        assert_told(&rt, alloc, *text, *wanted);
-    }
-    let found = read_as(&rt, alloc, &[0x7b, 0xff, 0x7d]);
-    assert!(&rt; found == Told::BadText);
-}
-
 // Members that are in their form, though what they say may lie outside the order.
 const INSIDE: &[(&str, &str)] = &[
     (
@@ -405,56 +395,56 @@ const NESTED: &[(u64, Told)] = &[
     (118, Told::BadText),
 ];
 
+fn assert_inside(rt: &impl Abort, alloc: Global, name: &str, value: &str) {
+    let at = place(name);
+    assert_with(
+        rt,
+        alloc,
+        "2",
+        (at, at.wrapping_add(1)),
+        Some(value),
+        Told::Two,
+    );
+}
+
+// What stands behind the member may be outside its form too.
+fn assert_outside(rt: &impl Abort, alloc: Global, name: &str, value: &str) {
+    let at = place(name);
+    let one = (at, at.wrapping_add(1));
+    let bad = Told::BadField(at);
+    let first = if at == HEARD { Told::One(1) } else { bad };
+    assert_with(rt, alloc, "2", one, Some(value), bad);
+    assert_with(rt, alloc, "2", (at, MEMBERS), Some(value), bad);
+    assert_with(rt, alloc, "1", one, Some(value), first);
+}
+
+fn assert_lacking(rt: &impl Abort, alloc: Global, at: usize) {
+    let one = (at, at.wrapping_add(1));
+    assert_with(rt, alloc, "2", one, None, Told::BadField(at));
+    assert_with(rt, alloc, "0", (at, MEMBERS), None, Told::Version(0));
+}
+
 #[test]
-fn a_message_is_read_as_deep_as_the_text(rt: HostRuntime) {
+fn a_text_is_read_or_its_first_fault_is_told(rt: HostRuntime) {
     let alloc = rt.alloc();
+    for (text, wanted) in TEXTS {
+        assert_told(&rt, alloc, *text, *wanted);
+    }
+    let found = read_as(&rt, alloc, &[0x7b, 0xff, 0x7d]);
+    assert!(&rt; found == Told::BadText, "no UTF-8");
     for (lists, wanted) in NESTED {
         let value = nested(&rt, alloc, *lists);
         assert_with(&rt, alloc, "2", (2, 3), Some(value.as_str()), *wanted);
         drop(value);
     }
-}
-
-#[test]
-fn the_first_member_outside_its_form_is_named(rt: HostRuntime) {
-    let alloc = rt.alloc();
     for (name, value) in INSIDE {
-        let at = place(*name);
-        assert_with(
-            &rt,
-            alloc,
-            "2",
-            (at, at.wrapping_add(1)),
-            Some(*value),
-            Told::Two,
-        );
+        assert_inside(&rt, alloc, *name, *value);
     }
     for (name, value) in OUTSIDE {
-        let at = place(*name);
-        let bad = Told::BadField(at);
-        assert_with(&rt, alloc, "2", (at, at.wrapping_add(1)), Some(*value), bad);
-        // what stands behind it may be outside its form too
-        assert_with(&rt, alloc, "2", (at, MEMBERS), Some(*value), bad);
-        let first = if at == HEARD { Told::One(1) } else { bad };
-        assert_with(
-            &rt,
-            alloc,
-            "1",
-            (at, at.wrapping_add(1)),
-            Some(*value),
-            first,
-        );
+        assert_outside(&rt, alloc, *name, *value);
     }
     for at in 0..MEMBERS {
-        assert_with(
-            &rt,
-            alloc,
-            "2",
-            (at, at.wrapping_add(1)),
-            None,
-            Told::BadField(at),
-        );
-        assert_with(&rt, alloc, "0", (at, MEMBERS), None, Told::Version(0));
+        assert_lacking(&rt, alloc, at);
     }
     assert_with(&rt, alloc, "1", (HEARD, HEARD + 1), None, Told::One(1));
 }
@@ -532,9 +522,9 @@ fn moments_stand_in_the_rows_of_their_clients(rt: HostRuntime) {
     let Ok(Form::Two(state)) = &read else {
         panic!(&rt; "no state");
     };
-    assert!(&rt; moment_of(&rt, alloc, state, "a") == Some(0));
-    assert!(&rt; moment_of(&rt, alloc, state, "c0") == Some(5));
-    assert!(&rt; moment_of(&rt, alloc, state, "b") == None);
+    for (id, wanted) in [("a", Some(0)), ("c0", Some(5)), ("b", None)] {
+        assert!(&rt; moment_of(&rt, alloc, state, id) == wanted, "{id}");
+    }
     let moments = Moments::of(alloc, &state.sequencer.clients).expect(&rt, "memory");
     assert!(&rt; moments.as_slice().len() == 2 && state.heard.as_slice().len() == 1);
     drop(moments);

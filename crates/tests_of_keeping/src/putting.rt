@@ -173,24 +173,6 @@ fn assert_ranges(rt: &impl Abort, alloc: Global, keeper: &mut MemoryKeeper, befo
     drop(deltas);
 }
 
-#[test]
-fn a_range_is_a_slice(rt: HostRuntime) {
-    let alloc = rt.alloc();
-    let mut keeper = keeper_of(&rt, alloc, 0);
-    let mut all = pushed(&rt, alloc, 0, 4);
-    assert!(rt; flush(&rt, alloc, &mut all, &mut keeper) == Ok(()));
-    for before in [0, 1, 2, 4] {
-        assert_ranges(&rt, alloc, &mut keeper, before);
-    }
-    let some = pushed(&rt, alloc, 2, 2);
-    for (bounds, wanted) in HELD {
-        assert!(rt; held(&some, *bounds) == *wanted, "{bounds:?}");
-    }
-    drop(some);
-    drop(all);
-    drop(keeper);
-}
-
 // This text stands for message 1, and call 2 fails.
 fn assert_bad(rt: &impl Abort, alloc: Global, text: &[u8]) {
     let mut keeper = keeper_of(rt, alloc, 2);
@@ -213,11 +195,24 @@ fn assert_bad(rt: &impl Abort, alloc: Global, text: &[u8]) {
 }
 
 #[test]
-fn a_delta_that_is_no_message_of_its_number_is_bad(rt: HostRuntime) {
+fn a_range_is_a_slice_or_has_a_bad_delta(rt: HostRuntime) {
     let alloc = rt.alloc();
-    assert_bad(&rt, alloc, b"{");
-    assert_bad(&rt, alloc, b"\xff");
-    assert_bad(&rt, alloc, TEXTS[1].as_bytes());
+    let mut keeper = keeper_of(&rt, alloc, 0);
+    let mut all = pushed(&rt, alloc, 0, 4);
+    assert!(rt; flush(&rt, alloc, &mut all, &mut keeper) == Ok(()));
+    drop(all);
+    for before in [0, 1, 2, 4] {
+        assert_ranges(&rt, alloc, &mut keeper, before);
+    }
+    drop(keeper);
+    let some = pushed(&rt, alloc, 2, 2);
+    for (bounds, wanted) in HELD {
+        assert!(rt; held(&some, *bounds) == *wanted, "{bounds:?}");
+    }
+    drop(some);
+    for text in [b"{".as_slice(), b"\xff", TEXTS[1].as_bytes()] {
+        assert_bad(&rt, alloc, text);
+    }
 }
 
 // Makes room where the most messages are in memory.
@@ -322,13 +317,18 @@ fn the_oldest_page_goes(rt: HostRuntime) {
     drop(keeper);
 }
 
-// Every second call of a keeper, so that each put fails once: the calls 1, 3, 5 and so on up to 511.
-fn odd_calls(rt: &impl Abort, alloc: Global) -> Vec<u64> {
+// The calls that fail: every second one, so that each put of a page fails once; and behind the last put, which is call 512, the
+// first read, the third, the sixth and so on, so that the last read of each try fails.
+fn failing_calls(rt: &impl Abort, alloc: Global) -> Vec<u64> {
     let mut failing = Vec::new(alloc);
     for put in 0..256_u64 {
-        failing
-            .push(put.wrapping_mul(2).wrapping_add(1))
-            .expect(rt, "memory");
+        let call = put.wrapping_mul(2).wrapping_add(1);
+        failing.push(call).expect(rt, "memory");
+    }
+    let mut call = 512_u64;
+    for reads in 1..=256 {
+        call = call.wrapping_add(reads);
+        failing.push(call).expect(rt, "memory");
     }
     failing
 }
@@ -360,55 +360,36 @@ fn assert_no_room(
     );
 }
 
+// The read of one delta fails behind so many calls that failed before it.
+fn assert_unread(
+    rt: &impl Abort,
+    alloc: Global,
+    deltas: &mut Deltas,
+    keeper: &mut MemoryKeeper,
+    faults: u64,
+) {
+    let fault = FaultNote {
+        before: faults,
+        after: faults.wrapping_add(1),
+    };
+    let wanted = Err(DeltaFault::DeltaFailed(fault));
+    let given = run_given(rt, alloc, deltas, keeper, (1, 258));
+    assert!(rt; given == wanted, "behind {faults} faults");
+}
+
 #[test]
-fn a_page_stays_until_all_its_messages_are_kept(rt: HostRuntime) {
+fn each_put_and_each_read_of_a_page_may_fail(rt: HostRuntime) {
     let alloc = rt.alloc();
-    let mut keeper = MemoryKeeper::new(alloc, odd_calls(&rt, alloc), Vec::new(alloc));
+    let mut keeper = MemoryKeeper::new(alloc, failing_calls(&rt, alloc), Vec::new(alloc));
     let mut deltas = pushed_over(&rt, alloc, 4096, &mut keeper);
     for kept in 0..256 {
         assert_no_room(&rt, alloc, &mut deltas, &mut keeper, kept);
     }
     assert!(rt; make_room(&rt, alloc, &mut deltas, &mut keeper) == Ok(()));
     assert!(rt; deltas.resident() == 3840 && keeper.deltas() == 256);
-    drop(deltas);
-    drop(keeper);
-}
-
-// The last read of each try to read a whole page: the first call behind the 256 puts, the third, the sixth and so on.
-fn last_reads(rt: &impl Abort, alloc: Global) -> Vec<u64> {
-    let mut failing = Vec::new(alloc);
-    let mut call = 256_u64;
-    for reads in 1..=256 {
-        call = call.wrapping_add(reads);
-        failing.push(call).expect(rt, "memory");
-    }
-    failing
-}
-
-// The read of one delta fails behind so many that were read.
-fn assert_unread(
-    rt: &impl Abort,
-    alloc: Global,
-    deltas: &mut Deltas,
-    keeper: &mut MemoryKeeper,
-    read: u64,
-) {
-    let fault = FaultNote {
-        before: read,
-        after: read.wrapping_add(1),
-    };
-    let wanted = Err(DeltaFault::DeltaFailed(fault));
-    let given = run_given(rt, alloc, deltas, keeper, (1, 258));
-    assert!(rt; given == wanted, "behind {read} reads");
-}
-
-#[test]
-fn each_delta_of_a_range_may_fail(rt: HostRuntime) {
-    let alloc = rt.alloc();
-    let mut keeper = MemoryKeeper::new(alloc, last_reads(&rt, alloc), Vec::new(alloc));
-    let mut deltas = pushed_over(&rt, alloc, 4097, &mut keeper);
-    for read in 0..256 {
-        assert_unread(&rt, alloc, &mut deltas, &mut keeper, read);
+    push(&rt, alloc, &mut deltas);
+    for faults in 256..512 {
+        assert_unread(&rt, alloc, &mut deltas, &mut keeper, faults);
     }
     let given = run_given(&rt, alloc, &mut deltas, &mut keeper, (1, 258));
     assert!(rt; given == Ok(Some((1, 257))));

@@ -9,46 +9,123 @@ use fluid_tree::{
 use std::alloc::Global;
 use std::process::Abort;
 
-const EMPTY_BLOB: &str = "e69de29bb2d1d6434b8b29ae775ad8c2e48c5391";
+// The ids that Git prints for the objects below.
+const IDS: [&str; 13] = [
+    "e69de29bb2d1d6434b8b29ae775ad8c2e48c5391",
+    "4b825dc642cb6eb9a060e54bf8d69288fbee4904",
+    "ce013625030ba8dba906f756967f9e9ca394464a",
+    "6c5eb816ec8cace4aaf30d9245ab712256f64058",
+    "c96f1b512ac253fd899a0c1d81043866f2e750f0",
+    "63533312ccca4ec2fb5ebde859e70eed4d482f82",
+    "3d800f5d507af8fcb2388be1a6d6cef4f3452ea0",
+    "56b7e737070846518a2144e165ad916af6203912",
+    "d25ce14f7accb5bb45811397d87758089e31f80f",
+    "21d4be4a5fb321923cb352b0bd626dcad1baacc9",
+    "5d927cbf4590dd96799530b2af3e1e70be5fea4c",
+    "6ac11413754d9d3c61b409c6a79cf3df6aaf872b",
+    "a65d62ce0baf39eda0df4b1cb9c1b8c60368e9a4",
+];
 
-const EMPTY_TREE: &str = "4b825dc642cb6eb9a060e54bf8d69288fbee4904";
+// The places of these ids: an empty blob and an empty tree, a file of `hello` and a line feed,
+const EMPTY_BLOB: usize = 0;
 
-// A tree with the empty blobs `a.b` and `a0` and the empty tree `a`, and what `git mktree` prints for it.
-const SAMPLE: &str =
+const EMPTY_TREE: usize = 1;
+
+const HELLO: usize = 2;
+// a tree with the empty blobs `a.b` and `a0` and the empty tree `a`,
+const SAMPLE: usize = 3;
+// a tree with the empty tree and the empty blob as its trees `a` and `b`, and one with the empty tree as its blobs,
+const TREES: usize = 4;
+
+const BLOBS: usize = 5;
+// 32 trees in one another under the name `t`, and a tree that has them as `a` and as `b`,
+const NESTED: usize = 6;
+
+const DEEPER: usize = 7;
+// an earlier tree, and what stands for handles into it.
+const EARLIER: usize = 8;
+
+const AS_BEFORE: usize = 9;
+
+const ANOTHER_NAME: usize = 10;
+
+const FROM_BELOW: usize = 11;
+
+const INNER: usize = 12;
+
+const HELLO_BYTES: &[u8] = b"blob 6\x00hello\n";
+
+const SAMPLE_TEXT: &str =
     r#"{"type":1,"tree":{"a":{"type":1,"tree":{}},"a.b":{"type":2,"content":""},"a0":{"type":2,"content":""}}}"#;
 
-const SAMPLE_ID: &str = "6c5eb816ec8cace4aaf30d9245ab712256f64058";
+// With a tree in a tree.
+const EARLIER_TEXT: &str =
+    r#"{"type":1,"tree":{"k":{"type":1,"tree":{"l":{"type":1,"tree":{"n":{"type":2,"content":"x"}}}}},"m":{"type":2,"content":"y"}}}"#;
 
-const HELLO: &[u8] = b"blob 6\x00hello\n";
+// What is asked of a store. An id is named by its place above.
+#[derive(Clone, Copy)]
+enum Act {
+    // A new store, in which one call fails, or none where it is call 0.
+    Begin(u64),
+    Put(&'static [u8]),
+    // A tree with two entries, `a` and `b`, trees or blobs.
+    PutPair(usize, usize, bool),
+    // Bytes are put under an id that may not be theirs.
+    Plant(usize, &'static [u8]),
+    Upload(&'static str),
+    // Over the tree with this id.
+    UploadOver(usize, &'static str),
+    // So many trees in one another, each the next one's under this name.
+    UploadNested(usize, &'static str),
+    // Whether the fault of putting the first bytes tells them, and the other ones as what is held.
+    Clashes(&'static [u8], &'static [u8]),
+    Holds(usize, &'static [u8]),
+    IsWhole(usize),
+    Fetch(usize),
+    // How many objects are held, and how many were looked up.
+    Count,
+    Gets,
+}
 
-// What `git hash-object` prints for a file of `hello` and a line feed.
-const HELLO_ID: &str = "ce013625030ba8dba906f756967f9e9ca394464a";
-
-// What a call answers; where it is said of an id, with it.
 #[derive(Clone, Copy, Debug, PartialEq)]
 enum Told {
     // The id that is answered, or that of what is read.
-    Done(Id),
-    Whole,
-    NotWhole,
+    Done(usize),
+    Is(bool),
+    Count(u64),
     // The count of faults rose from 0 to 1.
     Failed,
-    Clash(Id),
-    Missing(Id),
+    Clash(usize),
+    Missing(usize),
     // At this place.
-    Bad(Id, u64),
+    Bad(usize, u64),
     BadName,
     TooDeep,
     NoPath,
     AnotherFault,
 }
 
+fn id_at(rt: &impl Abort, at: usize) -> Id {
+    let text = IDS.get(at).expect(rt, "an id of these tests");
+    Id::read(*text).expect(rt, "an id")
+}
+
+// The place of an id, and the number of them where it is another.
+fn place(id: &Id) -> usize {
+    for (at, text) in IDS.iter().enumerate() {
+        if Id::read(*text) == Some(*id) {
+            return at;
+        }
+    }
+    IDS.len()
+}
+
 fn fault_of(fault: &StoreFault) -> Told {
     match fault {
         StoreFault::StoreFailed(note) if note.before == 0 && note.after == 1 => Told::Failed,
-        StoreFault::Clash { id, .. } => Told::Clash(*id),
-        StoreFault::Missing(id) => Told::Missing(*id),
-        StoreFault::BadObject(id, place) => Told::Bad(*id, *place),
+        StoreFault::Clash { id, .. } => Told::Clash(place(id)),
+        StoreFault::Missing(id) => Told::Missing(place(id)),
+        StoreFault::BadObject(id, at) => Told::Bad(place(id), *at),
         StoreFault::Tree(TreeFault::BadName(_)) => Told::BadName,
         StoreFault::Tree(TreeFault::TooDeep) => Told::TooDeep,
         StoreFault::NoPath(_) => Told::NoPath,
@@ -56,44 +133,30 @@ fn fault_of(fault: &StoreFault) -> Told {
     }
 }
 
-fn stored(alloc: Global, objects: &mut MemoryObjects, bytes: &[u8]) -> Told {
-    let answer = store_object(alloc, objects, bytes);
-    let told = match &answer {
-        Ok(id) => Told::Done(*id),
+fn done(answer: &Result<Id, StoreFault>) -> Told {
+    match answer {
+        Ok(id) => Told::Done(place(id)),
         Err(fault) => fault_of(fault),
-    };
-    drop(answer);
-    told
-}
-
-fn uploaded(alloc: Global, objects: &mut MemoryObjects, node: &Node) -> Told {
-    uploaded_over(alloc, objects, node, None)
-}
-
-fn uploaded_over(
-    alloc: Global,
-    objects: &mut MemoryObjects,
-    node: &Node,
-    base: Option<&Id>,
-) -> Told {
-    let answer = upload(alloc, objects, node, base);
-    let told = match &answer {
-        Ok(id) => Told::Done(*id),
-        Err(fault) => fault_of(fault),
-    };
-    drop(answer);
-    told
-}
-
-fn read_as(alloc: Global, node: &Node) -> Told {
-    match id_of(alloc, node) {
-        Ok(id) => Told::Done(id),
-        Err(_) => Told::AnotherFault,
     }
 }
 
-fn fetched(alloc: Global, objects: &mut MemoryObjects, id: &Id) -> Told {
-    let answer = fetch(alloc, objects, id);
+fn put(alloc: Global, objects: &mut MemoryObjects, bytes: &[u8]) -> Told {
+    let answer = store_object(alloc, objects, bytes);
+    let told = done(&answer);
+    drop(answer);
+    told
+}
+
+fn put_over(alloc: Global, objects: &mut MemoryObjects, node: Node, earlier: Option<&Id>) -> Told {
+    let answer = upload(alloc, objects, &node, earlier);
+    let told = done(&answer);
+    drop(answer);
+    drop(node);
+    told
+}
+
+fn fetched(rt: &impl Abort, alloc: Global, objects: &mut MemoryObjects, at: usize) -> Told {
+    let answer = fetch(alloc, objects, &id_at(rt, at));
     let told = match &answer {
         Ok(node) => read_as(alloc, node),
         Err(fault) => fault_of(fault),
@@ -102,40 +165,61 @@ fn fetched(alloc: Global, objects: &mut MemoryObjects, id: &Id) -> Told {
     told
 }
 
-fn completed(alloc: Global, objects: &mut MemoryObjects, id: &Id) -> Told {
-    let answer = complete(alloc, objects, id);
+fn completed(rt: &impl Abort, alloc: Global, objects: &mut MemoryObjects, at: usize) -> Told {
+    let answer = complete(alloc, objects, &id_at(rt, at));
     let told = match &answer {
-        Ok(true) => Told::Whole,
-        Ok(false) => Told::NotWhole,
+        Ok(whole) => Told::Is(*whole),
         Err(fault) => fault_of(fault),
     };
     drop(answer);
     told
 }
 
-// The id of an object that is put.
-fn put(rt: &impl Abort, alloc: Global, objects: &mut MemoryObjects, bytes: &[u8]) -> Id {
-    match stored(alloc, objects, bytes) {
-        Told::Done(id) => id,
-        told => panic!(rt; "{told:?}"),
+// The id of what is read.
+fn read_as(alloc: Global, node: &Node) -> Told {
+    match id_of(alloc, node) {
+        Ok(id) => Told::Done(place(&id)),
+        Err(_) => Told::AnotherFault,
     }
 }
 
-// Other bytes under an id than those of its object.
-fn plant(rt: &impl Abort, alloc: Global, objects: &mut MemoryObjects, at: &Id, bytes: &[u8]) {
-    assert!(rt; objects.put(alloc, at, bytes) == Ok(()));
+fn plant(
+    rt: &impl Abort,
+    alloc: Global,
+    objects: &mut MemoryObjects,
+    at: usize,
+    bytes: &[u8],
+) -> Told {
+    match objects.put(alloc, &id_at(rt, at), bytes) {
+        Ok(()) => Told::Done(at),
+        Err(ObjectFault::Failed) => Told::Failed,
+        Err(ObjectFault::NoMemory) => Told::AnotherFault,
+    }
 }
 
-// Whether these bytes are held under the id.
-fn holds(alloc: Global, objects: &mut MemoryObjects, id: &Id, bytes: &[u8]) -> bool {
-    match objects.get(alloc, id) {
+fn holds(
+    rt: &impl Abort,
+    alloc: Global,
+    objects: &mut MemoryObjects,
+    at: usize,
+    bytes: &[u8],
+) -> bool {
+    match objects.get(alloc, &id_at(rt, at)) {
         Ok(Some(held)) => held.as_slice() == bytes,
         _ => false,
     }
 }
 
-fn id(rt: &impl Abort, text: &str) -> Id {
-    Id::read(text).expect(rt, "an id")
+fn clashes(alloc: Global, objects: &mut MemoryObjects, bytes: &[u8], held: &[u8]) -> bool {
+    let answer = store_object(alloc, objects, bytes);
+    let told = match &answer {
+        Err(StoreFault::Clash { kept, new, .. }) => {
+            kept.as_slice() == held && new.as_slice() == bytes
+        }
+        _ => false,
+    };
+    drop(answer);
+    told
 }
 
 // A store in which one call fails, or none where it is call 0.
@@ -151,10 +235,10 @@ fn node(rt: &impl Abort, alloc: Global, text: &str) -> Node {
     node
 }
 
-// The empty tree in so many others, each under this name.
-fn nested(rt: &impl Abort, alloc: Global, outer: usize, name: &str) -> Node {
+// So many trees in one another, each the next one's under this name.
+fn nested(rt: &impl Abort, alloc: Global, trees: usize, name: &str) -> Node {
     let mut node = Node::tree(Entries::new(alloc));
-    for _ in 0..outer {
+    for _ in 1..trees {
         let mut entries = Entries::new(alloc);
         let name = Text::copied(alloc, name).expect(rt, "memory");
         entries.push(name, node).expect(rt, "memory");
@@ -163,397 +247,321 @@ fn nested(rt: &impl Abort, alloc: Global, outer: usize, name: &str) -> Node {
     node
 }
 
-fn entry(rt: &impl Abort, alloc: Global, name: &str, tree: bool, id: Id) -> ObjectEntry {
-    let name = Text::copied(alloc, name).expect(rt, "memory");
-    ObjectEntry { name, tree, id }
+// The bytes of a tree with two entries, `a` and `b`, trees or blobs.
+fn pair(rt: &impl Abort, alloc: Global, ids: (Id, Id), trees: bool) -> Vec<u8> {
+    let (head, mode): (&[u8], &[u8]) = if trees {
+        (b"tree 56\x00", b"40000 ")
+    } else {
+        (b"tree 58\x00", b"100644 ")
+    };
+    let mut bytes = Vec::from_slice(alloc, head).expect(rt, "memory");
+    for (name, id) in [(b"a\x00", ids.0), (b"b\x00", ids.1)] {
+        bytes.extend_from_slice(mode).expect(rt, "memory");
+        bytes.extend_from_slice(name).expect(rt, "memory");
+        bytes.extend_from_slice(id.as_bytes()).expect(rt, "memory");
+    }
+    bytes
 }
 
-// Puts a tree with two entries of these ids.
-fn put_two(
+fn put_pair(
     rt: &impl Abort,
     alloc: Global,
     objects: &mut MemoryObjects,
     ids: (Id, Id),
-    tree: bool,
-) -> Id {
-    let mut entries = ObjectEntries::new(alloc);
-    let first = entry(rt, alloc, "a", tree, ids.0);
-    entries.push(first).expect(rt, "memory");
-    let second = entry(rt, alloc, "b", tree, ids.1);
-    entries.push(second).expect(rt, "memory");
-    let bytes = tree_bytes(alloc, entries.as_slice())
-        .ok()
-        .expect(rt, "a tree");
-    put(rt, alloc, objects, bytes.as_slice())
+    trees: bool,
+) -> Told {
+    let bytes = pair(rt, alloc, ids, trees);
+    let told = put(alloc, objects, bytes.as_slice());
+    drop(bytes);
+    told
 }
 
-// What is told of a tree under this id: whether it is whole, and what reading it answers.
+fn tell(rt: &impl Abort, alloc: Global, objects: &mut MemoryObjects, act: &Act) -> Told {
+    match act {
+        Act::Begin(failing) => {
+            *objects = store(rt, alloc, *failing);
+            Told::Count(0)
+        }
+        Act::Put(bytes) => put(alloc, objects, *bytes),
+        Act::PutPair(first, second, trees) => {
+            let ids = (id_at(rt, *first), id_at(rt, *second));
+            put_pair(rt, alloc, objects, ids, *trees)
+        }
+        Act::Plant(at, bytes) => plant(rt, alloc, objects, *at, *bytes),
+        Act::Upload(text) => put_over(alloc, objects, node(rt, alloc, *text), None),
+        Act::UploadOver(at, text) => {
+            let earlier = id_at(rt, *at);
+            put_over(alloc, objects, node(rt, alloc, *text), Some(&earlier))
+        }
+        Act::UploadNested(trees, name) => {
+            put_over(alloc, objects, nested(rt, alloc, *trees, *name), None)
+        }
+        Act::Clashes(bytes, held) => Told::Is(clashes(alloc, objects, *bytes, *held)),
+        Act::Holds(at, bytes) => Told::Is(holds(rt, alloc, objects, *at, *bytes)),
+        Act::IsWhole(at) => completed(rt, alloc, objects, *at),
+        Act::Fetch(at) => fetched(rt, alloc, objects, *at),
+        Act::Count => Told::Count(objects.count() as u64),
+        Act::Gets => Told::Count(objects.gets()),
+    }
+}
+
 fn assert_told(
     rt: &impl Abort,
     alloc: Global,
     objects: &mut MemoryObjects,
-    id: &Id,
-    whole: Told,
-    read: Told,
+    row: usize,
+    act: &Act,
+    wanted: Told,
 ) {
-    assert!(rt; completed(alloc, objects, id) == whole, "{whole:?}");
-    assert!(rt; fetched(alloc, objects, id) == read, "{read:?}");
+    let told = tell(rt, alloc, objects, act);
+    assert!(rt; told == wanted, "row {row}: {told:?}, not {wanted:?}");
 }
+
+const ACTS: &[(Act, Told)] = &[
+    // a tree is put and read back: one blob, which two entries name, and two trees
+    (Act::IsWhole(SAMPLE), Told::Is(false)),
+    (Act::Fetch(SAMPLE), Told::Missing(SAMPLE)),
+    (Act::Upload(SAMPLE_TEXT), Told::Done(SAMPLE)),
+    (Act::Count, Told::Count(3)),
+    (Act::IsWhole(SAMPLE), Told::Is(true)),
+    (Act::Fetch(SAMPLE), Told::Done(SAMPLE)),
+    (Act::Put(HELLO_BYTES), Told::Done(HELLO)),
+    (Act::Put(HELLO_BYTES), Told::Done(HELLO)),
+    (Act::Count, Told::Count(4)),
+    // where the call fails, nothing is put; of other bytes under one id the later ones are held
+    (Act::Begin(1), Told::Count(0)),
+    (Act::Plant(EMPTY_BLOB, b"one"), Told::Failed),
+    (Act::Count, Told::Count(0)),
+    (Act::Plant(EMPTY_BLOB, b"one"), Told::Done(EMPTY_BLOB)),
+    (Act::Plant(EMPTY_BLOB, b"two"), Told::Done(EMPTY_BLOB)),
+    (Act::Count, Told::Count(1)),
+    (Act::Holds(EMPTY_BLOB, b"two"), Told::Is(true)),
+    // other bytes are held under the id of one of a tree's objects: those before it are put
+    (Act::Begin(0), Told::Count(0)),
+    (Act::Plant(EMPTY_BLOB, b"other"), Told::Done(EMPTY_BLOB)),
+    (Act::Upload(SAMPLE_TEXT), Told::Clash(EMPTY_BLOB)),
+    (Act::Count, Told::Count(1)),
+    (Act::Holds(EMPTY_BLOB, b"other"), Told::Is(true)),
+    (Act::Clashes(b"blob 0\x00", b"other"), Told::Is(true)),
+    (Act::Begin(0), Told::Count(0)),
+    (Act::Plant(EMPTY_TREE, b"other"), Told::Done(EMPTY_TREE)),
+    (Act::Upload(SAMPLE_TEXT), Told::Clash(EMPTY_TREE)),
+    (Act::Count, Told::Count(2)),
+    (Act::Holds(EMPTY_TREE, b"other"), Told::Is(true)),
+    (Act::Begin(0), Told::Count(0)),
+    (Act::Plant(SAMPLE, b"other"), Told::Done(SAMPLE)),
+    (Act::Upload(SAMPLE_TEXT), Told::Clash(SAMPLE)),
+    (Act::Count, Told::Count(3)),
+    (Act::Holds(SAMPLE, b"other"), Told::Is(true)),
+    // a tree that is refused leaves the store alone; an earlier one has to be held
+    (Act::Begin(0), Told::Count(0)),
+    (Act::Upload(r#"{"type":3,"handle":"k/l"}"#), Told::NoPath),
+    (Act::UploadNested(33, "t"), Told::TooDeep),
+    (Act::UploadNested(2, "a/b"), Told::BadName),
+    (Act::Gets, Told::Count(0)),
+    (Act::UploadOver(HELLO, SAMPLE_TEXT), Told::Missing(HELLO)),
+    (Act::Count, Told::Count(0)),
+    // 32 trees in one another are read back, and with one more round them they aren't
+    (Act::Begin(0), Told::Count(0)),
+    (Act::UploadNested(32, "t"), Told::Done(NESTED)),
+    (Act::IsWhole(NESTED), Told::Is(true)),
+    (Act::Fetch(NESTED), Told::Done(NESTED)),
+    (Act::PutPair(NESTED, NESTED, true), Told::Done(DEEPER)),
+    (Act::IsWhole(DEEPER), Told::Is(false)),
+    (Act::Fetch(DEEPER), Told::TooDeep),
+    // of two that are missing, the first one is told
+    (Act::Begin(0), Told::Count(0)),
+    (
+        Act::PutPair(EMPTY_TREE, EMPTY_BLOB, true),
+        Told::Done(TREES),
+    ),
+    (Act::IsWhole(TREES), Told::Is(false)),
+    (Act::Fetch(TREES), Told::Missing(EMPTY_TREE)),
+    (Act::Put(b"tree 0\x00"), Told::Done(EMPTY_TREE)),
+    (Act::IsWhole(TREES), Told::Is(false)),
+    (Act::Fetch(TREES), Told::Missing(EMPTY_BLOB)),
+    // an object of another kind than its entry says: whether all is held doesn't hang on it
+    (Act::Put(b"blob 0\x00"), Told::Done(EMPTY_BLOB)),
+    (Act::IsWhole(TREES), Told::Is(true)),
+    (Act::Fetch(TREES), Told::Bad(EMPTY_BLOB, 0)),
+    (
+        Act::PutPair(EMPTY_TREE, EMPTY_TREE, false),
+        Told::Done(BLOBS),
+    ),
+    (Act::IsWhole(BLOBS), Told::Is(true)),
+    (Act::Fetch(BLOBS), Told::Bad(EMPTY_TREE, 0)),
+    // bytes outside the grammar
+    (
+        Act::Plant(EMPTY_BLOB, b"blob 2\x00x"),
+        Told::Done(EMPTY_BLOB),
+    ),
+    (Act::IsWhole(EMPTY_BLOB), Told::Is(false)),
+    (Act::Fetch(EMPTY_BLOB), Told::Bad(EMPTY_BLOB, 8)),
+];
 
 #[test]
-fn a_tree_is_put_and_read_back(rt: HostRuntime) {
+fn a_store_answers_act_by_act(rt: HostRuntime) {
     let alloc = rt.alloc();
     let mut objects = store(&rt, alloc, 0);
-    let sample = id(&rt, SAMPLE_ID);
-    assert_told(
-        &rt,
-        alloc,
-        &mut objects,
-        &sample,
-        Told::NotWhole,
-        Told::Missing(sample),
-    );
-    let node = node(&rt, alloc, SAMPLE);
-    assert!(rt; uploaded(alloc, &mut objects, &node) == Told::Done(sample));
-    drop(node);
-    // One blob, which two entries name, and two trees.
-    assert!(rt; objects.count() == 3);
-    assert_told(
-        &rt,
-        alloc,
-        &mut objects,
-        &sample,
-        Told::Whole,
-        Told::Done(sample),
-    );
-    let hello = id(&rt, HELLO_ID);
-    for _ in 0..2 {
-        assert!(rt; stored(alloc, &mut objects, HELLO) == Told::Done(hello));
+    for (row, (act, wanted)) in ACTS.iter().enumerate() {
+        assert_told(&rt, alloc, &mut objects, row, act, *wanted);
     }
-    assert!(rt; objects.count() == 4);
     drop(objects);
 }
 
-// Which of four calls fails first, where call `failing` of the store fails, and how many objects are held then: an object is
-// put, a tree is put, looked at, and read.
-fn life(rt: &impl Abort, alloc: Global, failing: u64) -> (u8, usize) {
+// An object is put, a tree is put, looked at, and read.
+const CALLS: [Act; 4] = [
+    Act::Put(HELLO_BYTES),
+    Act::Upload(SAMPLE_TEXT),
+    Act::IsWhole(SAMPLE),
+    Act::Fetch(SAMPLE),
+];
+
+// How many of them pass before one fails where one call of the store does, and how many objects are held then.
+fn passed(rt: &impl Abort, alloc: Global, failing: u64) -> (usize, usize) {
     let mut objects = store(rt, alloc, failing);
-    let sample = id(rt, SAMPLE_ID);
-    let node = node(rt, alloc, SAMPLE);
-    let fails = if stored(alloc, &mut objects, HELLO) == Told::Failed {
-        1
-    } else if uploaded(alloc, &mut objects, &node) == Told::Failed {
-        2
-    } else if completed(alloc, &mut objects, &sample) == Told::Failed {
-        3
-    } else if fetched(alloc, &mut objects, &sample) == Told::Failed {
-        4
-    } else {
-        0
-    };
+    let mut passed = 0_usize;
+    for act in &CALLS {
+        if tell(rt, alloc, &mut objects, act) == Told::Failed {
+            break;
+        }
+        passed = passed.saturating_add(1);
+    }
     let count = objects.count();
-    drop(node);
     drop(objects);
-    (fails, count)
+    (passed, count)
 }
 
-// An object is looked up by call 1 and put by call 2. The upload makes calls 3 to 9: it finds the blob the second time. It is
-// looked through by calls 10 to 12, and read by 13 to 16.
-const FAILING: &[(u64, (u8, usize))] = &[
-    (1, (1, 0)),
-    (2, (1, 0)),
-    (3, (2, 1)),
-    (4, (2, 1)),
-    (5, (2, 2)),
-    (6, (2, 2)),
-    (7, (2, 3)),
-    (8, (2, 3)),
-    (9, (2, 3)),
-    (10, (3, 4)),
-    (11, (3, 4)),
-    (12, (3, 4)),
-    (13, (4, 4)),
-    (14, (4, 4)),
-    (15, (4, 4)),
-    (16, (4, 4)),
-    (17, (0, 4)),
+// The object is looked up by call 1 and put by call 2. The upload makes calls 3 to 9: it finds the blob the second time. The tree
+// is looked through by calls 10 to 12, and read by 13 to 16.
+const FAILING: &[(u64, (usize, usize))] = &[
+    (1, (0, 0)),
+    (2, (0, 0)),
+    (3, (1, 1)),
+    (4, (1, 1)),
+    (5, (1, 2)),
+    (6, (1, 2)),
+    (7, (1, 3)),
+    (8, (1, 3)),
+    (9, (1, 3)),
+    (10, (2, 4)),
+    (11, (2, 4)),
+    (12, (2, 4)),
+    (13, (3, 4)),
+    (14, (3, 4)),
+    (15, (3, 4)),
+    (16, (3, 4)),
+    (17, (4, 4)),
 ];
 
 #[test]
 fn a_call_fails_where_the_store_fails(rt: HostRuntime) {
     let alloc = rt.alloc();
     for (failing, wanted) in FAILING {
-        let told = life(&rt, alloc, *failing);
+        let told = passed(&rt, alloc, *failing);
         assert!(rt; told == *wanted, "{told:?} where call {failing} fails");
     }
-    // Call 1 puts nothing. The two behind it put other bytes under one id: the later ones are held.
-    let mut objects = store(&rt, alloc, 1);
-    let at = id(&rt, EMPTY_BLOB);
-    assert!(rt; objects.put(alloc, &at, b"one") == Err(ObjectFault::Failed));
-    assert!(rt; objects.count() == 0);
-    plant(&rt, alloc, &mut objects, &at, b"one");
-    plant(&rt, alloc, &mut objects, &at, b"two");
-    assert!(rt; objects.count() == 1 && holds(alloc, &mut objects, &at, b"two"));
-    drop(objects);
 }
 
-// Other bytes are held under the id of one of the tree's objects. Those before it are put.
-fn assert_clash(rt: &impl Abort, alloc: Global, node: &Node, planted: &str, count: usize) {
-    let mut objects = store(rt, alloc, 0);
-    let at = id(rt, planted);
-    plant(rt, alloc, &mut objects, &at, b"other");
-    assert!(rt;
-        uploaded(alloc, &mut objects, node) == Told::Clash(at),
-        "{planted}"
-    );
-    assert!(rt; objects.count() == count, "{planted}");
-    assert!(rt; holds(alloc, &mut objects, &at, b"other"), "{planted}");
-    drop(objects);
-}
-
-// Whether what was held and what was to be put are told.
-fn tells_both(alloc: Global, objects: &mut MemoryObjects, was: &[u8], other: &[u8]) -> bool {
-    let answer = store_object(alloc, objects, other);
-    let told = match &answer {
-        Err(StoreFault::Clash { kept, new, .. }) => {
-            kept.as_slice() == was && new.as_slice() == other
-        }
-        _ => false,
-    };
-    drop(answer);
-    told
-}
-
+// Trees of which each but the last names the next one twice: each is looked at once.
 #[test]
-fn other_bytes_under_an_id_clash(rt: HostRuntime) {
-    let alloc = rt.alloc();
-    let node = node(&rt, alloc, SAMPLE);
-    for (planted, count) in [(EMPTY_BLOB, 1), (EMPTY_TREE, 2), (SAMPLE_ID, 3)] {
-        assert_clash(&rt, alloc, &node, planted, count);
-    }
-    drop(node);
-    let mut objects = store(&rt, alloc, 0);
-    let at = id(&rt, EMPTY_BLOB);
-    plant(&rt, alloc, &mut objects, &at, b"other");
-    assert!(rt; tells_both(alloc, &mut objects, b"other", b"blob 0\x00"));
-    drop(objects);
-}
-
-// A tree that is refused leaves the store alone.
-fn assert_refused(rt: &impl Abort, alloc: Global, node: Node, wanted: Told) {
-    let mut objects = store(rt, alloc, 0);
-    assert!(rt;
-        uploaded(alloc, &mut objects, &node) == wanted,
-        "{wanted:?}"
-    );
-    assert!(rt; objects.gets() == 0 && objects.count() == 0, "{wanted:?}");
-    drop(objects);
-    drop(node);
-}
-
-#[test]
-fn a_refused_tree_leaves_the_store_alone(rt: HostRuntime) {
-    let alloc = rt.alloc();
-    let handle = node(&rt, alloc, r#"{"type":3,"handle":"k/l"}"#);
-    assert_refused(&rt, alloc, handle, Told::NoPath);
-    assert_refused(&rt, alloc, nested(&rt, alloc, 32, "t"), Told::TooDeep);
-    assert_refused(&rt, alloc, nested(&rt, alloc, 1, "a/b"), Told::BadName);
-}
-
-#[test]
-fn thirty_two_trees_are_read_back(rt: HostRuntime) {
+fn each_of_32_trees_is_looked_at_once(rt: HostRuntime) {
     let alloc = rt.alloc();
     let mut objects = store(&rt, alloc, 0);
-    let node = nested(&rt, alloc, 31, "t");
-    let inner = id_of(alloc, &node).ok().expect(&rt, "an id");
-    assert!(rt; uploaded(alloc, &mut objects, &node) == Told::Done(inner));
-    drop(node);
-    assert_told(
-        &rt,
-        alloc,
-        &mut objects,
-        &inner,
-        Told::Whole,
-        Told::Done(inner),
-    );
-    // One tree more round them.
-    let outer = put_two(&rt, alloc, &mut objects, (inner, inner), true);
-    assert_told(
-        &rt,
-        alloc,
-        &mut objects,
-        &outer,
-        Told::NotWhole,
-        Told::TooDeep,
-    );
-    drop(objects);
-    // 32 trees of which each but the last names the next one twice: each is looked at once.
-    let mut shared = store(&rt, alloc, 0);
-    let mut id = put(&rt, alloc, &mut shared, b"tree 0\x00");
+    let mut id = Id::of(b"tree 0\x00");
+    put(alloc, &mut objects, b"tree 0\x00");
     for _ in 0..31 {
-        id = put_two(&rt, alloc, &mut shared, (id, id), true);
+        let bytes = pair(&rt, alloc, (id, id), true);
+        put(alloc, &mut objects, bytes.as_slice());
+        id = Id::of(bytes.as_slice());
+        drop(bytes);
     }
-    let before = shared.gets();
-    assert!(rt; shared.count() == 32 && completed(alloc, &mut shared, &id) == Told::Whole);
-    assert!(rt; shared.gets().saturating_sub(before) == 32);
-    drop(shared);
-}
-
-#[test]
-fn what_is_held_otherwise_is_told(rt: HostRuntime) {
-    let alloc = rt.alloc();
-    let mut objects = store(&rt, alloc, 0);
-    let blob = id(&rt, EMPTY_BLOB);
-    let tree = id(&rt, EMPTY_TREE);
-    // Of two that are missing, the first one is told.
-    let both = put_two(&rt, alloc, &mut objects, (tree, blob), true);
-    assert_told(
-        &rt,
-        alloc,
-        &mut objects,
-        &both,
-        Told::NotWhole,
-        Told::Missing(tree),
-    );
-    assert!(rt; put(&rt, alloc, &mut objects, b"tree 0\x00") == tree);
-    assert_told(
-        &rt,
-        alloc,
-        &mut objects,
-        &both,
-        Told::NotWhole,
-        Told::Missing(blob),
-    );
-    // An object of another kind than its entry says; `complete` doesn't look at modes.
-    assert!(rt; put(&rt, alloc, &mut objects, b"blob 0\x00") == blob);
-    assert_told(
-        &rt,
-        alloc,
-        &mut objects,
-        &both,
-        Told::Whole,
-        Told::Bad(blob, 0),
-    );
-    let blobs = put_two(&rt, alloc, &mut objects, (tree, tree), false);
-    assert_told(
-        &rt,
-        alloc,
-        &mut objects,
-        &blobs,
-        Told::Whole,
-        Told::Bad(tree, 0),
-    );
-    // Bytes outside the grammar.
-    plant(&rt, alloc, &mut objects, &blob, b"blob 2\x00x");
-    assert_told(
-        &rt,
-        alloc,
-        &mut objects,
-        &blob,
-        Told::NotWhole,
-        Told::Bad(blob, 8),
-    );
+    let before = objects.gets();
+    let whole = complete(alloc, &mut objects, &id);
+    assert!(rt; objects.count() == 32 && matches!(&whole, Ok(true)));
+    assert!(rt; objects.gets().saturating_sub(before) == 32);
+    drop(whole);
     drop(objects);
 }
 
-// An earlier tree, with a tree in a tree.
-const EARLIER: &str =
-    r#"{"type":1,"tree":{"k":{"type":1,"tree":{"l":{"type":1,"tree":{"n":{"type":2,"content":"x"}}}}},"m":{"type":2,"content":"y"}}}"#;
-
-// Handles, and the tree that they stand for; or else none, where the first of them leads nowhere.
-const OVER_EARLIER: [(&str, &str); 8] = [
+// Handles into the earlier tree, what is told, and the text of what stands then, where something does.
+const OVER_EARLIER: [(&str, Told, &str); 8] = [
     // a tree, a blob, and both where they stood
     (
         r#"{"type":1,"tree":{"k":{"type":3,"handle":"k"},"m":{"type":2,"content":"z"}}}"#,
+        Told::Done(AS_BEFORE),
         r#"{"type":1,"tree":{"k":{"type":1,"tree":{"l":{"type":1,"tree":{"n":{"type":2,"content":"x"}}}}},"m":{"type":2,"content":"z"}}}"#,
     ),
     (
         r#"{"type":1,"tree":{"a":{"type":3,"handle":"m"},"b":{"type":1,"tree":{}}}}"#,
+        Told::Done(ANOTHER_NAME),
         r#"{"type":1,"tree":{"a":{"type":2,"content":"y"},"b":{"type":1,"tree":{}}}}"#,
     ),
     (
         r#"{"type":1,"tree":{"k":{"type":3,"handle":"k"},"m":{"type":3,"handle":"/m"}}}"#,
-        EARLIER,
+        Told::Done(EARLIER),
+        EARLIER_TEXT,
     ),
     // deeper ones, and one alone
     (
         r#"{"type":1,"tree":{"m":{"type":3,"handle":"k/l/n"},"o":{"type":3,"handle":"k/l"}}}"#,
+        Told::Done(FROM_BELOW),
         r#"{"type":1,"tree":{"m":{"type":2,"content":"x"},"o":{"type":1,"tree":{"n":{"type":2,"content":"x"}}}}}"#,
     ),
     (
         r#"{"type":3,"handle":"k/l"}"#,
+        Told::Done(INNER),
         r#"{"type":1,"tree":{"n":{"type":2,"content":"x"}}}"#,
     ),
     // no such name, in a tree and in a blob
-    (r#"{"type":1,"tree":{"a":{"type":3,"handle":"a"}}}"#, ""),
-    (r#"{"type":1,"tree":{"a":{"type":3,"handle":"k/m"}}}"#, ""),
-    (r#"{"type":1,"tree":{"a":{"type":3,"handle":"m/n"}}}"#, ""),
+    (
+        r#"{"type":1,"tree":{"a":{"type":3,"handle":"a"}}}"#,
+        Told::NoPath,
+        "",
+    ),
+    (
+        r#"{"type":1,"tree":{"a":{"type":3,"handle":"k/m"}}}"#,
+        Told::NoPath,
+        "",
+    ),
+    (
+        r#"{"type":1,"tree":{"a":{"type":3,"handle":"m/n"}}}"#,
+        Told::NoPath,
+        "",
+    ),
 ];
+
+// What stands is whole, and put again it is there already.
+fn assert_stands(
+    rt: &impl Abort,
+    alloc: Global,
+    objects: &mut MemoryObjects,
+    row: usize,
+    at: usize,
+    text: &'static str,
+) {
+    let done = Told::Done(at);
+    assert_told(rt, alloc, objects, row, &Act::IsWhole(at), Told::Is(true));
+    assert_told(rt, alloc, objects, row, &Act::Fetch(at), done);
+    let held = objects.count();
+    assert_told(rt, alloc, objects, row, &Act::Upload(text), done);
+    assert!(rt; objects.count() == held, "row {row}");
+}
 
 #[test]
 fn handles_stand_for_what_they_lead_to(rt: HostRuntime) {
     let alloc = rt.alloc();
-    for (handles, wanted) in OVER_EARLIER {
-        assert_over(&rt, alloc, handles, wanted);
+    for (row, (handles, wanted, text)) in OVER_EARLIER.iter().enumerate() {
+        let mut objects = store(&rt, alloc, 0);
+        let earlier = Act::Upload(EARLIER_TEXT);
+        assert_told(&rt, alloc, &mut objects, row, &earlier, Told::Done(EARLIER));
+        let over = Act::UploadOver(EARLIER, *handles);
+        assert_told(&rt, alloc, &mut objects, row, &over, *wanted);
+        let alone = Act::Upload(*handles);
+        assert_told(&rt, alloc, &mut objects, row, &alone, Told::NoPath);
+        if let Told::Done(at) = wanted {
+            assert_stands(&rt, alloc, &mut objects, row, *at, *text);
+        }
+        drop(objects);
     }
-}
-
-fn assert_over(rt: &impl Abort, alloc: Global, handles: &str, wanted: &str) {
-    let mut objects = store(rt, alloc, 0);
-    let earlier = put_text(rt, alloc, &mut objects, EARLIER);
-    let node = node(rt, alloc, handles);
-    let told = uploaded_over(alloc, &mut objects, &node, Some(&earlier));
-    assert!(rt;
-        uploaded(alloc, &mut objects, &node) == Told::NoPath,
-        "{handles}"
-    );
-    drop(node);
-    assert_resolved(rt, alloc, &mut objects, told, wanted);
-    drop(objects);
-}
-
-// What stands is whole, and put again it is there already.
-fn assert_resolved(
-    rt: &impl Abort,
-    alloc: Global,
-    objects: &mut MemoryObjects,
-    told: Told,
-    wanted: &str,
-) {
-    if wanted.is_empty() {
-        assert!(rt; told == Told::NoPath);
-        return;
-    }
-    let whole = node(rt, alloc, wanted);
-    let at = id_of(alloc, &whole).ok().expect(rt, "an id");
-    assert!(rt; told == Told::Done(at), "{wanted}");
-    assert_told(rt, alloc, objects, &at, Told::Whole, Told::Done(at));
-    let held = objects.count();
-    assert!(rt;
-        uploaded(alloc, objects, &whole) == Told::Done(at),
-        "{wanted}"
-    );
-    assert!(rt; objects.count() == held, "{wanted}");
-    drop(whole);
-}
-
-fn put_text(rt: &impl Abort, alloc: Global, objects: &mut MemoryObjects, text: &str) -> Id {
-    let node = node(rt, alloc, text);
-    match uploaded(alloc, objects, &node) {
-        Told::Done(id) => id,
-        _ => panic!(rt; "an upload"),
-    }
-}
-
-#[test]
-fn an_earlier_tree_is_held(rt: HostRuntime) {
-    let alloc = rt.alloc();
-    let mut objects = store(&rt, alloc, 0);
-    let absent = id(&rt, HELLO_ID);
-    let sample = node(&rt, alloc, SAMPLE);
-    let told = uploaded_over(alloc, &mut objects, &sample, Some(&absent));
-    assert!(rt; told == Told::Missing(absent));
-    assert!(rt; objects.count() == 0);
-    drop(sample);
-    drop(objects);
 }
