@@ -1,10 +1,9 @@
-use crate::peers::{
-    HOURLY, Heard, Host, PATIENT, connected, greeted, listening, met, names_streams, write_bytes,
-};
+use crate::peers::{HOUR, Host, PATIENT, connected, listening, names_streams, shaken, write_bytes};
+use fluid_lines::Recv;
 use std::alloc::Global;
 use std::io::Write;
 use std::thread;
-use std::time::Duration;
+use std::time::{Duration, Instant};
 
 // Two wires of one document, and a third of another one. Wires with their stations go to threads here, which the prover takes of
 // the runtime itself alone.
@@ -12,7 +11,9 @@ use std::time::Duration;
 fn a_text_is_heard_by_the_others_of_its_document_at_once(rt: HostRuntime) {
     let alloc = rt.alloc();
     for attended in [false, true] {
-        let mut front = listening(&rt, alloc, true, HOURLY);
+        let mut waits = PATIENT;
+        waits.tick_milliseconds = HOUR;
+        let mut front = listening(&rt, alloc, true, waits);
         let (mut stream, mut first) = connected(&rt, alloc, &mut front, attended);
         let (_other, mut second) = connected(&rt, alloc, &mut front, attended);
         let (mut apart, mut third) = connected(&rt, alloc, &mut front, attended);
@@ -21,28 +22,36 @@ fn a_text_is_heard_by_the_others_of_its_document_at_once(rt: HostRuntime) {
         second.follow(&rt, "a");
         third.follow(&rt, "b");
         // that its peer takes texts ends the first wait of each wire
-        second.rest(&rt, alloc, 1);
-        third.rest(&rt, alloc, 1);
-        let stranger = thread::spawn(&rt, move || third.hear(&rt, alloc) == Heard::Text).expect(
-            &rt, "a thread",
-        );
+        assert!(rt; matches!(second.recv(&rt, alloc), Ok(Recv::Quiet)));
+        assert!(rt; matches!(third.recv(&rt, alloc), Ok(Recv::Quiet)));
+        let stranger = thread::spawn(&rt, move || {
+            matches!(third.recv(&rt, alloc), Ok(Recv::Text(_)))
+        })
+        .expect(&rt, "a thread");
         write_bytes(&rt, &mut stream, b"text\n");
-        // the second wire is told of the text, and that the first one is gone
-        let listener = thread::spawn(&rt, move || second.rest(&rt, alloc, 2)).expect(
-            &rt, "a thread",
-        );
-        assert!(rt; first.hear(&rt, alloc) == Heard::Text, "{attended}");
+        let listener = thread::spawn(&rt, move || {
+            matches!(second.recv(&rt, alloc), Ok(Recv::Quiet))
+                && matches!(second.recv(&rt, alloc), Ok(Recv::Quiet))
+        })
+        .expect(&rt, "a thread");
+        assert!(rt; matches!(first.recv(&rt, alloc), Ok(Recv::Text(_))));
         thread::sleep(&rt, Duration::from_millis(50));
-        assert!(rt; first.send(&rt, alloc, "reply").is_ok(), "{attended}");
+        let told = Instant::now(&rt).expect(&rt, "a clock");
+        assert!(rt; first.send(&rt, alloc, "reply").is_ok());
         thread::sleep(&rt, Duration::from_millis(50));
         drop(first);
-        let told = listener.join(&rt) < Duration::from_secs(1);
-        assert!(rt; told, "in a second: {attended}");
-        write_bytes(&rt, &mut apart, b"text\n");
-        let alone = stranger.join(&rt);
         assert!(rt;
-            alone,
-            "one of another document is told of nothing: {attended}"
+            listener.join(&rt),
+            "the second wire is told of the text, and that the first is gone"
+        );
+        assert!(rt;
+            told.elapsed(&rt).expect(&rt, "a clock") < Duration::from_secs(1),
+            "in a second"
+        );
+        write_bytes(&rt, &mut apart, b"text\n");
+        assert!(rt;
+            stranger.join(&rt),
+            "a wire of another document is told of nothing"
         );
         drop(front);
     }
@@ -60,7 +69,13 @@ fn drips_are_quiet<R: Host>(
 ) {
     let mut waits = PATIENT;
     waits.tick_milliseconds = 5000;
-    let (mut stream, mut wire) = greeted(&rt, alloc, lines, waits, attended);
+    let mut front = listening(&rt, alloc, lines, waits);
+    let (stream, mut wire) = connected(&rt, alloc, &mut front, attended);
+    let mut stream = if lines {
+        stream
+    } else {
+        shaken(&rt, alloc, stream, &mut wire).into_inner()
+    };
     let dripper = thread::spawn(&rt, move || {
         for _ in 0..200 {
             if stream.write_all(drip).is_err() {
@@ -71,13 +86,16 @@ fn drips_are_quiet<R: Host>(
     })
     .expect(&rt, "a thread");
     for _ in 0..8 {
+        let asked = Instant::now(&rt).expect(&rt, "a clock");
+        assert!(rt; matches!(wire.recv(&rt, alloc), Ok(Recv::Quiet)));
         assert!(rt;
-            wire.rest(&rt, alloc, 1) < Duration::from_secs(1),
+            asked.elapsed(&rt).expect(&rt, "a clock") < Duration::from_secs(1),
             "lines: {lines}, {attended}"
         );
     }
     drop(wire);
     dripper.join(&rt);
+    drop(front);
 }
 
 #[test]
@@ -95,20 +113,28 @@ fn a_peer_that_sends_bit_by_bit_keeps_nobody_from_looking_round(rt: HostRuntime)
 fn sleeps_grow<R: Host>(rt: R, alloc: Global, attended: bool, least: u64) {
     let mut waits = PATIENT;
     waits.tick_milliseconds = 100;
-    let (mut stream, mut wire) = met(&rt, alloc, true, waits, attended);
+    let mut front = listening(&rt, alloc, true, waits);
+    let (mut stream, mut wire) = connected(&rt, alloc, &mut front, attended);
     // that its peer takes texts ends its first wait
-    wire.rest(&rt, alloc, 1);
+    assert!(rt; matches!(wire.recv(&rt, alloc), Ok(Recv::Quiet)));
+    let begun = Instant::now(&rt).expect(&rt, "a clock");
+    for _ in 0..4 {
+        assert!(rt; matches!(wire.recv(&rt, alloc), Ok(Recv::Quiet)));
+    }
     assert!(rt;
-        wire.rest(&rt, alloc, 4) >= Duration::from_millis(least),
+        begun.elapsed(&rt).expect(&rt, "a clock") >= Duration::from_millis(least),
         "1, 2, 4 and 8 ticks: {attended}"
     );
     write_bytes(&rt, &mut stream, b"text\n");
-    assert!(rt; wire.hear(&rt, alloc) == Heard::Text, "{attended}");
+    assert!(rt; matches!(wire.recv(&rt, alloc), Ok(Recv::Text(_))));
+    let given = Instant::now(&rt).expect(&rt, "a clock");
+    assert!(rt; matches!(wire.recv(&rt, alloc), Ok(Recv::Quiet)));
     assert!(rt;
-        wire.rest(&rt, alloc, 1) < Duration::from_millis(350),
+        given.elapsed(&rt).expect(&rt, "a clock") < Duration::from_millis(350),
         "behind a text one tick: {attended}"
     );
     drop(wire);
+    drop(front);
 }
 
 #[test]
