@@ -114,50 +114,6 @@ impl Handler<SocketWire> for Echo {
     }
 }
 
-// The last of five that connect is heard, while the others say nothing. What `serve_all` sends to threads the prover takes of the
-// runtime itself alone, so each test calls it.
-#[test]
-fn silent_peers_keep_nobody_out(rt: HostRuntime) {
-    let alloc = rt.alloc();
-    let front = listening(&rt, alloc, true, PATIENT);
-    let (silent, last) = five(&rt, alloc, front.port());
-    let peer = thread::spawn(&rt, move || is_heard(rt, alloc, silent, last)).expect(
-        &rt, "a thread",
-    );
-    let (end, front) = ThreadSpawner::new().serve_all(
-        &rt,
-        alloc,
-        front,
-        &Echo { alloc },
-        &OpenGate,
-        5,
-    );
-    assert!(rt; end == FrontEnd::Done(5));
-    assert!(rt; peer.join(&rt));
-    drop(front);
-}
-
-#[test]
-fn one_thread_serves_many_sockets(rt: HostRuntime) {
-    let alloc = rt.alloc();
-    let front = listening(&rt, alloc, true, PATIENT);
-    let (silent, last) = five(&rt, alloc, front.port());
-    let peer = thread::spawn(&rt, move || is_heard(rt, alloc, silent, last)).expect(
-        &rt, "a thread",
-    );
-    let (end, front) = StationSpawner::new(1).serve_all(
-        &rt,
-        alloc,
-        front,
-        &Echo { alloc },
-        &OpenGate,
-        5,
-    );
-    assert!(rt; end == FrontEnd::Done(5));
-    assert!(rt; peer.join(&rt));
-    drop(front);
-}
-
 // Four that connect and say nothing, and a fifth.
 fn five<R: Host>(rt: &R, alloc: Global, port: u16) -> (Vec<TcpStream>, TcpStream) {
     let address = SocketAddr::from((Ipv4Addr::LOCALHOST, port));
@@ -181,4 +137,42 @@ fn is_heard<R: Host>(rt: R, alloc: Global, silent: Vec<TcpStream>, last: TcpStre
     let told = read_bytes(&rt, alloc, &mut last);
     drop(silent);
     told.as_slice() == b"5a\n".as_slice()
+}
+
+// In threads, and at one station. What is sent to threads here the prover takes of the runtime itself alone, so the test starts them.
+#[test]
+fn silent_peers_keep_nobody_out(rt: HostRuntime) {
+    let alloc = rt.alloc();
+    let front = listening(&rt, alloc, true, PATIENT);
+    let (silent, last) = five(&rt, alloc, front.port());
+    let peer = thread::spawn(&rt, move || is_heard(rt, alloc, silent, last)).expect(
+        &rt, "a thread",
+    );
+    let (end, front) = ThreadSpawner::new().serve_all(
+        &rt,
+        alloc,
+        front,
+        &Echo { alloc },
+        &OpenGate,
+        5,
+    );
+    drop(front);
+    assert!(rt; end == FrontEnd::Done(5), "in threads");
+    assert!(rt; peer.join(&rt), "in threads");
+    let front = listening(&rt, alloc, true, PATIENT);
+    let (silent, last) = five(&rt, alloc, front.port());
+    let peer = thread::spawn(&rt, move || is_heard(rt, alloc, silent, last)).expect(
+        &rt, "a thread",
+    );
+    let (end, front) = StationSpawner::new(1).serve_all(
+        &rt,
+        alloc,
+        front,
+        &Echo { alloc },
+        &OpenGate,
+        5,
+    );
+    drop(front);
+    assert!(rt; end == FrontEnd::Done(5), "at a station");
+    assert!(rt; peer.join(&rt), "at a station");
 }

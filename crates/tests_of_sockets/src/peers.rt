@@ -10,16 +10,22 @@ use std::net::{Ipv4Addr, Net, SocketAddr, TcpStream};
 use std::process::Abort;
 use std::sync::Wait;
 use std::thread::Threads;
-use std::time::{Clock, Duration};
+use std::time::{Clock, Duration, Instant};
 use tungstenite::handshake::client::{request_of, start};
 use tungstenite::{HandshakeError, Message, NoMask, WebSocket};
-
-// An hour: a wire with this tick wakes only where it is called or where something comes.
-pub(crate) const HOUR: u64 = 3_600_000;
 
 /// Short ticks, but with an hour's patience.
 pub(crate) const PATIENT: Waits = Waits {
     tick_milliseconds: 5,
+    handshake_ticks: 2000,
+    send_ticks: 2000,
+    silent_ticks: 1_000_000,
+    pings: 2,
+};
+
+/// Ticks of an hour: a wire wakes only where it is called or where something comes.
+pub(crate) const HOURLY: Waits = Waits {
+    tick_milliseconds: 3_600_000,
     handshake_ticks: 2000,
     send_ticks: 2000,
     silent_ticks: 1_000_000,
@@ -65,6 +71,15 @@ pub(crate) fn listening<R: Host>(
     front
 }
 
+/// What a receive answers, without the text.
+#[derive(Clone, Copy, PartialEq)]
+pub(crate) enum Heard {
+    Quiet,
+    Text,
+    End,
+    Other,
+}
+
 /// A wire as its job has it: it waits by itself, or its station waits for it.
 #[derive(Drop)]
 pub(crate) struct Tended<R: Net + Clock> {
@@ -86,6 +101,27 @@ impl<R: Host> Tended<R> {
         };
         station.turned(0);
         answer
+    }
+
+    pub(crate) fn hear(&mut self, rt: &R, alloc: Global) -> Heard {
+        let answer = self.recv(rt, alloc);
+        let heard = match &answer {
+            Ok(Recv::Quiet) => Heard::Quiet,
+            Ok(Recv::Text(_)) => Heard::Text,
+            Ok(Recv::End) => Heard::End,
+            _ => Heard::Other,
+        };
+        drop(answer);
+        heard
+    }
+
+    /// How long it is quiet for so many receives.
+    pub(crate) fn rest(&mut self, rt: &R, alloc: Global, receives: u32) -> Duration {
+        let begun = Instant::now(rt).expect(rt, "a clock");
+        for receive in 0..receives {
+            assert!(rt; self.hear(rt, alloc) == Heard::Quiet, "receive {receive}");
+        }
+        begun.elapsed(rt).expect(rt, "a clock")
     }
 
     /// Sends a text. At a station it is held until the wire has a turn.
@@ -145,6 +181,36 @@ pub(crate) fn connected<R: Host>(
     (stream, Tended { wire, station })
 }
 
+/// A peer and its wire, where the front goes when it has given it.
+pub(crate) fn met<R: Host>(
+    rt: &R,
+    alloc: Global,
+    lines: bool,
+    waits: Waits,
+    attended: bool,
+) -> (TcpStream, Tended<R>) {
+    let mut front = listening(rt, alloc, lines, waits);
+    let both = connected(rt, alloc, &mut front, attended);
+    drop(front);
+    both
+}
+
+/// The same behind the handshake, where there is one.
+pub(crate) fn greeted<R: Host>(
+    rt: &R,
+    alloc: Global,
+    lines: bool,
+    waits: Waits,
+    attended: bool,
+) -> (TcpStream, Tended<R>) {
+    let (stream, mut wire) = met(rt, alloc, lines, waits, attended);
+    if lines {
+        return (stream, wire);
+    }
+    let peer = shaken(rt, alloc, stream, &mut wire);
+    (peer.into_inner(), wire)
+}
+
 /// The peer's handshake by `tungstenite`, beside the wire's.
 pub(crate) fn shaken<R: Host>(
     rt: &R,
@@ -202,6 +268,25 @@ pub(crate) fn received<R: Host>(
     told
 }
 
+/// The wire answers so, in these words.
+pub(crate) fn assert_received<R: Host>(
+    rt: &R,
+    alloc: Global,
+    wire: &mut Tended<R>,
+    patience: u32,
+    want: &str,
+    row: &str,
+) {
+    let attended = wire.station.is_some();
+    let told = received(rt, alloc, wire, patience);
+    assert!(rt;
+        told.as_str() == want,
+        "{row}, {attended}: {}",
+        told.as_str()
+    );
+    drop(told);
+}
+
 // A text as [text], a pong as (the bytes that it carries), a close as its code.
 fn word<R: Abort>(rt: &R, alloc: Global, message: &Message) -> String {
     let word = match message {
@@ -217,8 +302,8 @@ fn word<R: Abort>(rt: &R, alloc: Global, message: &Message) -> String {
     word.expect(rt, "memory")
 }
 
-/// What a peer reads until its socket is closed or nothing came for half a second.
-pub(crate) fn read_by_peer<R: Wait + Abort>(
+// What a peer reads until its socket is closed or nothing came for half a second.
+fn read_by_peer<R: Wait + Abort>(
     rt: &R,
     alloc: Global,
     socket: &mut WebSocket<TcpStream, NoMask>,
@@ -236,6 +321,26 @@ pub(crate) fn read_by_peer<R: Wait + Abort>(
         }
     }
     told
+}
+
+/// The peer reads so, in these words.
+pub(crate) fn assert_read<R: Wait + Abort>(
+    rt: &R,
+    alloc: Global,
+    peer: WebSocket<TcpStream, NoMask>,
+    want: &str,
+    row: &str,
+    attended: bool,
+) {
+    let mut peer = peer;
+    let told = read_by_peer(rt, alloc, &mut peer);
+    assert!(rt;
+        told.as_str() == want,
+        "{row}, {attended}: {}",
+        told.as_str()
+    );
+    drop(told);
+    drop(peer);
 }
 
 /// Writes all of the bytes.

@@ -1,9 +1,10 @@
-use crate::peers::{HOUR, Host, PATIENT, connected, listening, names_streams, shaken, write_bytes};
-use fluid_lines::Recv;
+use crate::peers::{
+    HOURLY, Heard, Host, PATIENT, connected, greeted, listening, met, names_streams, write_bytes,
+};
 use std::alloc::Global;
 use std::io::Write;
 use std::thread;
-use std::time::{Duration, Instant};
+use std::time::Duration;
 
 // Two wires of one document, and a third of another one. Wires with their stations go to threads here, which the prover takes of
 // the runtime itself alone.
@@ -11,9 +12,7 @@ use std::time::{Duration, Instant};
 fn a_text_is_heard_by_the_others_of_its_document_at_once(rt: HostRuntime) {
     let alloc = rt.alloc();
     for attended in [false, true] {
-        let mut waits = PATIENT;
-        waits.tick_milliseconds = HOUR;
-        let mut front = listening(&rt, alloc, true, waits);
+        let mut front = listening(&rt, alloc, true, HOURLY);
         let (mut stream, mut first) = connected(&rt, alloc, &mut front, attended);
         let (_other, mut second) = connected(&rt, alloc, &mut front, attended);
         let (mut apart, mut third) = connected(&rt, alloc, &mut front, attended);
@@ -22,36 +21,28 @@ fn a_text_is_heard_by_the_others_of_its_document_at_once(rt: HostRuntime) {
         second.follow(&rt, "a");
         third.follow(&rt, "b");
         // that its peer takes texts ends the first wait of each wire
-        assert!(rt; matches!(second.recv(&rt, alloc), Ok(Recv::Quiet)));
-        assert!(rt; matches!(third.recv(&rt, alloc), Ok(Recv::Quiet)));
-        let stranger = thread::spawn(&rt, move || {
-            matches!(third.recv(&rt, alloc), Ok(Recv::Text(_)))
-        })
-        .expect(&rt, "a thread");
+        second.rest(&rt, alloc, 1);
+        third.rest(&rt, alloc, 1);
+        let stranger = thread::spawn(&rt, move || third.hear(&rt, alloc) == Heard::Text).expect(
+            &rt, "a thread",
+        );
         write_bytes(&rt, &mut stream, b"text\n");
-        let listener = thread::spawn(&rt, move || {
-            matches!(second.recv(&rt, alloc), Ok(Recv::Quiet))
-                && matches!(second.recv(&rt, alloc), Ok(Recv::Quiet))
-        })
-        .expect(&rt, "a thread");
-        assert!(rt; matches!(first.recv(&rt, alloc), Ok(Recv::Text(_))));
+        // the second wire is told of the text, and that the first one is gone
+        let listener = thread::spawn(&rt, move || second.rest(&rt, alloc, 2)).expect(
+            &rt, "a thread",
+        );
+        assert!(rt; first.hear(&rt, alloc) == Heard::Text, "{attended}");
         thread::sleep(&rt, Duration::from_millis(50));
-        let told = Instant::now(&rt).expect(&rt, "a clock");
-        assert!(rt; first.send(&rt, alloc, "reply").is_ok());
+        assert!(rt; first.send(&rt, alloc, "reply").is_ok(), "{attended}");
         thread::sleep(&rt, Duration::from_millis(50));
         drop(first);
-        assert!(rt;
-            listener.join(&rt),
-            "the second wire is told of the text, and that the first is gone"
-        );
-        assert!(rt;
-            told.elapsed(&rt).expect(&rt, "a clock") < Duration::from_secs(1),
-            "in a second"
-        );
+        let told = listener.join(&rt) < Duration::from_secs(1);
+        assert!(rt; told, "in a second: {attended}");
         write_bytes(&rt, &mut apart, b"text\n");
+        let alone = stranger.join(&rt);
         assert!(rt;
-            stranger.join(&rt),
-            "a wire of another document is told of nothing"
+            alone,
+            "one of another document is told of nothing: {attended}"
         );
         drop(front);
     }
@@ -69,13 +60,7 @@ fn drips_are_quiet<R: Host>(
 ) {
     let mut waits = PATIENT;
     waits.tick_milliseconds = 5000;
-    let mut front = listening(&rt, alloc, lines, waits);
-    let (stream, mut wire) = connected(&rt, alloc, &mut front, attended);
-    let mut stream = if lines {
-        stream
-    } else {
-        shaken(&rt, alloc, stream, &mut wire).into_inner()
-    };
+    let (mut stream, mut wire) = greeted(&rt, alloc, lines, waits, attended);
     let dripper = thread::spawn(&rt, move || {
         for _ in 0..200 {
             if stream.write_all(drip).is_err() {
@@ -86,16 +71,13 @@ fn drips_are_quiet<R: Host>(
     })
     .expect(&rt, "a thread");
     for _ in 0..8 {
-        let asked = Instant::now(&rt).expect(&rt, "a clock");
-        assert!(rt; matches!(wire.recv(&rt, alloc), Ok(Recv::Quiet)));
         assert!(rt;
-            asked.elapsed(&rt).expect(&rt, "a clock") < Duration::from_secs(1),
+            wire.rest(&rt, alloc, 1) < Duration::from_secs(1),
             "lines: {lines}, {attended}"
         );
     }
     drop(wire);
     dripper.join(&rt);
-    drop(front);
 }
 
 #[test]
@@ -113,28 +95,20 @@ fn a_peer_that_sends_bit_by_bit_keeps_nobody_from_looking_round(rt: HostRuntime)
 fn sleeps_grow<R: Host>(rt: R, alloc: Global, attended: bool, least: u64) {
     let mut waits = PATIENT;
     waits.tick_milliseconds = 100;
-    let mut front = listening(&rt, alloc, true, waits);
-    let (mut stream, mut wire) = connected(&rt, alloc, &mut front, attended);
+    let (mut stream, mut wire) = met(&rt, alloc, true, waits, attended);
     // that its peer takes texts ends its first wait
-    assert!(rt; matches!(wire.recv(&rt, alloc), Ok(Recv::Quiet)));
-    let begun = Instant::now(&rt).expect(&rt, "a clock");
-    for _ in 0..4 {
-        assert!(rt; matches!(wire.recv(&rt, alloc), Ok(Recv::Quiet)));
-    }
+    wire.rest(&rt, alloc, 1);
     assert!(rt;
-        begun.elapsed(&rt).expect(&rt, "a clock") >= Duration::from_millis(least),
+        wire.rest(&rt, alloc, 4) >= Duration::from_millis(least),
         "1, 2, 4 and 8 ticks: {attended}"
     );
     write_bytes(&rt, &mut stream, b"text\n");
-    assert!(rt; matches!(wire.recv(&rt, alloc), Ok(Recv::Text(_))));
-    let given = Instant::now(&rt).expect(&rt, "a clock");
-    assert!(rt; matches!(wire.recv(&rt, alloc), Ok(Recv::Quiet)));
+    assert!(rt; wire.hear(&rt, alloc) == Heard::Text, "{attended}");
     assert!(rt;
-        given.elapsed(&rt).expect(&rt, "a clock") < Duration::from_millis(350),
+        wire.rest(&rt, alloc, 1) < Duration::from_millis(350),
         "behind a text one tick: {attended}"
     );
     drop(wire);
-    drop(front);
 }
 
 #[test]

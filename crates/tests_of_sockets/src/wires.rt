@@ -1,6 +1,6 @@
 use crate::peers::{
-    Host, PATIENT, Tended, connected, listening, names_streams, read_by_peer, read_bytes, received,
-    shaken, write_bytes,
+    Heard, Host, PATIENT, Tended, assert_read, assert_received, greeted, met, names_streams,
+    read_bytes, received, shaken, write_bytes,
 };
 use fluid_lines::Recv;
 use fluid_socket::Waits;
@@ -98,123 +98,23 @@ const ROWS: [Row; 12] = [
 ];
 
 fn message_is_text<R: Host>(rt: R, alloc: Global, row: &Row, attended: bool) {
-    let mut front = listening(&rt, alloc, false, PATIENT);
-    let (stream, mut wire) = connected(&rt, alloc, &mut front, attended);
+    let (stream, mut wire) = met(&rt, alloc, false, PATIENT, attended);
     let mut peer = shaken(&rt, alloc, stream, &mut wire);
     write_bytes(&rt, peer.get_mut(), row.frames);
-    let answers = received(&rt, alloc, &mut wire, 5);
-    assert!(rt;
-        answers.as_str() == row.answers,
-        "{}, {attended}: {}",
-        row.what,
-        answers.as_str()
-    );
-    let told = read_by_peer(&rt, alloc, &mut peer);
-    assert!(rt;
-        told.as_str() == row.told,
-        "{}, {attended}: {}",
-        row.what,
-        told.as_str()
-    );
+    assert_received(&rt, alloc, &mut wire, 5, row.answers, row.what);
+    assert_read(&rt, alloc, peer, row.told, row.what, attended);
     drop(wire);
-    drop(front);
 }
 
-fn messages_are_heard<R: Host>(rt: R, alloc: Global, attended: bool) {
-    for row in &ROWS {
-        message_is_text(rt, alloc, row, attended);
+// A wire that is let go is closed.
+fn texts_go_out<R: Host>(rt: R, alloc: Global, attended: bool) {
+    let (stream, mut wire) = met(&rt, alloc, false, PATIENT, attended);
+    let peer = shaken(&rt, alloc, stream, &mut wire);
+    for text in ["one", ""] {
+        assert!(rt; wire.send(&rt, alloc, text).is_ok(), "{text}, {attended}");
     }
-    let mut front = listening(&rt, alloc, false, PATIENT);
-    let (stream, mut wire) = connected(&rt, alloc, &mut front, attended);
-    let mut peer = shaken(&rt, alloc, stream, &mut wire);
-    assert!(rt; wire.send(&rt, alloc, "one").is_ok());
-    assert!(rt; wire.send(&rt, alloc, "").is_ok());
     drop(wire);
-    let told = read_by_peer(&rt, alloc, &mut peer);
-    assert!(rt;
-        told.as_str() == "[one][]1000",
-        "a wire that is let go is closed: {}",
-        told.as_str()
-    );
-    drop(front);
-}
-
-#[test]
-fn messages_are_texts(rt: HostRuntime) {
-    names_streams(None);
-    messages_are_heard(rt, rt.alloc(), false);
-}
-
-#[test]
-fn messages_are_texts_at_a_station(rt: HostRuntime) {
-    names_streams(None);
-    messages_are_heard(rt, rt.alloc(), true);
-}
-
-// A text that is more than the system holds for a peer.
-const LARGE: usize = 12_000_000;
-
-fn large(rt: &impl Abort, alloc: Global) -> String {
-    let letters = Vec::from_elem(alloc, b'a', LARGE).expect(rt, "memory");
-    String::from_utf8(letters).expect(rt, "text")
-}
-
-// How many bytes come in to the end.
-fn count_bytes(stream: &mut TcpStream) -> usize {
-    let mut chunk = [0u8; 65536];
-    let mut all = 0usize;
-    for _ in 0..u32::MAX {
-        match stream.read(&mut chunk) {
-            Ok(count) if count > 0 => all = all.saturating_add(count),
-            _ => break,
-        }
-    }
-    all
-}
-
-// The framing, and how many bytes there are besides: a line has its line feed; a message of this size has a head of ten bytes, and
-// a close behind it of four.
-const LATE: [(bool, usize); 2] = [(true, 1), (false, 14)];
-
-fn late_is_whole<R: Host>(rt: R, alloc: Global, attended: bool) {
-    let text = large(&rt, alloc);
-    for (lines, more) in LATE {
-        let mut front = listening(&rt, alloc, lines, PATIENT);
-        let (stream, mut wire) = connected(&rt, alloc, &mut front, attended);
-        let mut stream = if lines {
-            stream
-        } else {
-            shaken(&rt, alloc, stream, &mut wire).into_inner()
-        };
-        let reader = thread::spawn(&rt, move || {
-            thread::sleep(&rt, Duration::from_millis(100));
-            count_bytes(&mut stream)
-        })
-        .expect(&rt, "a thread");
-        assert!(rt;
-            wire.send(&rt, alloc, text.as_str()).is_ok(),
-            "lines: {lines}, {attended}"
-        );
-        wire.hand_on(&rt);
-        let count = reader.join(&rt);
-        assert!(rt;
-            count == LARGE + more,
-            "lines: {lines}, {attended}: {count} bytes"
-        );
-        drop(front);
-    }
-}
-
-#[test]
-fn a_text_that_is_taken_late_arrives_whole(rt: HostRuntime) {
-    names_streams(None);
-    late_is_whole(rt, rt.alloc(), false);
-}
-
-#[test]
-fn a_text_that_is_taken_late_from_a_station_arrives_whole(rt: HostRuntime) {
-    names_streams(None);
-    late_is_whole(rt, rt.alloc(), true);
+    assert_read(&rt, alloc, peer, "[one][]1000", "sent", attended);
 }
 
 // What is sent, and what the wire answers. Then the peer ends.
@@ -234,31 +134,28 @@ const LINES: [(&[u8], &str); 10] = [
 ];
 
 fn lines_are_given<R: Host>(rt: R, alloc: Global, bytes: &[u8], want: &str, attended: bool) {
-    let mut front = listening(&rt, alloc, true, PATIENT);
-    let (mut stream, mut wire) = connected(&rt, alloc, &mut front, attended);
+    let (mut stream, mut wire) = met(&rt, alloc, true, PATIENT, attended);
     write_bytes(&rt, &mut stream, bytes);
     assert!(rt; wire.send(&rt, alloc, "out").is_ok(), "{want}");
-    assert!(rt; stream.shutdown(Shutdown::Write).is_ok());
-    let answers = received(&rt, alloc, &mut wire, 1000);
-    assert!(rt;
-        answers.as_str() == want,
-        "{want}, {attended}: {}",
-        answers.as_str()
-    );
+    assert!(rt; stream.shutdown(Shutdown::Write).is_ok(), "{want}");
+    assert_received(&rt, alloc, &mut wire, 1000, want, want);
     wire.hand_on(&rt);
     let told = read_bytes(&rt, alloc, &mut stream);
     assert!(rt;
         told.as_slice() == b"out\n".as_slice(),
         "{want}, {attended}"
     );
-    drop(front);
 }
 
 #[test]
-fn lines_are_texts(rt: HostRuntime) {
+fn what_a_peer_sends_is_heard(rt: HostRuntime) {
     names_streams(None);
     let alloc = rt.alloc();
     for attended in WAYS {
+        for row in &ROWS {
+            message_is_text(rt, alloc, row, attended);
+        }
+        texts_go_out(rt, alloc, attended);
         for (bytes, want) in LINES {
             lines_are_given(rt, alloc, bytes, want, attended);
         }
@@ -353,13 +250,7 @@ fn length_of_next<R: Host>(rt: &R, alloc: Global, wire: &mut Tended<R>) -> usize
 }
 
 fn long_text_is_heard<R: Host>(rt: R, alloc: Global, row: &'static Long, attended: bool) {
-    let mut front = listening(&rt, alloc, row.lines, PATIENT);
-    let (stream, mut wire) = connected(&rt, alloc, &mut front, attended);
-    let stream = if row.lines {
-        stream
-    } else {
-        shaken(&rt, alloc, stream, &mut wire).into_inner()
-    };
+    let (stream, mut wire) = greeted(&rt, alloc, row.lines, PATIENT, attended);
     let writer = thread::spawn(&rt, move || write_long(alloc, stream, row)).expect(&rt, "a thread");
     let length = length_of_next(&rt, alloc, &mut wire);
     assert!(rt;
@@ -369,7 +260,6 @@ fn long_text_is_heard<R: Host>(rt: R, alloc: Global, row: &'static Long, attende
     );
     drop(wire);
     writer.join(&rt);
-    drop(front);
 }
 
 #[test]
@@ -427,31 +317,18 @@ fn answer(welcome: bool) -> &'static [u8] {
 }
 
 fn page_connects<R: Host>(rt: R, alloc: Global, origin: &str, welcome: bool, attended: bool) {
-    let mut front = listening(&rt, alloc, false, PATIENT);
-    let (mut stream, mut wire) = connected(&rt, alloc, &mut front, attended);
+    let (mut stream, mut wire) = met(&rt, alloc, false, PATIENT, attended);
     let head = request(&rt, alloc, origin);
     write_bytes(&rt, &mut stream, head.as_bytes());
-    let answers = received(&rt, alloc, &mut wire, 3);
-    assert!(rt;
-        answers.as_str() == if welcome { "?" } else { "!" },
-        "{origin}, {attended}: {}",
-        answers.as_str()
-    );
+    drop(head);
+    let want = if welcome { "?" } else { "!" };
+    assert_received(&rt, alloc, &mut wire, 3, want, origin);
     drop(wire);
     let told = read_bytes(&rt, alloc, &mut stream);
-    assert!(rt; told.as_slice().starts_with(answer(welcome)), "{origin}");
-    drop(front);
-}
-
-#[test]
-fn pages_of_other_machines_are_refused(rt: HostRuntime) {
-    names_streams(None);
-    let alloc = rt.alloc();
-    for attended in WAYS {
-        for (origin, welcome) in ORIGINS {
-            page_connects(rt, alloc, origin, welcome, attended);
-        }
-    }
+    assert!(rt;
+        told.as_slice().starts_with(answer(welcome)),
+        "{origin}, {attended}"
+    );
 }
 
 // In pieces of how many bytes a request comes, how many bytes of it, and whether the handshake is made in so many waits.
@@ -468,8 +345,7 @@ fn handshake_in_pieces<R: Host>(
 ) {
     let mut waits = PATIENT;
     waits.handshake_ticks = handshake_ticks;
-    let mut front = listening(&rt, alloc, false, waits);
-    let (mut stream, mut wire) = connected(&rt, alloc, &mut front, attended);
+    let (mut stream, mut wire) = met(&rt, alloc, false, waits, attended);
     let writer = thread::spawn(&rt, move || {
         let head = request(&rt, alloc, "");
         let sent = head.as_bytes().get(..bytes).unwrap_or(head.as_bytes());
@@ -482,26 +358,26 @@ fn handshake_in_pieces<R: Host>(
         stream
     })
     .expect(&rt, "a thread");
-    let answers = received(&rt, alloc, &mut wire, 30);
-    assert!(rt;
-        answers.as_str() == want,
-        "{piece}, {attended}: {}",
-        answers.as_str()
-    );
+    assert_received(&rt, alloc, &mut wire, 30, want, "in pieces");
     let mut stream = writer.join(&rt);
     // the last pieces may have come later
-    let _ = received(&rt, alloc, &mut wire, 3);
+    drop(received(&rt, alloc, &mut wire, 3));
     drop(wire);
     let told = read_bytes(&rt, alloc, &mut stream);
-    assert!(rt; told.as_slice().starts_with(answer(true)) == (want == "?"));
-    drop(front);
+    assert!(rt;
+        told.as_slice().starts_with(answer(true)) == (want == "?"),
+        "{piece}, {attended}"
+    );
 }
 
 #[test]
-fn a_handshake_comes_bit_by_bit(rt: HostRuntime) {
+fn a_handshake_is_made_or_refused(rt: HostRuntime) {
     names_streams(None);
     let alloc = rt.alloc();
     for attended in WAYS {
+        for (origin, welcome) in ORIGINS {
+            page_connects(rt, alloc, origin, welcome, attended);
+        }
         for (piece, bytes, handshake_ticks, want) in PIECES {
             handshake_in_pieces(rt, alloc, piece, bytes, handshake_ticks, want, attended);
         }
@@ -517,39 +393,88 @@ const HASTY: Waits = Waits {
     pings: 2,
 };
 
-fn silence_is_heard<R: Host>(rt: R, alloc: Global, attended: bool) {
-    for (lines, want) in [(false, "!"), (true, "?")] {
-        let mut front = listening(&rt, alloc, lines, HASTY);
-        let (stream, mut wire) = connected(&rt, alloc, &mut front, attended);
-        let answers = received(&rt, alloc, &mut wire, 40);
-        assert!(rt;
-            answers.as_str() == want,
-            "lines: {lines}, {attended}: {}",
-            answers.as_str()
-        );
-        drop(wire);
-        drop(stream);
-        drop(front);
-    }
+// Where no handshake comes, and no line.
+const SILENT: [(bool, &str); 2] = [(false, "!"), (true, "?")];
+
+fn silence_is_heard<R: Host>(rt: R, alloc: Global, lines: bool, want: &str, attended: bool) {
+    let (stream, mut wire) = met(&rt, alloc, lines, HASTY, attended);
+    assert_received(&rt, alloc, &mut wire, 40, want, "silence");
+    drop(wire);
+    drop(stream);
+}
+
+// Behind the handshake it is asked for a sign of life.
+fn silence_is_asked<R: Host>(rt: R, alloc: Global, attended: bool) {
+    let mut waits = HASTY;
+    waits.handshake_ticks = 2000;
+    let (stream, mut wire) = met(&rt, alloc, false, waits, attended);
+    let peer = shaken(&rt, alloc, stream, &mut wire);
+    assert_received(&rt, alloc, &mut wire, 1000, ".", "asked");
+    assert_read(&rt, alloc, peer, "ping ping ", "asked", attended);
+    drop(wire);
 }
 
 #[test]
 fn a_peer_that_says_nothing_is_left(rt: HostRuntime) {
+    names_streams(None);
     let alloc = rt.alloc();
-    let mut waits = HASTY;
-    waits.handshake_ticks = 2000;
     for attended in WAYS {
-        silence_is_heard(rt, alloc, attended);
-        let mut front = listening(&rt, alloc, false, waits);
-        let (stream, mut wire) = connected(&rt, alloc, &mut front, attended);
-        let mut peer = shaken(&rt, alloc, stream, &mut wire);
-        let answers = received(&rt, alloc, &mut wire, 1000);
-        assert!(rt; answers.as_str() == ".", "{}", answers.as_str());
-        let told = read_by_peer(&rt, alloc, &mut peer);
-        assert!(rt; told.as_str() == "ping ping ", "{}", told.as_str());
-        drop(wire);
-        drop(front);
+        for (lines, want) in SILENT {
+            silence_is_heard(rt, alloc, lines, want, attended);
+        }
+        silence_is_asked(rt, alloc, attended);
     }
+}
+
+// A text that is more than the system holds for a peer.
+const LARGE: usize = 12_000_000;
+
+fn large(rt: &impl Abort, alloc: Global) -> String {
+    let letters = Vec::from_elem(alloc, b'a', LARGE).expect(rt, "memory");
+    String::from_utf8(letters).expect(rt, "text")
+}
+
+// How many bytes come in to the end.
+fn count_bytes(stream: &mut TcpStream) -> usize {
+    let mut chunk = [0u8; 65536];
+    let mut all = 0usize;
+    for _ in 0..u32::MAX {
+        match stream.read(&mut chunk) {
+            Ok(count) if count > 0 => all = all.saturating_add(count),
+            _ => break,
+        }
+    }
+    all
+}
+
+// The framing, and how many bytes there are besides: a line has its line feed; a message of this size has a head of ten bytes, and
+// a close behind it of four.
+const LATE: [(bool, usize); 2] = [(true, 1), (false, 14)];
+
+fn late_is_whole<R: Host>(
+    rt: R,
+    alloc: Global,
+    text: &str,
+    lines: bool,
+    more: usize,
+    attended: bool,
+) {
+    let (mut stream, mut wire) = greeted(&rt, alloc, lines, PATIENT, attended);
+    let reader = thread::spawn(&rt, move || {
+        thread::sleep(&rt, Duration::from_millis(100));
+        count_bytes(&mut stream)
+    })
+    .expect(&rt, "a thread");
+    assert!(rt;
+        wire.send(&rt, alloc, text).is_ok(),
+        "lines: {lines}, {attended}"
+    );
+    wire.hand_on(&rt);
+    let count = reader.join(&rt);
+    assert!(rt;
+        count == LARGE.wrapping_add(more),
+        "lines: {lines}, {attended}: {count} bytes"
+    );
 }
 
 // Whether sending fails to one who reads nothing. A wire that waits by itself says it when it sends, one at a station at its next
@@ -562,42 +487,34 @@ fn send_fails<R: Host>(rt: &R, alloc: Global, wire: &mut Tended<R>, text: &str) 
     failed || matches!(received(rt, alloc, wire, 1000).as_str(), "!")
 }
 
-fn sends_fail<R: Host>(rt: R, alloc: Global, attended: bool) {
-    let text = large(&rt, alloc);
+fn sends_fail<R: Host>(rt: R, alloc: Global, text: &str, lines: bool, attended: bool) {
     let mut waits = PATIENT;
     waits.send_ticks = HASTY.send_ticks;
-    for lines in [true, false] {
-        let mut front = listening(&rt, alloc, lines, waits);
-        let (stream, mut wire) = connected(&rt, alloc, &mut front, attended);
-        let stream = if lines {
-            stream
-        } else {
-            shaken(&rt, alloc, stream, &mut wire).into_inner()
-        };
-        assert!(rt;
-            send_fails(&rt, alloc, &mut wire, text.as_str()),
-            "lines: {lines}, {attended}"
-        );
-        assert!(rt;
-            matches!(wire.recv(&rt, alloc), Ok(Recv::End)),
-            "lines: {lines}, {attended}"
-        );
-        drop(wire);
-        drop(stream);
-        drop(front);
+    let (stream, mut wire) = greeted(&rt, alloc, lines, waits, attended);
+    assert!(rt;
+        send_fails(&rt, alloc, &mut wire, text),
+        "lines: {lines}, {attended}"
+    );
+    assert!(rt;
+        wire.hear(&rt, alloc) == Heard::End,
+        "lines: {lines}, {attended}"
+    );
+    drop(wire);
+    drop(stream);
+}
+
+#[test]
+fn a_large_text_is_taken_late_or_not_at_all(rt: HostRuntime) {
+    names_streams(None);
+    let alloc = rt.alloc();
+    let text = large(&rt, alloc);
+    for attended in WAYS {
+        for (lines, more) in LATE {
+            late_is_whole(rt, alloc, text.as_str(), lines, more, attended);
+            sends_fail(rt, alloc, text.as_str(), lines, attended);
+        }
     }
-}
-
-#[test]
-fn a_send_to_a_peer_that_takes_nothing_fails(rt: HostRuntime) {
-    names_streams(None);
-    sends_fail(rt, rt.alloc(), false);
-}
-
-#[test]
-fn what_is_held_for_a_peer_that_takes_nothing_fails(rt: HostRuntime) {
-    names_streams(None);
-    sends_fail(rt, rt.alloc(), true);
+    drop(text);
 }
 
 // What a peer sends once and then without end.
@@ -615,15 +532,12 @@ fn endless_is_quiet<R: Host>(
     again: &'static [u8],
     attended: bool,
 ) {
-    let mut front = listening(&rt, alloc, false, PATIENT);
-    let (stream, mut wire) = connected(&rt, alloc, &mut front, attended);
-    let mut peer = shaken(&rt, alloc, stream, &mut wire);
-    write_bytes(&rt, peer.get_mut(), first);
+    let (mut stream, mut wire) = greeted(&rt, alloc, false, PATIENT, attended);
+    write_bytes(&rt, &mut stream, first);
     let writer = thread::spawn(&rt, move || {
         let many = again.repeat(alloc, 10_000).expect(&rt, "memory");
-        let mut peer = peer;
         for _ in 0..u32::MAX {
-            if peer.get_mut().write_all(many.as_slice()).is_err() {
+            if stream.write_all(many.as_slice()).is_err() {
                 break;
             }
         }
@@ -631,24 +545,13 @@ fn endless_is_quiet<R: Host>(
     .expect(&rt, "a thread");
     for _ in 0..3 {
         assert!(rt;
-            matches!(wire.recv(&rt, alloc), Ok(Recv::Quiet)),
-            "{attended}"
+            wire.hear(&rt, alloc) == Heard::Quiet,
+            "{} bytes first, {attended}",
+            first.len()
         );
     }
     drop(wire);
     writer.join(&rt);
-    drop(front);
-}
-
-#[test]
-fn a_peer_that_sends_without_end_keeps_nobody_waiting(rt: HostRuntime) {
-    names_streams(None);
-    let alloc = rt.alloc();
-    for attended in WAYS {
-        for (first, again) in ENDLESS {
-            endless_is_quiet(rt, alloc, first, again, attended);
-        }
-    }
 }
 
 // A ping with as many bytes as it can have, and its mask.
@@ -683,24 +586,30 @@ fn stops_reading<R: Host>(
         if stopped > 50 {
             return true;
         }
-        assert!(rt; matches!(wire.recv(rt, alloc), Ok(Recv::Quiet)));
+        assert!(rt; wire.hear(rt, alloc) == Heard::Quiet, "behind pings");
     }
     false
 }
 
+fn pings_are_left_unread<R: Host>(rt: R, alloc: Global, attended: bool) {
+    let (mut stream, mut wire) = greeted(&rt, alloc, false, PATIENT, attended);
+    assert!(rt; stream.set_nonblocking(true).is_ok());
+    assert!(rt;
+        stops_reading(&rt, alloc, &mut stream, &mut wire),
+        "the wire goes on reading: {attended}"
+    );
+    drop(wire);
+    drop(stream);
+}
+
 #[test]
-fn pings_of_a_peer_that_reads_nothing_are_left_unread(rt: HostRuntime) {
+fn a_peer_that_sends_without_end_keeps_nobody_waiting(rt: HostRuntime) {
+    names_streams(None);
     let alloc = rt.alloc();
     for attended in WAYS {
-        let mut front = listening(&rt, alloc, false, PATIENT);
-        let (stream, mut wire) = connected(&rt, alloc, &mut front, attended);
-        let mut peer = shaken(&rt, alloc, stream, &mut wire);
-        assert!(rt; peer.get_ref().set_nonblocking(true).is_ok());
-        assert!(rt;
-            stops_reading(&rt, alloc, peer.get_mut(), &mut wire),
-            "the wire goes on reading: {attended}"
-        );
-        drop(wire);
-        drop(front);
+        for (first, again) in ENDLESS {
+            endless_is_quiet(rt, alloc, first, again, attended);
+        }
+        pings_are_left_unread(rt, alloc, attended);
     }
 }
