@@ -1,4 +1,4 @@
-ghost use Rattle.std.specs.Prelude.{◌≡◌, ◌⊎◌};
+ghost use Rattle.std.specs.Prelude.{◌≡◌, ◌⊎◌, IfOk};
 
 use fluid_json::{NoMemory, Text};
 use std::alloc::{AllocError, Global};
@@ -23,6 +23,21 @@ impl CheckpointFault {
         match Text::copied(alloc, name) {
             Ok(name) => CheckpointFault::BadField(name),
             Err(_) => CheckpointFault::NoMemory,
+        }
+    }
+
+    /// The same fault with its own memory.
+    pub fn copy(&self, alloc: Global) -> Result<CheckpointFault, NoMemory>
+        ensures { IfOk result (λ copy. copy ≡ self.now) }
+    {
+        match self {
+            CheckpointFault::BadText => Ok(CheckpointFault::BadText),
+            CheckpointFault::BadField(name) => {
+                let name = name.copy(alloc)?;
+                Ok(CheckpointFault::BadField(name))
+            }
+            CheckpointFault::Version(version) => Ok(CheckpointFault::Version(*version)),
+            CheckpointFault::NoMemory => Ok(CheckpointFault::NoMemory),
         }
     }
 }

@@ -1,9 +1,10 @@
 -- What the raw entries of a document made of it, one by one and of a whole ledger, and what is kept in memory of it.
-use Rattle.std.specs.Prelude.{◌≡◌, ℕ, ◌+◌, ◌-◌, ◌^◌, ◌<◌, ◌≤◌, List, ◌++◌, length, drop, All, cond, refl}
+use Rattle.std.specs.Prelude.{◌≡◌, ℕ, ◌+◌, ◌-◌, ◌^◌, ◌<◌, ◌≤◌, List, ◌++◌, length, drop, Option, Some, None, All, cond, refl}
 use Rattle.std.specs.Coded.{Coded, code_by, coded×, coded_ℕ}
 use Rattle.fluid_types.specs.declared.entries.Raw.{Raw}
 use Rattle.fluid_types.specs.declared.messages.Message.{Message}
 use Rattle.fluid_types.specs.declared.verdicts.Verdict.{Verdict}
+use Rattle.fluid_types.specs.declared.verdicts.Verdict.TheVariants.{Sequenced}
 use Rattle.fluid_types.specs.Ledger.{Ledger, messages_of}
 use Rattle.fluid_types.specs.Order.{AreNumberedFrom}
 use Rattle.fluid_rules.specs.Counted.{is_counted, counted}
@@ -92,6 +93,16 @@ pub record GoOn (old new : Pushed) (verdict : Verdict) : Type 0 where
   pub count : pushed new ≡ pushed old + length (messages_of verdict)
   pub stands : (order : List Message) (content : Content) → StandFor old order content → StandFor new (order ++ messages_of verdict) content
   pub part : (order rest : List Message) → drop (pushed old) order ≡ messages_of verdict ++ rest → ArePartOf old order → ArePartOf new order
+
+-- what is kept of a verdict: its message, of which a copy is made for who wants it back
+abbrev pub copied : Verdict → Option Verdict
+copied (Sequenced message) = Some (Sequenced message)
+copied verdict = None
+
+-- and what isn't
+abbrev pub left_over : Verdict → Option Verdict
+left_over (Sequenced message) = None
+left_over verdict = Some verdict
 
 -- the entry was entered, with the verdict that it gets
 pub record Commits (old new : InMemory) (raw : Raw) (verdict : Verdict) : Type 0 where

@@ -13,6 +13,7 @@ use Rattle.fluid_deltas.specs.Ranges.{IsNoted}
 use Rattle.fluid_deltas.specs.Flushes.{with_deltas, PutsFront}
 use Rattle.fluid_core.specs.Entering.{verdict_in}
 use Rattle.fluid_document.specs.Entries.{InMemory, GoOn, taken_up}
+use Rattle.fluid_document.specs.Puts.{PutsEarly, PutsFew}
 use Rattle.fluid_document.specs.Rooms.{for_room, roomed}
 use Rattle.fluid_document.specs.declared.fault.EnterFault.{EnterFault}
 use Rattle.fluid_document.specs.declared.fault.EnterFault.TheVariants.{LogFailed, DeltaFailed, NoMemory}
@@ -56,18 +57,21 @@ pub record IsAppended (text : List ℕ) (old new : Keeping) : Type 0 where
   pub is_text : IsText text
   pub kept : KeepsSame (with_record text old) new
 
-abbrev pub Appends : List ℕ → Keeping → Keeping → Result (Unit {0}) EnterFault → Type 0
-Appends text old new (Ok done) = IsAppended text old new
-Appends text old new (Err (LogFailed note)) = IsTorn text old new
-Appends text old new (Err NoMemory) = KeepsSame old new
-Appends text old new (Err other) = ⊥
+abbrev pub AppendFails : List ℕ → Keeping → Keeping → EnterFault → Type 0
+AppendFails text old new (LogFailed note) = IsTorn text old new
+AppendFails text old new NoMemory = KeepsSame old new
+AppendFails text old new other = ⊥
+
+abbrev pub Appends : {A : Type 0} → List ℕ → Keeping → Keeping → Result A EnterFault → Type 0
+Appends text old new (Ok a) = IsAppended text old new
+Appends text old new (Err fault) = AppendFails text old new fault
 
 pub record Finishes (raw : Raw) (before now : InMemory) : Type 0 where
   pub entries : now.entries ≡ taken_up before.entries raw
   pub messages : GoOn before.messages now.messages (verdict_in before.entries.state raw)
 
-abbrev pub FinishDoes : Raw → InMemory → InMemory → Result (Unit {0}) EnterFault → Type 0
-FinishDoes raw before now (Ok done) = Finishes raw before now
+abbrev pub FinishDoes : {A : Type 0} → Raw → InMemory → InMemory → Result A EnterFault → Type 0
+FinishDoes raw before now (Ok a) = Finishes raw before now
 FinishDoes raw before now (Err fault) = now ≡ before
 
 -- ---- the entry
@@ -77,6 +81,7 @@ pub record EntersOne (raw : Raw) (old new : Keeping) (before now : InMemory) : T
   pub entries : now.entries ≡ taken_up before.entries raw
   pub text : IsText (raw_printed raw)
   pub kept : KeepsSame (with_record (raw_printed raw) (roomed before.messages old)) new
+  pub early : PutsEarly before.messages.before now.messages.before old new
 
 -- nothing was entered. Behind an append that failed the record stands in the log or doesn't; a keeper that failed while deltas
 -- were put has some of those that make room, and not all of them
@@ -99,3 +104,4 @@ pub record EntersBy {A : Type 0} (raw : Raw) (old new : Keeping) (before now : I
   pub stands : (order : List Message) → Tells old.content (StandFor before.messages order)
       → Tells new.content (StandFor now.messages (order ++ added result (verdict_in before.entries.state raw)))
   pub reached : now.messages.before ≤ new.deltas
+  pub lacked : PutsFew before.entries.entered old new

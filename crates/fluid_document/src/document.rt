@@ -12,7 +12,7 @@ ghost use Rattle.fluid_deltas.specs.Pushed.{pushed, IsKeepable, ArePartOf, Stand
 ghost use Rattle.fluid_deltas.specs.Ranges.{IsNotBad, IsAnswer, IsHeldAnswer, IsSlice, AreHeld, Reads, held_between, range_of};
 ghost use Rattle.fluid_deltas.specs.Flushes.{lacking, AreAll};
 ghost use Rattle.fluid_deltas.specs.declared.pages.TheConstants.{RESIDENT};
-ghost use Rattle.fluid_document.specs.Entries.{most, counts, nothing_entered, GoOn, Commits, IsLevelled, IsReadyIn, IsReady};
+ghost use Rattle.fluid_document.specs.Entries.{most, counts, nothing_entered, GoOn, Commits, IsLevelled, IsReadyIn, IsReady, copied, left_over};
 ghost use Rattle.fluid_document.specs.Kept.{IsPrinted};
 ghost use Rattle.fluid_document.specs.Taking.{IsResumed};
 ghost use Rattle.fluid_document.specs.Puts.{Flushes, PutsFirst, PutsFew, unflushed};
@@ -166,13 +166,6 @@ impl Document {
         self.messages.resident()
     }
 
-    /// The messages `from` up to, but without, `to`, where one page in memory has all of them.
-    pub fn held(&self, from: u64, to: u64) -> Option<&[Message]>
-        ensures { IfSome result (λ messages. messages.now ≡ held_between self.now.messages (from - 1) (to - 1)) }
-    {
-        self.messages.held(from, to)
-    }
-
     /// The text of a checkpoint of what the entries made.
     pub fn print(&self, alloc: Global) -> Result<Bytes, NoMemory>
         ensures { IfOk result (IsPrinted self.now.entries) }
@@ -269,25 +262,36 @@ impl Document {
         })
     }
 
-    // Enters what was prepared. Takes no memory.
-    pub(crate) fn commit(&mut self, prepared: Prepared)
+    // Enters what was prepared, and gives its verdict where it isn't kept. Takes no memory.
+    pub(crate) fn commit(&mut self, prepared: Prepared) -> Option<Verdict>
         requires { IsReady self.old prepared }
-        ensures { (raw : ARaw) → IsReadyIn self.old raw prepared → Commits self.old self.new raw prepared.ready.ticket.verdict }
+        ensures commits { (raw : ARaw) → IsReadyIn self.old raw prepared → Commits self.old self.new raw prepared.ready.ticket.verdict }
+        ensures left { result ≡ left_over prepared.ready.ticket.verdict }
     {
         let Prepared { ready, counts } = prepared;
         let verdict = self.core.commit(ready);
-        push(&mut self.messages, verdict);
+        let left = push(&mut self.messages, verdict);
         self.entered += 1;
         self.counted += counts;
+        left
     }
 }
 
 impl Prepared {
-    // The verdict that the entry gets when it is committed.
-    pub(crate) fn verdict(&self) -> &Verdict
-        ensures { result.now ≡ self.now.ready.ticket.verdict }
+    // The verdict that the entry gets when it is committed, once more, where it is kept then.
+    pub(crate) fn copied(&self, alloc: Global) -> Result<Option<Verdict>, NoMemory>
+        ensures { IfOk result (λ copy. copy ≡ copied self.now.ready.ticket.verdict) }
     {
-        self.ready.verdict()
+        // (an arm for each verdict, so that each proof knows its case)
+        match self.ready.verdict() {
+            Verdict::Sequenced(message) => {
+                let message = message.copy(alloc)?;
+                Ok(Some(Verdict::Sequenced(message)))
+            }
+            Verdict::Nacked(_) => Ok(None),
+            Verdict::Dropped => Ok(None),
+            Verdict::Absorbed => Ok(None),
+        }
     }
 }
 
@@ -305,19 +309,23 @@ fn flushed(answer: Result<(), DeltaFault>) -> Result<(), FlushFault>
     }
 }
 
-// Adds the message of a verdict, where it has one.
-fn push(messages: &mut Deltas, verdict: Verdict)
+// Adds the message of a verdict, and gives back one that has none.
+fn push(messages: &mut Deltas, verdict: Verdict) -> Option<Verdict>
     requires room { 0 < messages.old.spare }
     requires next { AreNumberedFrom (pushed messages.old + 1) (messages_of verdict) }
     requires keepable { All IsKeepable (messages_of verdict) }
-    ensures { GoOn messages.old messages.new verdict }
+    ensures goes { GoOn messages.old messages.new verdict }
+    ensures left { result ≡ left_over verdict }
 {
     // (an arm for each verdict, so that each proof knows its case)
     match verdict {
-        Verdict::Sequenced(message) => messages.push(message),
-        Verdict::Nacked(_) => {}
-        Verdict::Dropped => {}
-        Verdict::Absorbed => {}
+        Verdict::Sequenced(message) => {
+            messages.push(message);
+            None
+        }
+        Verdict::Nacked(nack) => Some(Verdict::Nacked(nack)),
+        Verdict::Dropped => Some(Verdict::Dropped),
+        Verdict::Absorbed => Some(Verdict::Absorbed),
     }
 }
 

@@ -1,5 +1,6 @@
 //! Entering one raw entry: its record into the log, its verdict into what is kept in memory.
-ghost use Rattle.std.specs.Prelude.{◌≡◌, ◌<◌, ◌≤◌, List, length, IfOk, IfErr, OnOk, OnErr};
+ghost use Rattle.std.specs.Option.{option_or};
+ghost use Rattle.std.specs.Prelude.{◌≡◌, ◌<◌, ◌≤◌, List, length, is_some, Some, true, IfOk, IfErr, OnOk, OnErr};
 ghost use Rattle.fluid_io.specs.Causes.{Tells};
 ghost use Rattle.fluid_types.specs.Fits.{Fits};
 ghost use Rattle.fluid_types.specs.Printed.{raw_printed};
@@ -9,8 +10,8 @@ ghost use Rattle.fluid_log.specs.declared.keeper.TheConstants.{LONGEST_KEPT};
 ghost use Rattle.fluid_core.specs.Entering.{verdict_in};
 ghost use Rattle.fluid_deltas.specs.Pushed.{pushed, StandIn, StandFor};
 ghost use Rattle.fluid_deltas.specs.declared.pages.TheConstants.{RESIDENT};
-ghost use Rattle.fluid_document.specs.Entries.{most, IsReadyIn, IsReady};
-ghost use Rattle.fluid_document.specs.Puts.{PutsFirst, PutsFew};
+ghost use Rattle.fluid_document.specs.Entries.{most, IsReadyIn, IsReady, left_over};
+ghost use Rattle.fluid_document.specs.Puts.{PutsFirst, PutsEarly, PutsFew};
 ghost use Rattle.fluid_document.specs.Rooms.{for_room};
 ghost use Rattle.fluid_document.specs.Entry.{IsEnterFault, RoomDoes, Appends, FinishDoes, EntersBy};
 
@@ -38,12 +39,12 @@ pub fn enter<K: Keeper>(
     ensures said { IfOk result (λ verdict. verdict ≡ verdict_in document.old.entries.state raw.now) }
 {
     let (record, prepared) = prepared(alloc, keeper, document, raw)?;
-    let verdict = prepared.verdict().copy(alloc)?;
-    finish(alloc, keeper, document, record.as_str(), prepared)?;
-    Ok(verdict)
+    let copy = prepared.copied(alloc)?;
+    let left = finish(alloc, keeper, document, record.as_str(), prepared)?;
+    Ok(either(copy, left))
 }
 
-/// The same for who doesn't want the verdict: no message is copied.
+/// The same for who doesn't want the verdict: its message isn't copied for the caller.
 pub fn take_in<K: Keeper>(
     alloc: Global,
     keeper: &mut K,
@@ -56,7 +57,8 @@ pub fn take_in<K: Keeper>(
     ensures { EntersBy raw.now (K.seen keeper.old) (K.seen keeper.new) document.old document.new result }
 {
     let (record, prepared) = prepared(alloc, keeper, document, raw)?;
-    finish(alloc, keeper, document, record.as_str(), prepared)
+    finish(alloc, keeper, document, record.as_str(), prepared)?;
+    Ok(())
 }
 
 // The record of a raw entry, and the entry prepared, with room for its message.
@@ -77,6 +79,8 @@ fn prepared<K: Keeper>(
     ensures reached { document.new.messages.before ≤ (K.seen keeper.new).deltas }
     ensures stands { (order : List AMessage) → Tells (K.seen keeper.old).content (StandFor document.old.messages order) →
         Tells (K.seen keeper.new).content (StandFor document.new.messages order) }
+    ensures early { OnOk result (PutsEarly document.old.messages.before document.new.messages.before (K.seen keeper.old) (K.seen keeper.new)) }
+    ensures lacked { PutsFew document.old.entries.entered (K.seen keeper.old) (K.seen keeper.new) }
     ensures record { IfOk result (λ entry. entry.0 ≡ raw_printed raw.now) }
     ensures ready { IfOk result (λ entry. IsReadyIn document.new raw.now entry.1) }
 {
@@ -117,14 +121,14 @@ pub(crate) fn make_room<K: Keeper>(
     }
 }
 
-// Adds the record of an entry that is prepared to the log, and enters it.
+// Adds the record of an entry that is prepared to the log, and enters it. Its verdict comes back where it isn't kept.
 fn finish<K: Keeper>(
     alloc: Global,
     keeper: &mut K,
     document: &mut Document,
     text: &str,
     prepared: Prepared,
-) -> Result<(), EnterFault>
+) -> Result<Option<Verdict>, EnterFault>
     requires short { length text.now ≤ LONGEST_KEPT }
     requires ready { IsReady document.old prepared }
     ensures later { (K.seen keeper.old).faults ≤ (K.seen keeper.new).faults }
@@ -132,12 +136,10 @@ fn finish<K: Keeper>(
     ensures cause { IfErr result (IsEnterFault (K.seen keeper.old).faults (K.seen keeper.new).faults) }
     ensures log { Appends text.now (K.seen keeper.old) (K.seen keeper.new) result }
     ensures does { (raw : ARaw) → IsReadyIn document.old raw prepared → FinishDoes raw document.old document.new result }
+    ensures left { IfOk result (λ left. left ≡ left_over prepared.ready.ticket.verdict) }
 {
     match append(alloc, keeper, text) {
-        Ok(()) => {
-            document.commit(prepared);
-            Ok(())
-        }
+        Ok(()) => Ok(document.commit(prepared)),
         Err(fault) => {
             let_go(prepared);
             Err(fault)
@@ -158,6 +160,17 @@ fn append<K: Keeper>(alloc: Global, keeper: &mut K, text: &str) -> Result<(), En
         Ok(()) => Ok(()),
         Err(KeeperFault::Failed) => Err(EnterFault::LogFailed(note_of(before, keeper))),
         Err(KeeperFault::NoMemory) => Err(EnterFault::NoMemory),
+    }
+}
+
+// The one of two verdicts that there is.
+fn either(one: Option<Verdict>, other: Option<Verdict>) -> Verdict
+    requires { is_some (option_or one other) ≡ true }
+    ensures { option_or one other ≡ Some result }
+{
+    match one.or(other) {
+        Some(verdict) => verdict,
+        None => unreachable!(),
     }
 }
 

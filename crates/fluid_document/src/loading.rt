@@ -138,7 +138,8 @@ fn take_up<K: Keeper>(
         Err(fault) => return Err(unread(fault)),
     }
     let prepared = document.prepare(alloc, raw)?;
-    document.commit(prepared);
+    // (by `drop`, so that no proof here goes by what is let go)
+    drop(document.commit(prepared));
     Ok(())
 }
 

@@ -25,6 +25,7 @@ use Rattle.fluid_document.specs.declared.fault.EnterFault.TheVariants as enterin
 use Rattle.fluid_document.specs.Entries.{Entries, InMemory, entries_of}
 use Rattle.fluid_document.specs.Rooms.{for_room, roomed}
 use Rattle.fluid_document.specs.Loading.{loaded, newest, ReadsBehind, PutsDeltas, IsBadAs, IsLoadFault}
+use Rattle.fluid_document.specs.Puts.{PutsFirst, PutsFew}
 use Rattle.fluid_document.specs.Taking.{ReadsKept}
 use Rattle.fluid_document.specs.Kept.{records, IsKept}
 use Rattle.fluid_document.specs.Laws.{CheckpointIsLoaded}
@@ -33,7 +34,7 @@ use Rattle.fluid_document.proofs.Foldings.{state-entries_of, entered-entries_of}
 use Rattle.fluid_document.proofs.Reloading.{loaded-first}
 use Rattle.fluid_lane.specs.declared.fault.LaneFault.{LaneFault}
 use Rattle.fluid_lane.specs.declared.fault.LaneFault.TheVariants.{LogFailed, DeltaFailed, NoMemory, Worn}
-use Rattle.fluid_lane.specs.Faults.{of_loading, IsCausedBy, IsLogFailed}
+use Rattle.fluid_lane.specs.Faults.{of_entering, of_loading, IsCausedBy, IsLogFailed}
 use Rattle.fluid_lane.specs.Steps.{ledger, last_side, stored, asides, AreNoted, steps}
 use Rattle.fluid_lane.proofs.Listed.{length-parts}
 use Rattle.fluid_lane.specs.Standing.{Standing, IsFor, IsTold, LaneStands}
@@ -63,6 +64,8 @@ pub record Opens (old mid : Keeping) (m : InMemory) : Type 0 where
   pub puts : PutsDeltas old mid
   pub later : old.faults ≤ mid.faults
   pub level : m.entries.entered ≡ old.records
+  pub early : PutsFirst m.messages.before old mid
+  pub lacked : PutsFew old.records old mid
   pub loads : Tells old.content (λ c. loaded c (newest old.checkpoints) ≡ Ok m.entries)
   pub kept : (l : Ledger) → Tells old.content (IsKept false l) → Tells mid.content (ReadsKept {A = InMemory} (λ d. d) l (Ok m))
 
@@ -99,6 +102,13 @@ opened_told moment old mid new m now l opens has none kept =
     (has.stands l (for_opened old mid m l opens kept))
     (by_ledger old mid new m l (l ++ has.done ≡ opening moment l) (grew_told (records has.done) mid new has.grew) opens kept
     (λ state. ap (λ done. l ++ done) (sym (append-nil has.done) ∙ ap (λ more. has.done ++ more) (sym (nobody_leaves moment now none)) ∙ sym has.splits ∙ ap (λ s. run s (leaves moment s)) state)))
+
+-- as many records as were read, and those of the leaves
+records_now : (old mid new : Keeping) (moment : ℕ) (m now : InMemory) → Opens old mid m → HasLeft moment mid new m now → new.records ≡ now.entries.entered
+records_now old mid new moment m now opens has = omega (arith, has.grew.kept.records, length-records has.done, has.entered, opens.level, opens.puts.kept.records)
+
+few_left : (old mid new : Keeping) (moment : ℕ) (m now : InMemory) → Opens old mid m → HasLeft moment mid new m now → PutsFew now.entries.entered old new
+few_left old mid new moment m now opens has = omega (arith, opens.lacked, opens.level, has.entered, has.lacked)
 
 -- ---- a list without side steps
 
@@ -156,6 +166,8 @@ starts moment old mid new limits m now opened opens has none found reads =
       };
       reads = rw has.reads reads;
       fresh = record { limits_are = refl; opened = found; sides = refl; last = refl; owed = refl; nobody = none; told = told; later = omega (arith, opens.later, has.later) };
+      early = omega (arith, opens.early, has.early.0, has.early.1);
+      lacked = few_left old mid new moment m now opens has;
     }
 
 -- ---- cut short
@@ -165,14 +177,16 @@ pub record IsShort (moment : ℕ) (old new : Keeping) (fault : LaneFault) : Type
   pub added : Ledger
   pub grew : Grew (records added) old new
   pub stops : StopsAtLeave moment old added fault
+  pub lacked : PutsFew new.records old new
   pub left : (l : Ledger) → Tells old.content (IsKept false l) → Tells new.content (LeftSome moment l)
 
-short_by : (moment : ℕ) (old mid new : Keeping) (m : InMemory) (done rest : Ledger) (fault : LaneFault) → Opens old mid m → Grew (records done) mid new → run m.entries.state (leaves moment m.entries.state) ≡ done ++ rest → IsLogFailed fault ⊎ (0 < length rest)
+short_by : (moment : ℕ) (old mid new : Keeping) (m : InMemory) (done rest : Ledger) (fault : LaneFault) → Opens old mid m → Grew (records done) mid new → run m.entries.state (leaves moment m.entries.state) ≡ done ++ rest → IsLogFailed fault ⊎ (0 < length rest) → PutsFew new.records old new
     → ((l : Ledger) → Tells mid.content (IsFor false m.entries m.messages l) → Tells new.content (IsKept false (l ++ done))) → IsShort moment old new fault
-short_by moment old mid new m done rest fault opens grew splits short each = record {
+short_by moment old mid new m done rest fault opens grew splits short lacked each = record {
   added = done;
   grew = grew_on [] (records done) old mid new (grew_put opens.puts.messages old mid opens.puts.kept) grew;
   stops = record { entries = m.entries; is = opens.loads; rest = rest; splits = splits; short = short };
+  lacked = lacked;
   left = λ l kept.
       tells_both new.content (IsKept false (l ++ done)) (λ _. run (state_of l) (leaves moment (state_of l)) ≡ done ++ rest) (LeftSome moment l) (λ c k s. record { done = done; rest = rest; splits = s; kept = k })
       (each l (for_opened old mid m l opens kept))
@@ -190,12 +204,8 @@ some_rest moment s some = omega (arith, some, length-run s (leaves moment s), le
 short_some : (moment : ℕ) (old mid new : Keeping) (m now : InMemory) (fault : LaneFault) → Opens old mid m → HasSomeLeft moment mid new m now → IsShort moment old new fault
 short_some moment old mid new m now fault opens some =
     short_by moment old mid new m some.has.done _ fault opens some.has.grew some.has.splits (inr (some_rest moment now.entries.state some.more))
+    (omega (arith, few_left old mid new moment m now opens some.has, records_now old mid new moment m now opens some.has))
     (λ l is. tells_from new.content _ _ (λ c one. one.kept) (some.has.stands l is))
-
-abbrev of_entering : EnterFault → LaneFault
-of_entering (entering.LogFailed note) = LogFailed note
-of_entering (entering.DeltaFailed note) = DeltaFailed note
-of_entering entering.NoMemory = NoMemory
 
 -- a leave that wasn't entered: some messages were put, and its record stands behind them or doesn't
 stops : (moment : ℕ) (old new : Keeping) (before now : InMemory) (fault : EnterFault) (next : LeavesFirst moment old new before now (Err fault))
@@ -214,10 +224,13 @@ short_stopped moment old mid last new m here now fault opens has next = by (stop
     stand : (l : Ledger) → Tells mid.content (IsFor false m.entries m.messages l) → Tells new.content (StandFor now.messages (order (l ++ has.done) ++ []))
     stand l is = next.enters.stands (order (l ++ has.done)) (tells_from last.content _ _ (λ c one. one.messages) (has.stands l is))
 
+    few : last.records ≤ new.records → PutsFew new.records old new
+    few le = omega (arith, few_left old mid last moment m here opens has, records_now old mid last moment m here opens has, next.enters.lacked, le)
+
     by : PutsDeltas last new ⊎ (IsLogFailed (of_entering fault) × IsAppended (raw_printed raw) (roomed here.messages last) new) → IsShort moment old new (of_entering fault)
     by (inl puts) =
         short_by moment old mid new m has.done _ (of_entering fault) opens (rw append-nil at (grew_on (records has.done) [] mid last new has.grew (grew_put puts.messages last new puts.kept))) has.splits
-        (inr (some_rest moment here.entries.state (omega (arith, ap length next.is.first, length-keys here.entries.state.sequencer.rows))))
+        (inr (some_rest moment here.entries.state (omega (arith, ap length next.is.first, length-keys here.entries.state.sequencer.rows)))) (few (omega (arith, puts.kept.records)))
         (λ l is. told_changed last.content new.content (put_behind puts.messages) (IsFor false here.entries here.messages (l ++ has.done)) (StandFor now.messages (order (l ++ has.done) ++ [])) (IsKept false (l ++ has.done)) puts.kept.content
         (λ c one stand. kept_more false (l ++ has.done) puts.messages c (rw append-nil at stand.stand.deltas) one.kept) (has.stands l is) (stand l is))
     by (inr torn) =
@@ -226,7 +239,7 @@ short_stopped moment old mid last new m here now fault opens has next = by (stop
         let rest = run (after here.entries.state raw v) (map (λ id. Leave id moment) next.is.rest) in
         short_by moment old mid new m (has.done ++ (raw, v) ∷ []) rest (of_entering fault) opens
         (rw (records-push has.done (raw, v)) (grew_on (records has.done) (raw_printed raw ∷ []) mid last new has.grew (grew_record ms (raw_printed raw) last new torn.1.kept)))
-        (has.splits ∙ ap (λ ids. has.done ++ run here.entries.state (map (λ id. Leave id moment) ids)) next.is.first ∙ sym (append_assoc has.done ((raw, v) ∷ []) rest)) (inl torn.0)
+        (has.splits ∙ ap (λ ids. has.done ++ run here.entries.state (map (λ id. Leave id moment) ids)) next.is.first ∙ sym (append_assoc has.done ((raw, v) ∷ []) rest)) (inl torn.0) (few (omega (arith, torn.1.kept.records)))
         (λ l is.
         let before : Ledger = l ++ has.done in
         subst (λ x. Tells new.content (IsKept false x)) (append_assoc l has.done ((raw, v) ∷ []))
@@ -252,10 +265,6 @@ pub record IsSaid (old new : Keeping) (added : Ledger) (moment : ℕ) (fault : L
   pub bad : Tells old.content (λ content. StartsBad (newest old.checkpoints) content fault)
   pub named : IsFaultOfStart new.records fault
   pub adds : Adds moment old added fault
-
--- as many records as were read, and those of the leaves
-records_now : (old mid new : Keeping) (moment : ℕ) (m now : InMemory) → Opens old mid m → HasLeft moment mid new m now → new.records ≡ now.entries.entered
-records_now old mid new moment m now opens has = omega (arith, has.grew.kept.records, length-records has.done, has.entered, opens.level, opens.puts.kept.records)
 
 -- of the leaves
 pub faults_behind : (moment : ℕ) (old mid new : Keeping) (m now : InMemory) (fault : LaneFault) → Opens old mid m → LeavesAll moment mid new m now (Err fault) → (short : IsShort moment old new fault)

@@ -20,9 +20,11 @@ use Rattle.fluid_document.specs.Entries.{Entries, InMemory, IsLevelled, most, ta
 use Rattle.fluid_document.specs.Rooms.{for_room}
 use Rattle.fluid_document.specs.Entry.{EntersBy}
 use Rattle.fluid_document.specs.declared.fault.EnterFault.{EnterFault}
+use Rattle.fluid_document.specs.declared.fault.EnterFault.TheVariants as entering
 use Rattle.fluid_document.specs.Kept.{records}
 use Rattle.fluid_lane.specs.declared.fault.LaneFault.{LaneFault}
 use Rattle.fluid_lane.specs.declared.fault.LaneFault.TheVariants.{LogFailed, DeltaFailed, NoMemory, Worn}
+use Rattle.fluid_lane.specs.Faults.{of_entering}
 use Rattle.fluid_lane.specs.Standing.{Standing, IsFor}
 use Rattle.fluid_lane.specs.Starting.{run, leaves, takes, Grew, IsFirst, LeavesFirst, Waits, LeaveDoes, HasLeft, HasSomeLeft, LeavesAll}
 use Rattle.fluid_readback.proofs.Fitting.{leaves_fit}
@@ -85,6 +87,8 @@ has_left_nobody moment k m reached = record {
   later = omega arith;
   reads = refl;
   reached = reached;
+  early = (omega arith, omega (arith, reached));
+  lacked = omega arith;
   stands = λ l is. rw append-nil is;
 }
 
@@ -132,6 +136,8 @@ has_left_more moment old mid new before here now has one =
       later = omega (arith, has.later, e.later);
       reads = e.reads ∙ has.reads;
       reached = e.reached;
+      early = (omega (arith, has.early.0, e.does.early.0), omega (arith, has.early.1, e.does.early.0, e.does.early.1));
+      lacked = omega (arith, has.lacked, e.lacked, entered);
       stands = λ l is.
           subst (λ x. Tells new.content (IsFor false now.entries now.messages x)) (append_assoc l has.done ((raw, v) ∷ []))
           (for_entered (standing mid here) (standing new now) (for_room here.messages mid.deltas) raw (l ++ has.done) e.does.kept entries refl refl (record { fits = one.is.fits; text = e.does.text }) one.is.few e.stands (has.stands l is));
@@ -152,6 +158,8 @@ has_left_same moment old mid new before here now has waits later reads =
       later = omega (arith, has.later, later);
       reads = reads ∙ has.reads;
       reached = omega (arith, has.reached, waits.same.deltas);
+      early = (has.early.0, omega (arith, has.early.1, waits.same.deltas));
+      lacked = omega (arith, has.lacked, waits.same.deltas);
       stands = λ l is. rw waits.same.content (has.stands l is);
     })
 
@@ -163,12 +171,18 @@ leaves_first moment old new before now id result name small first few enters =
     record { id = id; is = record { rest = ids.0; first = ids.1; fits = leaves_fit id moment name small; few = few }; enters = enters }
 
 -- messages that make room are put only where there are as many entries as messages may be in memory
-pub needed_room : (e : Entries) (d : Pushed) (deltas count : ℕ) → IsLevelled e d → count < length (for_room d deltas) → RESIDENT ≤ e.entered
+needed_room : (e : Entries) (d : Pushed) (deltas count : ℕ) → IsLevelled e d → count < length (for_room d deltas) → RESIDENT ≤ e.entered
 needed_room e d deltas count levelled within = by (nat_le RESIDENT (length d.held)) refl
   where
     by : (full : Bool) → nat_le RESIDENT (length d.held) ≡ full → RESIDENT ≤ e.entered
     by true is = omega (arith, leb-true RESIDENT (length d.held) is, levelled.level, levelled.sequenced)
     by false is = absurd (omega (arith, within, ap (λ b. length (if b then lacking_up_to d deltas (d.before + PAGE) else [])) is))
+
+-- a leave that was refused, as its lane tells it
+pub leave_fails : (moment : ℕ) (old new : Keeping) (before now : InMemory) (fault : EnterFault) → IsLevelled before.entries before.messages → LeavesFirst moment old new before now (Err fault) → LeaveDoes moment old new before now (Err (of_entering fault))
+leave_fails moment old new before now (entering.LogFailed note) levelled first = first
+leave_fails moment old new before now (entering.DeltaFailed note) levelled first = (first, needed_room before.entries before.messages old.deltas first.enters.does.1.count levelled first.enters.does.1.within)
+leave_fails moment old new before now entering.NoMemory levelled first = inr first
 
 -- ---- the loop
 

@@ -1,6 +1,8 @@
 -- The faults of a lane: which are the keeper's, and what a note of them tells.
 use Rattle.std.specs.Prelude.{⊤, ℕ}
 use Rattle.fluid_deltas.specs.Ranges.{IsNoted}
+use Rattle.fluid_document.specs.declared.fault.EnterFault.{EnterFault}
+use Rattle.fluid_document.specs.declared.fault.EnterFault.TheVariants as entering
 use Rattle.fluid_document.specs.declared.fault.LoadFault.{LoadFault}
 use Rattle.fluid_document.specs.declared.fault.LoadFault.TheVariants as loading
 use Rattle.fluid_lane.specs.declared.fault.LaneFault.{LaneFault}
@@ -14,6 +16,12 @@ of_loading loading.NoMemory = NoMemory
 of_loading (loading.BadRecord place) = BadRecord place
 of_loading (loading.BadCheckpoint number fault) = BadCheckpoint number fault
 of_loading loading.Worn = Worn
+
+-- a fault of an entry, as one of its lane
+abbrev pub of_entering : EnterFault → LaneFault
+of_entering (entering.LogFailed note) = LogFailed note
+of_entering (entering.DeltaFailed note) = DeltaFailed note
+of_entering entering.NoMemory = NoMemory
 
 -- a fault of the keeper has the counts that were read round the call that failed
 abbrev pub IsCausedBy : (before now : ℕ) → LaneFault → Type 0

@@ -18,6 +18,7 @@ use Rattle.fluid_document.specs.declared.fault.LoadFault.TheVariants as loading
 use Rattle.fluid_document.specs.Entries.{Entries, InMemory, most, taken_up}
 use Rattle.fluid_document.specs.Entry.{EntersBy}
 use Rattle.fluid_document.specs.Loading.{loaded, newest, ReadsBehind}
+use Rattle.fluid_document.specs.Puts.{PutsFirst, PutsEarly, PutsFew}
 use Rattle.fluid_document.specs.Kept.{records, IsKept}
 use Rattle.fluid_rules.specs.declared.limits.Limits.{Limits}
 use Rattle.fluid_lane.specs.declared.fault.LaneFault.{LaneFault}
@@ -90,6 +91,8 @@ pub record HasLeft (moment : ℕ) (old new : Keeping) (before now : InMemory) : 
   pub later : old.faults ≤ new.faults
   pub reads : new.reads ≡ old.reads
   pub reached : now.messages.before ≤ new.deltas
+  pub early : PutsEarly before.messages.before now.messages.before old new
+  pub lacked : PutsFew now.entries.entered old new
   pub stands : (l : Ledger) → Tells old.content (IsFor false before.entries before.messages l) → Tells new.content (IsFor false now.entries now.messages (l ++ done))
 
 -- some, and not all
@@ -146,6 +149,9 @@ pub record Starts (old : Keeping) (limits : Limits) (moment : ℕ) (new : Standi
   -- exactly the records behind the newest checkpoint were read
   pub reads : Tells old.content (ReadsBehind (newest old.checkpoints) old.records old.reads new.keeping.reads)
   pub fresh : IsFresh old limits new
+  -- the deltas that are put are those that the keeper lacked before the messages that are in memory then
+  pub early : PutsFirst new.messages.before old new.keeping
+  pub lacked : PutsFew new.entries.entered old new.keeping
 
 -- the keeper that comes back with a fault is kept for the ledger with some of the leaves, that of a failed append among them
 pub record LeftSome (moment : ℕ) (l : Ledger) (content : Content) : Type 0 where
@@ -196,7 +202,8 @@ Adds moment old added (BadRecord place) = added ≡ []
 Adds moment old added (BadCheckpoint number fault) = added ≡ []
 Adds moment old added other = (added ≡ []) ⊎ StopsAtLeave moment old added other
 
--- nothing that a kept keeper gives is refused. Behind the old records stand those of some leaves, and perhaps some deltas were put
+-- nothing that a kept keeper gives is refused. Behind the old records stand those of some leaves, and perhaps some deltas were
+-- put, at most those behind which as many records stand as messages are in memory without a page
 pub record StartsPartly (old new : Keeping) (moment : ℕ) (fault : LaneFault) : Type 0 where
   pub left : (l : Ledger) → Tells old.content (IsKept false l) → Tells new.content (LeftSome moment l)
   pub never : (l : Ledger) → Tells old.content (IsKept false l) → Tells old.content (λ _. IsNotBad fault)
@@ -206,3 +213,4 @@ pub record StartsPartly (old new : Keeping) (moment : ℕ) (fault : LaneFault) :
   pub added : Ledger
   pub grew : Grew (records added) old new
   pub adds : Adds moment old added fault
+  pub lacked : PutsFew new.records old new

@@ -1,10 +1,10 @@
 //! Why a call on a lane is refused.
 ghost use Rattle.std.specs.Prelude.{◌≡◌, IfOk};
 ghost use Rattle.fluid_lane.specs.declared.fault.LaneFault.TheVariants.{NoMemory as LaneNoMemory};
-ghost use Rattle.fluid_lane.specs.Faults.{of_loading};
+ghost use Rattle.fluid_lane.specs.Faults.{of_entering, of_loading};
 
 use fluid_checkpoint::CheckpointFault;
-use fluid_document::LoadFault;
+use fluid_document::{EnterFault, LoadFault};
 use fluid_io::FaultNote;
 use fluid_json::NoMemory;
 use std::alloc::Global;
@@ -54,7 +54,7 @@ impl LaneFault {
             LaneFault::DeltaFailed(note) => LaneFault::DeltaFailed(*note),
             LaneFault::NoMemory => LaneFault::NoMemory,
             LaneFault::BadCheckpoint(number, fault) => {
-                LaneFault::BadCheckpoint(*number, copied(alloc, fault)?)
+                LaneFault::BadCheckpoint(*number, fault.copy(alloc)?)
             }
             LaneFault::TooLarge(bytes) => LaneFault::TooLarge(*bytes),
             LaneFault::Worn => LaneFault::Worn,
@@ -63,26 +63,23 @@ impl LaneFault {
     }
 }
 
-// The same reason with its own memory.
-fn copied(alloc: Global, fault: &CheckpointFault) -> Result<CheckpointFault, NoMemory>
-    ensures { IfOk result (λ copy. copy ≡ fault.now) }
-{
-    match fault {
-        CheckpointFault::BadText => Ok(CheckpointFault::BadText),
-        CheckpointFault::BadField(name) => {
-            let name = name.copy(alloc)?;
-            Ok(CheckpointFault::BadField(name))
-        }
-        CheckpointFault::Version(version) => Ok(CheckpointFault::Version(*version)),
-        CheckpointFault::NoMemory => Ok(CheckpointFault::NoMemory),
-    }
-}
-
 impl From<NoMemory> for LaneFault {
     ghost from_gives = { λ _ fault. fault ≡ LaneNoMemory };
 
     fn from(_refused: NoMemory) -> LaneFault {
         LaneFault::NoMemory
+    }
+}
+
+impl From<EnterFault> for LaneFault {
+    ghost from_gives = { λ fault lane. lane ≡ of_entering fault };
+
+    fn from(fault: EnterFault) -> LaneFault {
+        match fault {
+            EnterFault::LogFailed(note) => LaneFault::LogFailed(note),
+            EnterFault::DeltaFailed(note) => LaneFault::DeltaFailed(note),
+            EnterFault::NoMemory => LaneFault::NoMemory,
+        }
     }
 }
 

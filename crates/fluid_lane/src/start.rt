@@ -10,7 +10,7 @@ ghost use Rattle.fluid_lane.specs.Starting.{LeaveDoes, LeavesAll, Starts, Starts
 
 use crate::LaneFault;
 use crate::lane::Lane;
-use fluid_document::{Document, EnterFault, MOST, kept_is_loaded, load, take_in};
+use fluid_document::{Document, MOST, kept_is_loaded, load, take_in};
 use fluid_json::NoMemory;
 use fluid_log::Keeper;
 use fluid_rules::Limits;
@@ -102,12 +102,8 @@ fn dismiss_first<K: Keeper>(
     }
     let id = joined_id(alloc, document, 0)?;
     let raw = Raw::Leave { id, moment };
-    match take_in(alloc, keeper, document, &raw) {
-        Ok(()) => Ok(()),
-        Err(EnterFault::LogFailed(note)) => Err(LaneFault::LogFailed(note)),
-        Err(EnterFault::DeltaFailed(note)) => Err(LaneFault::DeltaFailed(note)),
-        Err(EnterFault::NoMemory) => Err(LaneFault::NoMemory),
-    }
+    take_in(alloc, keeper, document, &raw)?;
+    Ok(())
 }
 
 // The joined id in this place once more.

@@ -1,18 +1,14 @@
 -- The documents that are open, by name, and the shelves from which their keepers are out.
-use Rattle.std.specs.Prelude.{◌≡◌, ℕ, ◌≤◌, Bool, List, Option, is_some, refl}
-use Rattle.std.specs.Coded.{Coded, code_by, coded×, coded_ℕ, coded_bool, coded_option}
+use Rattle.std.specs.Prelude.{◌≡◌, ℕ, ◌≤◌, List, is_some, refl}
+use Rattle.std.specs.Coded.{Coded, code_by, coded×}
 use Rattle.std.specs.FinMap.{empty, get, insert, len}
 use Rattle.fluid_table.specs.Table.{Values, values_code}
 use Rattle.fluid_log.specs.declared.keeper.TheConstants.{LONGEST_KEPT}
 use Rattle.fluid_log.specs.Shelving.{Shelving}
-use Rattle.fluid_log.specs.Keeping.{Keeping}
-use Rattle.fluid_log.specs.Codes.{keeping_code, shelving_code}
-use Rattle.fluid_deltas.specs.Pushed.{Pushed, pushed_code}
-use Rattle.fluid_document.specs.Entries.{Entries, entries_code}
+use Rattle.fluid_log.specs.Codes.{shelving_code}
 use Rattle.fluid_rules.specs.declared.limits.Limits.{Limits}
 use Rattle.fluid_rules.specs.contracts.limits.Limits as limits
-use Rattle.fluid_lane.specs.declared.steps.Side.{Side}
-use Rattle.fluid_lane.specs.contracts.steps.Side as sides
+use Rattle.fluid_lane.specs.Codes.{standing_code}
 use Rattle.fluid_lane.specs.Standing.{Standing}
 
 pub record Opened : Type 0 where
@@ -22,18 +18,9 @@ pub record Opened : Type 0 where
   -- the limits of each document
   pub limits : Limits
 
--- a lane as a tuple of its parts
-abbrev lane_code : Coded Standing
-lane_code =
-    code_by (Keeping × (Entries × (Pushed × (Limits × (ℕ × (ℕ × (Option Side × Bool)))))))
-    (coded× keeping_code (coded× entries_code (coded× pushed_code (coded× limits.the_row.coded (coded× coded_ℕ (coded× coded_ℕ (coded× (coded_option sides.the_row.coded) coded_bool)))))))
-    (λ s. (s.keeping, (s.entries, (s.messages, (s.limits, (s.opened, (s.sides, (s.last, s.owed))))))))
-    (λ p. record { keeping = p.0; entries = p.1.0; messages = p.1.1.0; limits = p.1.1.1.0; opened = p.1.1.1.1.0; sides = p.1.1.1.1.1.0; last = p.1.1.1.1.1.1.0; owed = p.1.1.1.1.1.1.1 })
-    (λ _. refl)
-
 abbrev pub opened_code : Coded Opened
 opened_code =
-    code_by (Shelving × (Values Standing × Limits)) (coded× shelving_code (coded× (values_code Standing lane_code) limits.the_row.coded))
+    code_by (Shelving × (Values Standing × Limits)) (coded× shelving_code (coded× (values_code Standing standing_code) limits.the_row.coded))
     (λ o. (o.shelving, (o.lanes, o.limits))) (λ p. record { shelving = p.0; lanes = p.1.0; limits = p.1.1 }) (λ _. refl)
 
 -- no document is open

@@ -3,8 +3,8 @@ use Rattle.fluid_types.specs.Ledger.{messages_of}
 use Rattle.fluid_document.proofs.Growing.{goes_nowhere, first_behind}
 use Rattle.fluid_document.proofs.document.push.Goals as goal
 
-pub returns-in-Sequenced : goal.returns-in-Sequenced
-returns-in-Sequenced c =
+pub returns-in-Sequenced-clause-goes : goal.returns-in-Sequenced-clause-goes
+returns-in-Sequenced-clause-goes c =
     rw c.in-Sequenced.is
     (record {
       before = c.push.ensures.before;
@@ -13,11 +13,11 @@ returns-in-Sequenced c =
       part = λ order rest at part. c.push.ensures.part order (first_behind _ order _ rest at) part;
     })
 
-pub returns-in-Nacked : goal.returns-in-Nacked
-returns-in-Nacked c = goes_nowhere _ _ _ (ap messages_of c.in-Nacked.is) refl refl
+pub returns-in-Nacked-clause-goes : goal.returns-in-Nacked-clause-goes
+returns-in-Nacked-clause-goes c = goes_nowhere _ _ _ (ap messages_of c.in-Nacked.is) refl refl
 
-pub returns-in-Dropped : goal.returns-in-Dropped
-returns-in-Dropped c = goes_nowhere _ _ _ (ap messages_of c.in-Dropped.is) refl refl
+pub returns-in-Dropped-clause-goes : goal.returns-in-Dropped-clause-goes
+returns-in-Dropped-clause-goes c = goes_nowhere _ _ _ (ap messages_of c.in-Dropped.is) refl refl
 
-pub returns : goal.returns
-returns c = goes_nowhere _ _ _ (ap messages_of c.in-Absorbed.is) refl refl
+pub returns-in-Absorbed-clause-goes : goal.returns-in-Absorbed-clause-goes
+returns-in-Absorbed-clause-goes c = goes_nowhere _ _ _ (ap messages_of c.in-Absorbed.is) refl refl

@@ -34,7 +34,7 @@ returns-in-Ok-dismiss_all-clause-ok g c =
     let loads = subst (λ number. Tells old.content (λ content. loaded content number ≡ Ok c.in-Ok.document.entries)) from e.loaded in
     subst (Starts old c.args.limits c.args.moment) (sym c.begun.ensures)
     (starts c.args.moment old (g.K.Keeper.seen c.load.new.keeper) (g.K.Keeper.seen c.dismiss_all.new.keeper) c.args.limits c.in-Ok.document c.dismiss_all.new.document c.checkpoints-opened.result
-    (record { law = c.kept_is_loaded.ensures.checkpoints; sized = g.K.Keeper.sized c.args.keeper; puts = e.puts; later = e.later; level = e.level.0; loads = loads; kept = e.kept }) d.does.0 d.does.1
+    (record { law = c.kept_is_loaded.ensures.checkpoints; sized = g.K.Keeper.sized c.args.keeper; puts = e.puts; later = e.later; level = e.level.0; early = e.early; lacked = e.lacked; loads = loads; kept = e.kept }) d.does.0 d.does.1
     c.checkpoints-opened.ensures (subst (λ number. Tells old.content (ReadsBehind number old.records old.reads (g.K.Keeper.seen c.load.new.keeper).reads)) from e.reads))
 
 pub returns-in-Err-dismiss_all-clause-err : goal.returns-in-Err-dismiss_all-clause-err
@@ -44,7 +44,7 @@ returns-in-Err-dismiss_all-clause-err g c =
     let old = g.K.Keeper.seen c.args.keeper in
     let from = c.newest-newest.ensures ∙ ap newest c.checkpoints-opened.ensures in
     let loads = subst (λ number. Tells old.content (λ content. loaded content number ≡ Ok c.in-Ok.document.entries)) from e.loaded in
-    let opens : Opens (g.K.Keeper.seen c.args.keeper) (g.K.Keeper.seen c.load.new.keeper) c.in-Ok.document = record { law = c.kept_is_loaded.ensures.checkpoints; sized = g.K.Keeper.sized c.args.keeper; puts = e.puts; later = e.later; level = e.level.0; loads = loads; kept = e.kept } in
+    let opens : Opens (g.K.Keeper.seen c.args.keeper) (g.K.Keeper.seen c.load.new.keeper) c.in-Ok.document = record { law = c.kept_is_loaded.ensures.checkpoints; sized = g.K.Keeper.sized c.args.keeper; puts = e.puts; later = e.later; level = e.level.0; early = e.early; lacked = e.lacked; loads = loads; kept = e.kept } in
     let new = g.K.Keeper.seen c.dismiss_all.new.keeper in
     let short = cut_short c.args.moment old (g.K.Keeper.seen c.load.new.keeper) new c.in-Ok.document c.dismiss_all.new.document c.in-Err-dismiss_all.fault opens d.does in
     let faults = faults_behind c.args.moment old (g.K.Keeper.seen c.load.new.keeper) new c.in-Ok.document c.dismiss_all.new.document c.in-Err-dismiss_all.fault opens d.does short in
@@ -57,6 +57,7 @@ returns-in-Err-dismiss_all-clause-err g c =
       added = short.added;
       grew = short.grew;
       adds = faults.1.adds;
+      lacked = short.lacked;
     }
 
 pub returns-in-Err-clause-err : goal.returns-in-Err-clause-err
@@ -76,4 +77,5 @@ returns-in-Err-clause-err g c =
       added = [];
       grew = grew_put e.puts.messages old (g.K.Keeper.seen c.load.new.keeper) e.puts.kept;
       adds = faults.1.adds;
+      lacked = omega (arith, e.lacked, e.puts.kept.records);
     })
