@@ -36,6 +36,9 @@ pub enum Call {
     // Of a client that may only write, at the moment 5.
     Writer,
     Op(u64, i64),
+    // Operations with the client numbers from the first on, up to but without the second, all of reference 1. The last one's answer
+    // is told.
+    Ops(u64, u64),
     Summarize(u64, i64),
     Leave,
     Job,
@@ -186,6 +189,21 @@ fn operate(
         r#"{{"clientId":"c0","moment":5,"operation":{{"clientSequenceNumber":{number},"contents":{contents},"referenceSequenceNumber":{reference},"type":"{kind}"}},"raw":"submit"}}"#
     ).expect(rt, "memory");
     submit(rt, alloc, lane, text.as_str())
+}
+
+// Submits operations of c0 one after another.
+fn operate_often(
+    rt: &impl Abort,
+    alloc: Global,
+    lane: &mut Lane<MemoryKeeper>,
+    first: u64,
+    end: u64,
+) -> String {
+    let mut told = String::new(alloc);
+    for number in first..end {
+        told = operate(rt, alloc, lane, "op", "null", number, 1);
+    }
+    told
 }
 
 // The scopes and the detail of a client that connects by this text: under any id its join fits a log.
@@ -375,6 +393,7 @@ fn entering(rt: &impl Abort, alloc: Global, lane: &mut Lane<MemoryKeeper>, call:
         Call::Join => join(rt, alloc, lane, CONNECT, 4),
         Call::Writer => join(rt, alloc, lane, CONNECT_WRITER, 5),
         Call::Op(number, reference) => operate(rt, alloc, lane, "op", "null", number, reference),
+        Call::Ops(first, end) => operate_often(rt, alloc, lane, first, end),
         Call::Summarize(number, reference) => {
             operate(rt, alloc, lane, "summarize", PROPOSAL, number, reference)
         }

@@ -200,6 +200,75 @@ const LIVES: &[(u64, &[u64], &[u64], &[Call], &str, Counts)] = &[
         "begun; c0 1/0; LogFailed(0, 1); begun; c3 4/3; 0 found, 0 sides, last None",
         (4, 0, 0, 2, 1),
     ),
+    // a sweep whose append fails, with and without its record, owes a cut, which comes before the next append
+    (
+        3,
+        &[2],
+        &[2],
+        &[
+            Call::Start,
+            Call::Join,
+            Call::Sweep(9, 2),
+            Call::State,
+            Call::Sweep(9, 2),
+            Call::Sides,
+        ],
+        "begun; c0 1/0; LogFailed(0, 1); 1 entries, 1/0, 0 acks, 1 clients; swept c0 2/2; \
+            0 found, 1 sides, last Some(Failed(FaultNote { before: 0, after: 1 }))",
+        (2, 0, 0, 0, 1),
+    ),
+    (
+        3,
+        &[2],
+        &[],
+        &[
+            Call::Start,
+            Call::Join,
+            Call::Sweep(9, 2),
+            Call::Sweep(9, 2),
+        ],
+        "begun; c0 1/0; LogFailed(0, 1); swept c0 2/2",
+        (2, 0, 0, 0, 1),
+    ),
+    (
+        3,
+        &[2, 3],
+        &[2],
+        &[
+            Call::Start,
+            Call::Join,
+            Call::Sweep(9, 2),
+            Call::Sweep(9, 2),
+            Call::Sweep(9, 2),
+            Call::Sides,
+        ],
+        "begun; c0 1/0; LogFailed(0, 1); LogFailed(1, 2); swept c0 2/2; \
+            0 found, 2 sides, last Some(Failed(FaultNote { before: 1, after: 2 }))",
+        (2, 0, 0, 0, 2),
+    ),
+    // where nobody is silent none is made, and an operation that wasn't entered wasn't heard
+    (
+        3,
+        &[2],
+        &[2],
+        &[Call::Start, Call::Join, Call::Op(1, 1), Call::Sweep(6, 2)],
+        "begun; c0 1/0; LogFailed(0, 1); swept none",
+        (2, 0, 0, 0, 1),
+    ),
+    (
+        3,
+        &[2],
+        &[2],
+        &[
+            Call::Start,
+            Call::Join,
+            Call::Op(1, 1),
+            Call::Sweep(7, 2),
+            Call::State,
+        ],
+        "begun; c0 1/0; LogFailed(0, 1); swept c0 2/2; 2 entries, 2/2, 0 acks, 0 clients",
+        (2, 0, 0, 0, 1),
+    ),
     // a range needs no cut and makes none
     (
         3,
