@@ -16,7 +16,7 @@ use Rattle.fluid_deltas.specs.Pushed.{StandIn}
 use Rattle.fluid_deltas.specs.Flushes.{put_behind}
 use Rattle.fluid_deltas.proofs.Telling.{tells_each, tells_both, tells_along}
 use Rattle.fluid_document.specs.declared.fault.LoadFault.{LoadFault}
-use Rattle.fluid_document.specs.declared.fault.LoadFault.TheVariants.{LogFailed, DeltaFailed, NoMemory, BadRecord, Worn}
+use Rattle.fluid_document.specs.declared.fault.LoadFault.TheVariants.{LogFailed, DeltaFailed, NoMemory, BadRecord, BadCheckpoint, Worn}
 use Rattle.fluid_document.specs.Entries.{Entries, InMemory, most, taken_up}
 use Rattle.fluid_document.specs.Kept.{IsKept}
 use Rattle.fluid_document.specs.Loading.{record_in, with_record, log_folded, IsRecord, DecodesAs, IsBadAs, IsLoadFault, HasRead, PutsDeltas}
@@ -110,8 +110,10 @@ taken-entered e raw = refl
 pub cause_behind : (records mid_records before mid now : ℕ) (fault : LoadFault) → mid_records ≡ records → before ≤ mid → IsLoadFault mid_records mid now fault → IsLoadFault records before now fault
 cause_behind records mid_records before mid now (LogFailed note) same le is = record { first = omega (arith, le, is.first); last = is.last; rose = is.rose }
 cause_behind records mid_records before mid now (DeltaFailed note) same le is = (record { first = omega (arith, le, is.0.first); last = is.0.last; rose = is.0.rose }, omega (arith, same, is.1))
+cause_behind records mid_records before mid now NoMemory same le is = tt
+cause_behind records mid_records before mid now (BadRecord place) same le is = tt
+cause_behind records mid_records before mid now (BadCheckpoint number fault) same le is = tt
 cause_behind records mid_records before mid now Worn same le is = omega (arith, same, is)
-cause_behind records mid_records before mid now fault same le is = tt
 
 read_one : (n before mid now m : ℕ) → m ≡ n + 1 → HasRead n before mid → HasRead 1 mid now → before + m < 2 ^ 64 → now ≡ before + m
 read_one n before mid now m is first next bound =

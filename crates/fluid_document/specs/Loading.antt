@@ -108,8 +108,10 @@ newest count = if nat_le count 0 then None else Some (count - 1)
 abbrev pub IsLoadFault : (records before now : ℕ) → LoadFault → Type 0
 IsLoadFault records before now (LogFailed note) = IsNoted before now note
 IsLoadFault records before now (DeltaFailed note) = IsNoted before now note × (RESIDENT ≤ records)
+IsLoadFault records before now NoMemory = ⊤
+IsLoadFault records before now (BadRecord place) = ⊤
+IsLoadFault records before now (BadCheckpoint number fault) = ⊤
 IsLoadFault records before now Worn = most < records
-IsLoadFault records before now other = ⊤
 
 -- a fault of what is kept is the definition's. Want of memory and a keeper that failed may come before it
 abbrev pub IsBadAs : {A : Type 0} → Result A LoadFault → LoadFault → Type 0

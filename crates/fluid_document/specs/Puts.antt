@@ -37,7 +37,7 @@ PutsFirst before old new = new.deltas ≡ old.deltas + (before - old.deltas)
 abbrev pub PutsEarly : (before now : ℕ) → Keeping → Keeping → Type 0
 PutsEarly before now old new = (before ≤ now) × PutsFirst now old new
 
--- only such behind which so many entries stand as messages are in memory without a page
+-- of so many entries no delta is put above their number less the messages that are in memory without a page
 abbrev pub PutsFew : (entered : ℕ) → Keeping → Keeping → Type 0
 PutsFew entered old new = new.deltas ≤ old.deltas + (entered - (RESIDENT - PAGE) - old.deltas)
 

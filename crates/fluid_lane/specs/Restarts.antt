@@ -64,8 +64,8 @@ pub record Restarts {A : Type 0} (number : ℕ) (old new : Standing) (result : R
   pub cause : IfErr result (IsCausedBy old.keeping.faults new.keeping.faults)
   pub kept : RestartKept old new result
   pub loads : Tells (cut_back old).content (RestartsBy number old new result)
-  -- the deltas that are put are those that the keeper lacked before the messages that are in memory then, and after a fault at most
-  -- those behind which so many entries stand
+  -- the deltas that are put are those that the keeper lacked before the messages that are in memory then, and after a fault none
+  -- above the number of entries less the messages that are in memory without a page
   pub early : OnOk result (PutsFirst new.messages.before old.keeping new.keeping)
   pub lacked : PutsFew old.entries.entered old.keeping new.keeping
   pub at_deltas : IfErr result (IsAtDeltas old.entries.entered)

@@ -203,7 +203,7 @@ Adds moment old added (BadCheckpoint number fault) = added ≡ []
 Adds moment old added other = (added ≡ []) ⊎ StopsAtLeave moment old added other
 
 -- nothing that a kept keeper gives is refused. Behind the old records stand those of some leaves, and perhaps some deltas were
--- put, at most those behind which as many records stand as messages are in memory without a page
+-- put, none above the number of records less the messages that are in memory without a page
 pub record StartsPartly (old new : Keeping) (moment : ℕ) (fault : LaneFault) : Type 0 where
   pub left : (l : Ledger) → Tells old.content (IsKept false l) → Tells new.content (LeftSome moment l)
   pub never : (l : Ledger) → Tells old.content (IsKept false l) → Tells old.content (λ _. IsNotBad fault)

@@ -36,7 +36,7 @@ const BAY_COUNT: u64 = 64;
 
 pub(crate) const WORDS: usize = 69;
 
-// How often a waiter looks before it sleeps while nobody else sleeps, some six microseconds: no longer than it takes until one that
+// How often a waiter looks before it sleeps while nobody else sleeps, some seven microseconds: no longer than it takes until one that
 // was woken runs.
 const LOOKS: u64 = 1000;
 
