@@ -95,8 +95,7 @@ fn reason_of(fault: &LaneFault) -> &'static str {
     }
 }
 
-// A fault in words.
-pub fn named(rt: &impl Abort, alloc: Global, fault: &LaneFault) -> String {
+fn spelled(rt: &impl Abort, alloc: Global, fault: &LaneFault) -> String {
     let reason = reason_of(fault);
     let told = match parts(fault) {
         (name, Some(first), Some(second)) => format!(in alloc; "{name}({first}, {second})"),
@@ -104,6 +103,14 @@ pub fn named(rt: &impl Abort, alloc: Global, fault: &LaneFault) -> String {
         (name, None, _) => format!(in alloc; "{name}"),
     };
     told.expect(rt, "memory")
+}
+
+// A fault in words. They are those of its copy, so that whatever is answered is copied too.
+pub fn named(rt: &impl Abort, alloc: Global, fault: &LaneFault) -> String {
+    let copy = fault.copy(alloc).expect(rt, "memory");
+    let told = spelled(rt, alloc, &copy);
+    drop(copy);
+    told
 }
 
 // The note of a fault that has one.

@@ -38,8 +38,8 @@ fn damaged(rt: &impl Abort, alloc: Global, record: &str, older: &str, newer: &st
     keeper
 }
 
-// Checkpoints of version 1 of one entry and of three, and of version 2: of no entry, of three, of one with two messages, of one
-// with one message.
+// Checkpoints of version 1 of one entry and of three, and of version 2: of no entry, the same with a client that never joined, of
+// three entries, of one with two messages, of one with one message.
 const FIRST: &str =
     r#"{"acks":[],"base":{"attributes":{"minimumSequenceNumber":0,"sequenceNumber":0},"quorumMembers":[],"quorumProposals":[],"quorumValues":[]},"behind":[{"clientId":null,"clientSequenceNumber":-1,"contents":null,"data":"{\"clientId\":\"c0\",\"detail\":null}","minimumSequenceNumber":0,"referenceSequenceNumber":-1,"sequenceNumber":1,"timestamp":5,"type":"join"}],"clients":[{"id":"c0","last":0,"nacked":false,"reference":0,"scopes":["doc:write"]}],"counted":1,"entered":1,"minima":[],"minimum":0,"pending":[],"sequence":1,"version":1}"#;
 
@@ -48,6 +48,9 @@ const FIRST_OF_THREE: &str =
 
 const NOTHING: &str =
     r#"{"acks":[],"base":{"attributes":{"minimumSequenceNumber":0,"sequenceNumber":0},"quorumMembers":[],"quorumProposals":[],"quorumValues":[]},"behind":[],"clients":[],"counted":0,"entered":0,"heard":[],"minima":[],"minimum":0,"pending":[],"sequence":0,"version":2}"#;
+
+const NEVER_JOINED: &str =
+    r#"{"acks":[],"base":{"attributes":{"minimumSequenceNumber":0,"sequenceNumber":0},"quorumMembers":[],"quorumProposals":[],"quorumValues":[]},"behind":[],"clients":[{"id":"c9","last":0,"nacked":false,"reference":0,"scopes":["doc:write"]}],"counted":0,"entered":0,"heard":[{"id":"c9","moment":5}],"minima":[],"minimum":0,"pending":[],"sequence":0,"version":2}"#;
 
 const THREE: &str =
     r#"{"acks":[],"base":{"attributes":{"minimumSequenceNumber":0,"sequenceNumber":0},"quorumMembers":[],"quorumProposals":[],"quorumValues":[]},"behind":[],"clients":[],"counted":1,"entered":3,"heard":[],"minima":[],"minimum":0,"pending":[],"sequence":0,"version":2}"#;
@@ -143,6 +146,15 @@ const DAMAGED: &[(&str, &str, &str, &[Call], &str, Counts)] = &[
         "begun; BadCheckpoint(0) BadText; restarted 1; c3 4/3; 4 entries, 4/3, 0 acks, 1 clients; \
             2 found, 1 sides, last Some(Restarted(1))",
         (4, 0, 2, 5, 0),
+    ),
+    // a client that is joined by the checkpoint and by no entry
+    (
+        "",
+        NEVER_JOINED,
+        FIRST,
+        &[Call::Start, Call::Restart(0), Call::State],
+        "begun; BadCheckpoint(0) BadField(clients); 3 entries, 3/3, 0 acks, 0 clients",
+        (3, 0, 2, 5, 0),
     ),
     // a join that the checkpoint doesn't know of: over its entries nobody else is joined
     (
