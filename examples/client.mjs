@@ -10,8 +10,8 @@ import { isDeepStrictEqual } from "node:util";
 const require = createRequire(import.meta.url);
 const load = (...places) => { try { return require(places[0]); } catch { return require(places[1]); } };
 const Socket = globalThis.WebSocket ?? load("ws", "/usr/share/nodejs/ws");
-const [name, place = "7070"] = process.argv.slice(2);
-if (name === undefined || !/^\d+$|:\/\//.test(place)) {
+const [name, place = "7070", ...further] = process.argv.slice(2);
+if (name === undefined || further.length > 0 || !/^\d+$|:\/\//.test(place)) {
   console.error("usage: examples/client.mjs DOCUMENT [PORT or URL]");
   process.exit(2);
 }
@@ -101,8 +101,10 @@ come();
 setInterval(() => { if (id !== null && isReady) submit("noop", null); }, 60000);
 createInterface({ input: process.stdin }).on("line", (line) => {
   if (line.trim() === "") return;
-  const [key, value = ""] = line.split(/=(.*)/s).map((part) => part.trim());
-  const body = /^[+-]\d{1,15}$/.test(key)
+  const [key, value] = line.split(/=(.*)/s).map((part) => part.trim());
+  const isCount = /^[+-]\d{1,15}$/.test(key);
+  if (!isCount && value === undefined) return console.log("-- KEY = VALUE, +N or -N; left out");
+  const body = isCount
     ? { address: "count", contents: { type: "increment", incrementAmount: Number(key) } }
     : { address: "board", contents: { type: "set", key, value: { type: "Plain", value } } };
   // a text beyond maxMessageSize ends the line, and would end each one after it

@@ -83,10 +83,12 @@ class Client:
             await asyncio.sleep(1)
 
     async def type(self, line):
-        key, _, value = (part.strip() for part in line.partition("="))
+        key, equals, value = (part.strip() for part in line.partition("="))
         body = {"address": "board", "contents": {"type": "set", "key": key, "value": {"type": "Plain", "value": value}}}
         if key[:1] in ("+", "-") and key[1:].isdecimal() and len(key) < 17:
             body = {"address": "count", "contents": {"type": "increment", "incrementAmount": int(key)}}
+        elif not equals:
+            return print("-- KEY = VALUE, +N or -N; left out", flush=True)
         if len(json.dumps(body)) > 1_000_000:  # a text beyond maxMessageSize ends the line, and would end each one after it
             return print("-- too long, left out", flush=True)
         self.edits.append([body, None])
