@@ -1,7 +1,9 @@
 -- A link over a list of messages and objects in memory.
-use Rattle.std.specs.Prelude.{◌≡◌, ◌⊎◌, ℕ, ◌==◌, ◌+◌, ◌-◌, ◌^◌, ◌≤◌, Bool, true, false, not, ◌&&◌, if◌then◌else◌, List, [], ◌∷◌, ◌++◌, length, drop, Option, Some, None, option_map, find, bytes_eq, Result, Ok, Err}
+use Rattle.std.specs.Prelude.{◌≡◌, ℕ, ◌==◌, ◌+◌, ◌-◌, ◌^◌, ◌≤◌, nat_lt, nat_le, Bool, true, false, not, ◌&&◌, if◌then◌else◌, List, ◌++◌, length, drop, Option, Some, None, option_map, option_and_then, option_to_list, is_some, find, bytes_eq, Result, Ok, Err}
 use Rattle.std.specs.List.{list_any}
+use Rattle.std.specs.Result.{result_ok}
 use Rattle.fluid_io.specs.Causes.{Rose}
+use Rattle.fluid_types.specs.Messages.{message_spelled}
 use Rattle.fluid_types.specs.Order.{AreNumberedFrom}
 use Rattle.fluid_types.specs.Printed.{message_printed}
 use Rattle.fluid_rules.specs.Scribe.{answers, is_summarize, reference_of}
@@ -23,14 +25,22 @@ listed order held = record { order = order; held = held; ledger = None; limit = 
 
 -- ---- messages
 
--- the message with this text was put behind the others, or none was
-pub record IsAdded (text : List ℕ) (old new : List Message) : Type 0 where
-  pub message : Message
-  pub printed : message_printed message ≡ text
-  pub added : new ≡ old ++ message ∷ []
+-- a message goes behind so many others: it has the next number, of those below 2^53, and refers to none behind it
+abbrev pub is_next : ℕ → Message → Bool
+is_next count m = nat_lt count (2 ^ 53 - 1) && ((m.number == count + 1) && nat_le (reference_of m) m.number)
 
-abbrev pub IsPushed : List ℕ → List Message → List Message → Type 0
-IsPushed text old new = (new ≡ old) ⊎ IsAdded text old new
+-- it is put there by the text that is printed for it
+abbrev pub placed : ℕ → List ℕ → Message → Option Message
+placed count text m = if bytes_eq (message_printed m) text && is_next count m then Some m else None
+
+-- the message that a text puts behind so many others, of what it spells
+abbrev pub put_behind : ℕ → List ℕ → Option Message
+put_behind count text = option_and_then (placed count text) (result_ok (message_spelled text))
+
+-- what the text puts there, if anything, stands behind the others, and the answer is whether it puts one
+pub record IsPushed (text : List ℕ) (old new : List Message) (answer : Bool) : Type 0 where
+  pub added : new ≡ old ++ option_to_list (put_behind (length old) text)
+  pub answered : answer ≡ is_some (put_behind (length old) text)
 
 -- these are the messages of an order from a number on
 pub record IsTail (from : ℕ) (order messages : List Message) : Type 0 where

@@ -123,7 +123,8 @@ fn answered_by(message: &Message) -> Option<u64>
     u64::try_from(number).ok()
 }
 
-fn reference_of(message: &Message) -> u64
+/// The reference of a message, which isn't negative in an order.
+pub(crate) fn reference_of(message: &Message) -> u64
     ensures { result ≡ reference_of message.now }
 {
     u64::try_from(message.reference).unwrap_or(0)

@@ -1,17 +1,14 @@
 //! The messages of an order, in memory.
-ghost use Rattle.std.specs.Prelude.{◌≡◌, ◌<◌, ◌≤◌, ◌^◌, [], IsTrue, length, OnOk, OnErr};
-ghost use Rattle.fluid_rules.specs.Scribe.{reference_of};
+ghost use Rattle.std.specs.Prelude.{◌≡◌, ◌<◌, ◌^◌, [], length, IfOk, OnErr};
 ghost use Rattle.fluid_loader.specs.Link.{IsOrder};
-ghost use Rattle.fluid_loader.specs.Listed.{IsPushed};
+ghost use Rattle.fluid_loader.specs.Listed.{IsPushed, is_next};
 
+use crate::acknowledging::reference_of;
 use fluid_codec::{print_message, read_message};
 use fluid_json::{LARGEST, NoMemory};
 use fluid_types::{CodecFault, Message};
 use std::alloc::Global;
 use std::marker::Model;
-
-/// An order has at most so many messages.
-const MOST: usize = LARGEST as usize;
 
 /// The messages of an order: numbered one by one from 1, each is read back from its printed text, which is UTF-8, as itself, and
 /// none refers to one behind it. Contracts see the list.
@@ -55,9 +52,9 @@ impl Order {
     }
 
     /// Puts the message of a printed text behind the others, and answers whether it did: where this is the text that is
-    /// printed for it, it has the next number, and it refers to no message behind it.
+    /// printed for it, it has the next number, below 2^53, and it refers to no message behind it. Else nothing changes.
     pub fn push(&mut self, alloc: Global, text: &str) -> Result<bool, NoMemory>
-        ensures pushed { OnOk result (IsPushed text.now self.old self.new) }
+        ensures pushed { IfOk result (IsPushed text.now self.old self.new) }
         ensures unchanged { OnErr result (self.new ≡ self.old) }
     {
         let message = match read_message(alloc, text) {
@@ -66,8 +63,7 @@ impl Order {
             Err(_) => return Ok(false),
         };
         let printed = print_message(alloc, &message)?;
-        let count = self.messages.len();
-        if count >= MOST || printed.as_str() != text || !is_next(&message, count as u64 + 1) {
+        if printed.as_str() != text || !is_next(&message, self.messages.len() as u64) {
             return Ok(false);
         }
         self.messages.push(message)?;
@@ -75,9 +71,9 @@ impl Order {
     }
 }
 
-// The message has this number, and refers to none behind it.
-fn is_next(message: &Message, number: u64) -> bool
-    ensures { IsTrue result → (message.now.number ≡ number) × (reference_of message.now ≤ message.now.number) }
+// The message goes behind so many others.
+fn is_next(message: &Message, count: u64) -> bool
+    ensures { result ≡ is_next count message.now }
 {
-    message.number == number && u64::try_from(message.reference).unwrap_or(0) <= message.number
+    count < LARGEST && message.number == count + 1 && reference_of(message) <= message.number
 }
