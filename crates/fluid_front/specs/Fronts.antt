@@ -1,4 +1,4 @@
--- A front: what one `accept` does, by its answer.
+-- A front: what one `accept`, and what one `station`, does, by its answer.
 use Rattle.std.specs.Prelude.{◌≡◌, ℕ, ◌+◌, ◌≤◌, Option, Some, None, Result, Ok, Err}
 use Rattle.std.specs.Option.{option_map}
 use Rattle.fluid_io.specs.Causes.{Rose, Tells, one_more}
@@ -47,3 +47,9 @@ Accepts old new (Ok (Some wire)) = GivesWire old new
 Accepts old new (Ok None) = GivesNoMore old new
 Accepts old new (Err Failed) = FrontFails old new
 Accepts old new (Err NoMemory) = GivesNothing old new
+
+-- a station takes no wire, and where none can be had the front counts its fault
+abbrev pub Opens : {S : Type 0} → Fronting → Fronting → Result S FrontFault → Type 0
+Opens old new (Ok station) = new ≡ old
+Opens old new (Err Failed) = FrontFails old new
+Opens old new (Err NoMemory) = new ≡ old

@@ -1,8 +1,8 @@
 //! Where wires come from.
-ghost use Rattle.std.specs.Prelude.{◌≡◌, ℕ, ◌+◌, ◌-◌, ◌*◌, ◌^◌, ◌<◌, ◌≤◌};
+ghost use Rattle.std.specs.Prelude.{◌≡◌, ℕ, ◌+◌, ◌-◌, ◌*◌, ◌^◌, ◌<◌, ◌≤◌, IfErr};
 ghost use Rattle.std.specs.VecDeque.{deque_len};
 ghost use Rattle.fluid_io.specs.Causes.{HasCause};
-ghost use Rattle.fluid_front.specs.Fronts.{Accepts, CountsStay, Fronting, GivesNothing};
+ghost use Rattle.fluid_front.specs.Fronts.{Accepts, CountsStay, Fronting, GivesNothing, Opens};
 ghost use Rattle.fluid_front.specs.Memory.{memory_seen, FailsByPlan};
 ghost use Rattle.fluid_front.specs.declared.front.FrontFault.TheVariants.{NoMemory as FrontNoMemory};
 
@@ -72,7 +72,8 @@ pub trait Front {
 
     /// A new station. The wires that are given behind it wait in none of their calls: they have to be waited for at stations.
     fn station(&mut self, alloc: Global) -> Result<Self::S, FrontFault>
-        ensures { seen self.new ≡ seen self.old };
+        ensures counts { CountsStay (seen self.old) (seen self.new) }
+        ensures does { Opens (seen self.old) (seen self.new) result };
 }
 
 /// Wires in memory. It tells how many it has left.
@@ -153,8 +154,12 @@ impl<W: Wire> Front for MemoryFront<W> {
         }
     }
 
+    /// It fails for want of memory alone.
     fn station(&mut self, alloc: Global) -> Result<MemoryStation<W>, FrontFault>
-        ensures { memory_seen self.new ≡ memory_seen self.old }
+        ensures counts { CountsStay (memory_seen self.old) (memory_seen self.new) }
+        ensures does { Opens (memory_seen self.old) (memory_seen self.new) result }
+        ensures unchanged { self.new ≡ self.old }
+        ensures memory { IfErr result (λ fault. fault ≡ FrontNoMemory) }
     {
         Ok(MemoryStation::new(alloc)?)
     }

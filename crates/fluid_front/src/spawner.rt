@@ -1,5 +1,6 @@
 //! How the wires of a front are served: one job for each.
 ghost use Rattle.std.specs.Prelude.{◌≡◌, ℕ, ◌+◌, ◌-◌, ◌*◌, ◌^◌, ◌<◌, ◌≤◌, Bool, false};
+ghost use Rattle.fluid_front.specs.Fronts.{CountsStay, GivesNothing};
 ghost use Rattle.fluid_front.specs.Serving.{MayEnd, Refuses, Serves, is_threaded};
 
 use crate::attending::{Inbox, attend};
@@ -402,7 +403,8 @@ where
     F::W: Drop,
     F::S: Drop,
     F::B: Drop,
-    ensures { F.seen front.new ≡ F.seen front.old }
+    ensures counts { CountsStay (F.seen front.old) (F.seen front.new) }
+    ensures same { GivesNothing (F.seen front.old) (F.seen front.new) }
 {
     let mut desks = Vec::new(alloc);
     let mut inboxes = Vec::new(alloc);
@@ -427,7 +429,8 @@ where
     F::W: Drop,
     F::S: Drop,
     F::B: Drop,
-    ensures { F.seen front.new ≡ F.seen front.old }
+    ensures counts { CountsStay (F.seen front.old) (F.seen front.new) }
+    ensures same { GivesNothing (F.seen front.old) (F.seen front.new) }
 {
     let station = front.station(alloc)?;
     let bell = station.bell()?;

@@ -323,6 +323,13 @@ impl<N: Net + Clock + Copy + Drop, K: Sink> Front for TcpFront<N, K> {
 
     fn station(&mut self, alloc: Global) -> Result<TcpStation<N>, FrontFault> {
         self.stations = self.stations.saturating_add(1);
-        TcpStation::new(alloc, self.net, self.stations, self.tick())
+        match TcpStation::new(alloc, self.net, self.stations, self.tick()) {
+            Ok(station) => Ok(station),
+            Err(FrontFault::NoMemory) => Err(FrontFault::NoMemory),
+            Err(FrontFault::Failed) => {
+                self.faults = self.faults.saturating_add(1);
+                Err(FrontFault::Failed)
+            }
+        }
     }
 }

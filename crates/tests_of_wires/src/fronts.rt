@@ -298,43 +298,64 @@ impl Station<MemoryWire, MemoryBell> for Narrow {
     }
 }
 
-// A front that has so many such stations, and fails so behind them.
+// A front that has so many such stations, and fails so behind them. It counts its faults itself.
 #[derive(Drop)]
 struct NarrowFront {
     front: MemoryFront<MemoryWire>,
     stations: u64,
     fault: FrontFault,
+    faults: u64,
 }
 
 impl Model for NarrowFront {
-    ghost use Rattle.fluid_front.specs.Memory.{MemoryFronting};
+    ghost use Rattle.std.specs.Prelude.{Some};
+    ghost use Rattle.fluid_front.specs.Fronts.{Fronting};
 
-    ghost Value = { MemoryFronting };
+    ghost Value = { Fronting };
 
-    ghost view = { λ f. f.front };
+    ghost view = { λ f. record {
+      left = Some f.front.left;
+      given = f.front.given;
+      nones = f.front.nones;
+      faults = f.faults;
+    } };
 }
 
 impl Front for NarrowFront {
-    ghost use Rattle.fluid_front.specs.Memory.{memory_seen};
-
     type W = MemoryWire;
 
     type S = Narrow;
 
     type B = MemoryBell;
 
-    ghost seen = { memory_seen };
+    ghost seen = { λ f. f };
 
     fn listen<R: Wait>(&mut self, rt: &R, port: u16, lines: bool) -> Result<(), Failed> {
-        self.front.listen(rt, port, lines)
+        match self.front.listen(rt, port, lines) {
+            Ok(()) => Ok(()),
+            Err(Failed) => {
+                self.faults = self.faults.saturating_add(1);
+                Err(Failed)
+            }
+        }
     }
 
     fn accept<R: Wait>(&mut self, rt: &R, alloc: Global) -> Result<Option<MemoryWire>, FrontFault> {
-        self.front.accept(rt, alloc)
+        match self.front.accept(rt, alloc) {
+            Ok(given) => Ok(given),
+            Err(FrontFault::NoMemory) => Err(FrontFault::NoMemory),
+            Err(FrontFault::Failed) => {
+                self.faults = self.faults.saturating_add(1);
+                Err(FrontFault::Failed)
+            }
+        }
     }
 
     fn station(&mut self, alloc: Global) -> Result<Narrow, FrontFault> {
         if self.stations == 0 {
+            if self.fault == FrontFault::Failed {
+                self.faults = self.faults.saturating_add(1);
+            }
             return Err(self.fault);
         }
         self.stations = self.stations.saturating_sub(1);
@@ -369,6 +390,7 @@ fn a_wire_that_a_station_cannot_wait_for_has_its_job(rt: HostRuntime) -> Result<
             front: front_of(alloc, &["a", "b", "c"], &[])?,
             stations,
             fault,
+            faults: 0,
         };
         let notes = Notes::new(alloc);
         let (ended, _front) = StationSpawner::new(3).serve_all(
