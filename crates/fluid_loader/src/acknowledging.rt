@@ -123,7 +123,7 @@ fn answered_by(message: &Message) -> Option<u64>
     u64::try_from(number).ok()
 }
 
-/// The reference of a message, which isn't negative in an order.
+/// The reference of a message; that of a join, a leave or an answer, which is -1, counts as 0.
 pub(crate) fn reference_of(message: &Message) -> u64
     ensures { result ≡ reference_of message.now }
 {

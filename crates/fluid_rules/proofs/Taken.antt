@@ -1,5 +1,5 @@
 -- Submissions that are sequenced or absorbed: their numbers, their references, and what an absorbed one lifts the minimum to.
-use Rattle.std.proofs.Common.{◌≡◌, ℕ, ◌+◌, ◌≤◌, min, Bool, true, false, not, ◌&&◌, ◌||◌, List, [], ◌∷◌, ◌++◌, map, fold, filter, append-nil, Option, Some, None, is_some, option_map, refl, sym, ◌∙◌, ap, inl, inr, ◌⊎◌, arith, bytes_eq, nat_le, nat_lt, if◌then◌else◌}
+use Rattle.std.proofs.Common.{◌≡◌, ℕ, ◌+◌, ◌≤◌, min, Bool, true, false, not, ◌&&◌, ◌||◌, List, [], ◌∷◌, ◌++◌, map, fold, filter, append-nil, Option, Some, is_some, refl, sym, ◌∙◌, ap, inl, inr, arith, bytes_eq, nat_le, nat_lt, if◌then◌else◌}
 use Rattle.std.proofs.lemmas.Bool.{ltb-false, leb-false}
 use Rattle.fluid_types.specs.declared.entries.Raw.{Raw}
 use Rattle.fluid_types.specs.declared.entries.Raw.TheVariants.{Submit}
@@ -9,10 +9,10 @@ use Rattle.fluid_types.specs.declared.verdicts.Verdict.{Verdict}
 use Rattle.fluid_types.specs.declared.verdicts.Verdict.TheVariants.{Sequenced, Absorbed}
 use Rattle.fluid_types.specs.Ledger.{Ledger, order, seq}
 use Rattle.fluid_types.proofs.Ledgers.{order-push, seq-push}
-use Rattle.fluid_rules.specs.Past.{Client, IsLeast, has_id, client_behind, client_taking, client_heard, client_submitting, count_of, read_as}
-use Rattle.fluid_rules.specs.Rules.{is_joined, last_number, is_nacked, reference, scopes, heard, client, joined, minimum, lifted, message, is_duplicate, leaves_gap, is_nonexistent, submission_verdict, verdict}
+use Rattle.fluid_rules.specs.Past.{Client, IsLeast, has_id, client_taking, client_heard, client_submitting, count_of, read_as}
+use Rattle.fluid_rules.specs.Rules.{is_joined, last_number, is_nacked, reference, scopes, heard, client, joined, minimum, lifted, verdict}
 use Rattle.fluid_rules.specs.Laws.{KeepsOrder, IsTaken}
-use Rattle.fluid_rules.proofs.Ids.{same_id, own_id, and_false, filter-has}
+use Rattle.fluid_rules.proofs.Ids.{same_id, own_id, filter-has}
 use Rattle.fluid_rules.proofs.Clients.{client-joined}
 use Rattle.fluid_rules.proofs.Joined.{some_same}
 use Rattle.fluid_rules.proofs.Least.{least_of}

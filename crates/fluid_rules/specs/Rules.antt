@@ -1,5 +1,5 @@
 -- The sequencing rules. A ledger stands oldest first; each rule reads it from its end, as a past.
-use Rattle.std.specs.Prelude.{◌≡◌, ℕ, zero, suc, ◌+◌, ℤ, pos, negsuc, nat_lt, nat_le, int_lt, Bool, true, false, not, ◌&&◌, ◌||◌, if◌then◌else◌, List, [], ◌∷◌, ◌++◌, reverse, map, filter, min, fold, Option, Some, None, unwrap_or, option_map, bytes_eq}
+use Rattle.std.specs.Prelude.{◌≡◌, ℕ, ◌+◌, pos, negsuc, nat_lt, nat_le, int_lt, Bool, true, false, not, ◌&&◌, ◌||◌, if◌then◌else◌, List, [], ◌∷◌, ◌++◌, reverse, map, filter, min, fold, Option, Some, None, unwrap_or, option_map, bytes_eq}
 use Rattle.std.specs.List.{last_or}
 use Rattle.fluid_json.specs.Tree.{Tree, is_null, null, text, object, members}
 use Rattle.fluid_json.specs.Printed.{printed}

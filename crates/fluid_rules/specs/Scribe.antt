@@ -87,7 +87,7 @@ proposing t = do
 unfoldable pub proposed_by : Message → Option Proposed
 proposed_by m = proposing (body m.contents)
 
--- the reference of a message, which isn't negative in an order
+-- the reference of a message; that of a join, a leave or an answer, which is -1, counts as 0
 abbrev pub reference_of : Message → ℕ
 reference_of m = count_of m.reference
 
