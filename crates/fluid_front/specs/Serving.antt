@@ -13,6 +13,15 @@ is_threaded Here = false
 is_threaded (InThreads most) = true
 is_threaded (AtStations most) = true
 
+-- a spawner in threads: how many it starts at most, and how often one wasn't started
+pub record Spawning : Type 0 where
+  pub most : ℕ
+  pub refusals : ℕ
+
+-- so many at most, and none refused
+abbrev pub in_threads : ℕ → Spawning
+in_threads threads = record { most = threads; refusals = 0 }
+
 -- the count of wires rose by n, unless it stood so near its type's end that it stands still there
 abbrev pub HasGiven : ℕ → Fronting → Fronting → Type 0
 HasGiven n old new = old.given + n < 2 ^ 64 → new.given ≡ old.given + n

@@ -1,7 +1,8 @@
 //! How the wires of a front are served: one job for each.
-ghost use Rattle.std.specs.Prelude.{◌≡◌, ℕ, ◌+◌, ◌-◌, ◌*◌, ◌^◌, ◌<◌, ◌≤◌, Bool, false};
+ghost use Rattle.std.specs.Prelude.{◌≡◌, ℕ, ◌+◌, ◌-◌, ◌*◌, ◌^◌, ◌<◌, ◌≤◌, false};
 ghost use Rattle.fluid_front.specs.Fronts.{CountsStay, GivesNothing};
-ghost use Rattle.fluid_front.specs.Serving.{MayEnd, Refuses, Serves, is_threaded};
+ghost use Rattle.fluid_front.specs.Serving.{MayEnd, Refuses, Serves, in_threads, is_threaded};
+ghost use Rattle.fluid_front.specs.declared.spawner.Way.{Way};
 
 use crate::attending::{Inbox, attend};
 use crate::{Bell, Front, FrontFault, Gate, Handler, Station};
@@ -73,17 +74,18 @@ pub trait Spawner: Sized {
     /// How often a job couldn't be started.
     ghost refusals: { Self → ℕ };
 
-    /// Whether jobs run in threads.
-    ghost threads: { Self → Bool };
+    /// How its jobs run.
+    ghost runs: { Self → Way };
 
     /// How its jobs run.
     fn way(&self) -> Way
-        ensures { is_threaded result ≡ threads self.now };
+        ensures { result ≡ runs self.now };
 
     /// Counts a refusal, where the work on a front ended by one. `serve_all` calls it at its end.
     fn note_end(&mut self, ended: &Ended<Self>)
-        requires { MayEnd (threads self.old) ended.now }
-        ensures { Refuses (refusals self.old) (refusals self.new) ended.now };
+        requires { MayEnd (is_threaded (runs self.old)) ended.now }
+        ensures refusals { Refuses (refusals self.old) (refusals self.new) ended.now }
+        ensures runs { runs self.new ≡ runs self.old };
 
     /// Gives each wire that the front gives to a job of its own, numbered from 1 in that order: the job passes the
     /// gate, and then the handler works on the wire. At most `connections` wires are served. All jobs have ended
@@ -108,6 +110,7 @@ pub trait Spawner: Sized {
         G: Gate + Sync,
         ensures front { Serves connections (F.seen front) (F.seen result.1) result.0 }
         ensures refusals { Refuses (refusals self.old) (refusals self.new) result.0 }
+        ensures runs { runs self.new ≡ runs self.old }
     {
         let (end, front) = match self.way() {
             Way::Here => serve_here(rt, alloc, front, handler, gate, connections),
@@ -128,11 +131,11 @@ pub trait Spawner: Sized {
 pub struct HereSpawner;
 
 impl Spawner for HereSpawner {
-    ghost use Rattle.std.specs.Prelude.{false};
+    ghost use Rattle.fluid_front.specs.declared.spawner.Way.TheVariants.{Here};
 
     ghost refusals = { λ _. 0 };
 
-    ghost threads = { λ _. false };
+    ghost runs = { λ _. Here };
 
     fn way(&self) -> Way {
         Way::Here
@@ -149,24 +152,24 @@ pub struct ThreadSpawner {
 }
 
 impl Model for ThreadSpawner {
-    ghost use Rattle.std.specs.Prelude.{ℕ};
+    ghost use Rattle.fluid_front.specs.Serving.{Spawning};
 
-    ghost Value = { ℕ };
+    ghost Value = { Spawning };
 
-    ghost view = { λ s. s.refusals };
+    ghost view = { λ s. record { most = s.most; refusals = s.refusals } };
 }
 
 impl ThreadSpawner {
     /// No job was refused.
     pub fn new() -> ThreadSpawner
-        ensures { result ≡ 0 }
+        ensures { result ≡ in_threads (2 ^ 32 - 1) }
     {
         ThreadSpawner::at_most(u32::MAX)
     }
 
     /// No job was refused. A call of `serve_all` starts so many threads, and the job behind them is refused.
     pub fn at_most(threads: u32) -> ThreadSpawner
-        ensures { result ≡ 0 }
+        ensures { result ≡ in_threads threads }
     {
         ThreadSpawner {
             most: threads,
@@ -176,11 +179,11 @@ impl ThreadSpawner {
 }
 
 impl Spawner for ThreadSpawner {
-    ghost use Rattle.std.specs.Prelude.{true};
+    ghost use Rattle.fluid_front.specs.declared.spawner.Way.TheVariants.{InThreads};
 
-    ghost refusals = { λ refusals. refusals };
+    ghost refusals = { λ spawning. spawning.refusals };
 
-    ghost threads = { λ _. true };
+    ghost runs = { λ spawning. InThreads spawning.most };
 
     fn way(&self) -> Way {
         Way::InThreads(self.most)
@@ -201,17 +204,17 @@ pub struct StationSpawner {
 }
 
 impl Model for StationSpawner {
-    ghost use Rattle.std.specs.Prelude.{ℕ};
+    ghost use Rattle.fluid_front.specs.Serving.{Spawning};
 
-    ghost Value = { ℕ };
+    ghost Value = { Spawning };
 
-    ghost view = { λ s. s.refusals };
+    ghost view = { λ s. record { most = s.most; refusals = s.refusals } };
 }
 
 impl StationSpawner {
     /// No job was refused. A call of `serve_all` starts so many threads at most, and refuses the first job where it can start none.
     pub fn new(threads: u32) -> StationSpawner
-        ensures { result ≡ 0 }
+        ensures { result ≡ in_threads threads }
     {
         StationSpawner {
             most: threads,
@@ -221,11 +224,11 @@ impl StationSpawner {
 }
 
 impl Spawner for StationSpawner {
-    ghost use Rattle.std.specs.Prelude.{true};
+    ghost use Rattle.fluid_front.specs.declared.spawner.Way.TheVariants.{AtStations};
 
-    ghost refusals = { λ refusals. refusals };
+    ghost refusals = { λ spawning. spawning.refusals };
 
-    ghost threads = { λ _. true };
+    ghost runs = { λ spawning. AtStations spawning.most };
 
     fn way(&self) -> Way {
         Way::AtStations(self.most)
