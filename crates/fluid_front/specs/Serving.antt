@@ -51,12 +51,10 @@ pub record Serves (connections : ℕ) (old new : Fronting) (end : FrontEnd) : Ty
   pub counts : CountsStay old new
   pub does : EndsBy connections old new end
 
--- a spawner's count of refusals never falls, and it answers a refusal only where this count rose
+-- a spawner's count of refusals rises where it answers one, and stands where it answers anything else
 abbrev pub Refuses : ℕ → ℕ → FrontEnd → Type 0
-Refuses before now (Done n) = before ≤ now
-Refuses before now FrontFailed = before ≤ now
 Refuses before now (SpawnRefused n) = (before ≤ now) × Rose before now
-Refuses before now NoMemory = before ≤ now
+Refuses before now other = now ≡ before
 
 -- only a job that is to be a thread can be refused
 abbrev pub MayEnd : Bool → FrontEnd → Type 0

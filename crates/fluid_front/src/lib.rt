@@ -10,5 +10,5 @@ mod station;
 
 pub use front::{Front, FrontFault, MemoryFront};
 pub use handler::{Gate, Handler, OpenGate};
-pub use spawner::{Ended, FrontEnd, HereSpawner, Spawner, StationSpawner, ThreadSpawner};
+pub use spawner::{Ended, FrontEnd, HereSpawner, Spawner, StationSpawner, ThreadSpawner, Way};
 pub use station::{Bell, MemoryBell, MemoryStation, Station};

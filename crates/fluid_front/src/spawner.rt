@@ -74,7 +74,7 @@ pub trait Spawner: Sized {
     /// How often a job couldn't be started.
     ghost refusals: { Self → ℕ };
 
-    /// How its jobs run.
+    /// What `way` answers. That `serve_all` goes by it is by its code.
     ghost runs: { Self → Way };
 
     /// How its jobs run.
@@ -160,7 +160,7 @@ impl Model for ThreadSpawner {
 }
 
 impl ThreadSpawner {
-    /// No job was refused.
+    /// No job was refused. A call of `serve_all` starts 2^32 - 1 threads at most.
     pub fn new() -> ThreadSpawner
         ensures { result ≡ in_threads (2 ^ 32 - 1) }
     {

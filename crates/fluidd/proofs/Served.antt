@@ -17,7 +17,7 @@ pub served : (connections : ℕ) (old : Fronting) (refused : ℕ) (new : Frontin
     Serves connections old new e → Refuses refused refusals e → ServesConnections connections old refused new refusals (code_of (served_status e))
 served connections old refused new refusals (end.Done n) h r = record {
   counts = h.counts;
-  later = r;
+  later = omega (arith, r);
   done = λ e. (n, h.does);
   front_fault = λ e. absurd (omega arith);
   refusal = λ e. absurd (omega arith);
@@ -25,7 +25,7 @@ served connections old refused new refusals (end.Done n) h r = record {
 }
 served connections old refused new refusals end.FrontFailed h r = record {
   counts = h.counts;
-  later = r;
+  later = omega (arith, r);
   done = λ e. absurd (omega arith);
   front_fault = λ e. h.does;
   refusal = λ e. absurd (omega arith);
@@ -41,7 +41,7 @@ served connections old refused new refusals (end.SpawnRefused n) h r = record {
 }
 served connections old refused new refusals end.NoMemory h r = record {
   counts = h.counts;
-  later = r;
+  later = omega (arith, r);
   done = λ e. absurd (omega arith);
   front_fault = λ e. absurd (omega arith);
   refusal = λ e. absurd (omega arith);
