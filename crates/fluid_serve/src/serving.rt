@@ -2,6 +2,7 @@
 
 ghost use Rattle.fluid_front.specs.Serving.{Refuses, Serves};
 ghost use Rattle.fluid_serve.specs.Desks.{AreReady, ShelvesComeBack};
+ghost use Rattle.fluid_service.specs.Closing.{Closes};
 
 use crate::desk::Desk;
 use crate::sessions::Sessions;
@@ -49,39 +50,77 @@ where
     ensures refusals { Refuses (P.refusals spawner) (P.refusals result.3) result.0 }
     ensures shelves { ShelvesComeBack (B.seen desk.shelves) (B.seen result.1.shelves) }
 {
-    let Ok((hints, hinted)) = unbounded(alloc) else {
-        return (FrontEnd::NoMemory, desk, front, spawner);
-    };
     let Desk {
         shelves,
         objects,
         clock,
     } = desk;
-    let service = match Service::new(alloc, shelves, Limits::FULL) {
-        Ok(service) => service,
-        Err((shelves, _)) => {
-            return (
-                FrontEnd::NoMemory,
-                Desk {
-                    shelves,
-                    objects,
-                    clock,
-                },
-                front,
-                spawner,
-            );
-        }
+    let (end, shelves, objects, front, spawner) = match Service::new(alloc, shelves, Limits::FULL) {
+        Ok(service) => serve_over(
+            rt,
+            alloc,
+            service,
+            objects,
+            &clock,
+            front,
+            spawner,
+            port,
+            connections,
+            lines,
+        ),
+        Err((shelves, _)) => (FrontEnd::NoMemory, shelves, objects, front, spawner),
     };
+    let desk = Desk {
+        shelves,
+        objects,
+        clock,
+    };
+    (end, desk, front, spawner)
+}
+
+// The same over a service in which no document is open, which it closes.
+fn serve_over<R, B, O, C, F, P>(
+    rt: &R,
+    alloc: Global,
+    service: Service<B>,
+    objects: O,
+    clock: &C,
+    front: F,
+    spawner: P,
+    port: u16,
+    connections: u32,
+    lines: bool,
+) -> (FrontEnd, B, O, F, P)
+where
+    R: Threads + Wait + Sync,
+    B: Shelves + Send + Drop,
+    B::K: Send + Drop,
+    O: Objects + Send + Drop,
+    C: Clock + Sync + Drop,
+    F: Front + Send + Drop,
+    F::W: Send + Drop,
+    F::S: Send + Drop,
+    F::B: Send + Sync + Drop,
+    P: Spawner + Send + Drop,
+    ensures front { Serves connections (F.seen front) (F.seen result.3) result.0 }
+    ensures refusals { Refuses (P.refusals spawner) (P.refusals result.4) result.0 }
+    ensures shelves { Closes service (B.seen result.1) }
+{
     let mut front = front;
+    let Ok((hints, hinted)) = unbounded(alloc) else {
+        return (
+            FrontEnd::NoMemory,
+            service.close(rt),
+            objects,
+            front,
+            spawner,
+        );
+    };
     if front.listen(rt, port, lines).is_err() {
-        let shelves = service.close(rt);
         return (
             FrontEnd::FrontFailed,
-            Desk {
-                shelves,
-                objects,
-                clock,
-            },
+            service.close(rt),
+            objects,
             front,
             spawner,
         );
@@ -92,19 +131,15 @@ where
         alloc,
         &service,
         &objects,
-        &clock,
+        clock,
         front,
         spawner,
         connections,
         hints,
         hinted,
     );
-    let desk = Desk {
-        shelves: service.close(rt),
-        objects: objects.into_inner(),
-        clock,
-    };
-    (end, desk, front, spawner)
+    let shelves = service.close(rt);
+    (end, shelves, objects.into_inner(), front, spawner)
 }
 
 // The sessions, and the worker beside them, which ends when they have.
