@@ -28,11 +28,6 @@ records lines = filter_map entry_of lines
 
 -- ---- the limits of a document
 
--- the limits of the program: 4,194,304 joins and submissions, 1,024 clients joined at once, 4,096 checkpoints of at most 1 GiB. A run
--- of `sequence` stores no checkpoints
-abbrev pub full : Limits
-full = record { entries = 4194304; clients = 1024; checkpoints = 4096; bytes = 1073741824 }
-
 -- the document is full where this entry counts and as many as may be are counted; there are too many clients where
 -- this is a new one and as many as may be are joined
 unfoldable pub limit_refusal : Limits → Ledger → Raw → Option Why

@@ -3,9 +3,8 @@ ghost use Rattle.std.specs.Prelude.{◌≡◌, ℕ, List, Bool, Option, Some, If
 ghost use Rattle.std.specs.FinMap.{empty};
 ghost use Rattle.fluid_log.specs.Shelving.{AreWhole};
 ghost use Rattle.fluid_transcript.specs.World.{World, first_world};
-ghost use Rattle.fluid_world.specs.Ending.{IsDeskOf};
+ghost use Rattle.fluid_world.specs.Ending.{IsDeskOf, full};
 ghost use Rattle.fluid_serve.specs.Desks.{AreReady, ShelvesComeBack};
-ghost use Rattle.fluidd.specs.Input.{full};
 ghost use Rattle.fluidd.specs.Output.{Sequences, Shows, code_of};
 ghost use Rattle.fluidd.specs.Served.{ServesConnections, served_status};
 ghost use Rattle.fluid_words.specs.declared.command.Command.TheVariants.{Sequence, Serve, Workload};

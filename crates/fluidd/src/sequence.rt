@@ -1,6 +1,6 @@
 //! The command `sequence`: raw records in, a verdict line out for each.
 ghost use Rattle.std.specs.Prelude.{◌≡◌};
-ghost use Rattle.fluidd.specs.Input.{full};
+ghost use Rattle.fluid_world.specs.Ending.{full};
 ghost use Rattle.fluidd.specs.Output.{Sequences, status_of};
 
 use crate::document::Document;

@@ -6,8 +6,7 @@ use Rattle.fluidd.specs.Workloads.{IsBetween, Summarizes}
 use Rattle.fluidd.proofs.Worked.{unworked}
 use Rattle.fluidd.proofs.Bounded.{work_bounds}
 use Rattle.std.proofs.lemmas.Bool.{false≢true}
-use Rattle.fluid_world.specs.Ending.{Outside}
-use Rattle.fluidd.specs.Input.{full}
+use Rattle.fluid_world.specs.Ending.{Outside, full}
 use Rattle.fluidd.specs.Scripts.{Scripts}
 use Rattle.fluidd.specs.Tasks.{task_of, IsScripting, IsWorking}
 use Rattle.fluidd.specs.declared.task.Task.TheVariants as taken

@@ -1,5 +1,5 @@
 use Rattle.fluid_rules.specs.declared.limits.Limits.{Limits}
-use Rattle.fluidd.specs.Input.{full}
+use Rattle.fluid_world.specs.Ending.{full}
 use Rattle.fluidd.specs.Output.{meaning}
 use Rattle.fluidd.proofs.Grown.{stands-none}
 use Rattle.fluidd.proofs.Statuses.{sequences}
