@@ -213,6 +213,12 @@ fn do_step<'a, R: Wait + Abort>(
     }
 }
 
+// Whether a record, where it is a leave, has the moment at which documents are opened here.
+fn is_of_opening(record: &[u8]) -> bool {
+    let text = str::from_utf8(record).unwrap_or("");
+    !text.contains(r#""raw":"leave""#) || text.contains(r#""moment":7,"#)
+}
+
 // All is closed; so many records has the keeper of a document that came back, none where none did.
 pub fn close<'a, R: Wait + Abort>(
     rt: &R,
@@ -223,7 +229,15 @@ pub fn close<'a, R: Wait + Abort>(
     let QuietShelves { shelves, .. } = service.close(rt);
     let name = name_of(rt, alloc, name);
     let records = match shelves.get(&name) {
-        Some(keeper) => Some(keeper.records().len()),
+        Some(keeper) => {
+            let records = keeper.records();
+            assert!(rt;
+                records
+                    .iter()
+                    .all(|record| is_of_opening(record.as_slice()))
+            );
+            Some(records.len())
+        }
         None => None,
     };
     drop(name);
