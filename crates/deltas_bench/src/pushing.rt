@@ -5,8 +5,7 @@ ghost use Rattle.fluid_deltas.specs.Pushed.{IsKeepable, pushed};
 use crate::forgetful::Forgetful;
 use fluid_codec::{print_message, printed_is_read_back};
 use fluid_deltas::{Deltas, RESIDENT};
-use fluid_io::LAST_MOMENT;
-use fluid_json::Json;
+use fluid_json::{Json, LARGEST};
 use fluid_log::{Keeper, LONGEST_KEPT};
 use fluid_types::{Kind, Message};
 use std::alloc::Global;
@@ -29,7 +28,7 @@ fn message(alloc: Global, number: u64) -> Option<Message>
         moment: 0,
     };
     let length = print_message(alloc, &message).ok()?.as_str().len();
-    (number <= LAST_MOMENT && length <= LONGEST_KEPT).then_some(message)
+    (number <= LARGEST && length <= LONGEST_KEPT).then_some(message)
 }
 
 // Pushes one message more.
@@ -40,7 +39,7 @@ fn push_next(alloc: Global, deltas: &mut Deltas, keeper: &mut Forgetful) -> Opti
         }
         deltas.make_room(alloc, keeper).ok()?;
     }
-    if deltas.resident() >= RESIDENT as u64 || deltas.len() >= LAST_MOMENT {
+    if deltas.resident() >= RESIDENT as u64 || deltas.len() >= LARGEST {
         return None;
     }
     deltas.reserve(alloc).ok()?;

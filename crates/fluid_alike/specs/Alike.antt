@@ -4,7 +4,7 @@ use Rattle.std.specs.FinMap.{FinMap}
 use Rattle.fluid_table.specs.Table.{byte_order}
 use Rattle.fluid_rules.specs.declared.limits.Limits.{Limits}
 use Rattle.fluid_store.specs.Held.{Held, IsShort}
-use Rattle.fluid_document.specs.Entries.{most}
+use Rattle.fluid_types.specs.Forms.{largest}
 use Rattle.fluid_document.specs.Kept.{IsLoggable}
 use Rattle.fluid_transcript.specs.World.{Document, World, document, first_world}
 use Rattle.fluid_transcript.specs.Sound.{ledger_in}
@@ -14,7 +14,7 @@ use Rattle.fluid_workload.specs.Summary.{LoadsSame, behind_all, written_by}
 -- the entries of the document fit a log, and no object that is held is too long to be read
 pub record IsReadable (w : World) : Type 0 where
   pub entries : All IsLoggable (ledger_in w work)
-  pub few : length (ledger_in w work) ≤ most
+  pub few : length (ledger_in w work) ≤ largest
   pub short : IsShort w.store
 
 -- the document has room for all that is entered, and for all clients and the two containers

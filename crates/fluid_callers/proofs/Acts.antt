@@ -14,7 +14,7 @@ use Rattle.fluid_store.specs.declared.fault.StoreFault.TheVariants as store
 use Rattle.fluid_lane.specs.declared.fault.LaneFault.{LaneFault}
 use Rattle.fluid_lane.specs.declared.fault.LaneFault.TheVariants as lane
 use Rattle.fluid_lane.specs.declared.steps.Step.{Step}
-use Rattle.fluid_document.specs.Entries.{most}
+use Rattle.fluid_types.specs.Forms.{largest}
 use Rattle.fluid_lane.specs.Steps.{ledger, fault_steps, delta_steps}
 use Rattle.fluid_lane.specs.Standing.{Standing, Goes, LaneStands, is_worn}
 use Rattle.fluid_voice.specs.declared.refusals.ConnectRefusal.TheVariants.{TooManyDocuments}
@@ -82,7 +82,7 @@ Says a s store result = (l : List Step) (held : Held) → FindsTold a s l store 
 
 -- a fault of a worn lane adds no step
 abbrev pub EndsWorn : (steps : ℕ) → (old : Standing) → (added : List Step) → Type 0
-EndsWorn steps old added = added ≡ [] → is_worn old ≡ true → most ≤ steps + 1
+EndsWorn steps old added = added ≡ [] → is_worn old ≡ true → largest ≤ steps + 1
 
 pub lane_honest : (steps : ℕ) (old new : Standing) (added : List Step) (fault : LaneFault) → EndsWorn steps old added → added ≡ fault_steps fault → IsLaneCause old new fault → IsHonest steps (stop_of fault)
 lane_honest steps old new added (lane.LogFailed note) worn adds cause = tt

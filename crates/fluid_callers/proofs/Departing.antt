@@ -8,7 +8,7 @@ use Rattle.fluid_types.specs.declared.entries.Raw.TheVariants.{Join, Leave, Subm
 use Rattle.fluid_types.specs.declared.verdicts.Verdict.{Verdict}
 use Rattle.fluid_rules.specs.declared.limits.Limits.{Limits}
 use Rattle.fluid_core.specs.Entering.{verdict_in}
-use Rattle.fluid_document.specs.Entries.{most}
+use Rattle.fluid_types.specs.Forms.{largest}
 use Rattle.fluid_lane.specs.declared.fault.LaneFault.{LaneFault}
 use Rattle.fluid_lane.specs.declared.fault.LaneFault.TheVariants.{Full, Worn}
 use Rattle.fluid_lane.specs.Faults.{IsCausedBy, IsOutside}
@@ -65,7 +65,7 @@ module _ {A : Type 0} (old new : Standing) (raw : Raw) (fault : LaneFault) (leav
   outside : is_worn old ≡ false → IsOutside fault
   outside is = subst (λ o. IsCause old new IsOutside o fault) (never_full old raw leave) (gate.refuses is)
 
-  pub unentered_honest : (steps : ℕ) → ((is_worn old ≡ true) × (new ≡ old) → most ≤ steps + 1) → IsHonest steps (stop_of fault)
+  pub unentered_honest : (steps : ℕ) → ((is_worn old ≡ true) × (new ≡ old) → largest ≤ steps + 1) → IsHonest steps (stop_of fault)
   unentered_honest steps worn = by (is_worn old) refl
     where
       by : (b : Bool) → is_worn old ≡ b → IsHonest steps (stop_of fault)

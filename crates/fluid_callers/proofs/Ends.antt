@@ -4,7 +4,7 @@ use Rattle.std.specs.Prelude.{IsSome, nat_le, MatchResult, IfErr}
 use Rattle.std.specs.FinMap.{get}
 use Rattle.fluid_table.proofs.Places.{get_own}
 use Rattle.fluid_types.specs.declared.fault.Field.{Field}
-use Rattle.fluid_document.specs.Entries.{most}
+use Rattle.fluid_types.specs.Forms.{largest}
 use Rattle.fluid_io.specs.declared.faults.FaultNote.{FaultNote}
 use Rattle.fluid_deltas.specs.Ranges as ranges
 use Rattle.fluid_deltas.specs.declared.fault.DeltaFault.{DeltaFault}
@@ -46,7 +46,7 @@ pub still_worn : (old new : Standing) (added : List Step) → Goes old new added
 still_worn old new added goes none worn =
     let steps = subst (Goes old new) none goes in
     let same : new.entries.entered + new.sides ≡ old.entries.entered + old.sides = omega (arith, steps.entered, steps.sides) in
-    ap (nat_le most) same ∙ worn
+    ap (nat_le largest) same ∙ worn
 
 -- a range that wasn't given
 pub delta_few : (fault : DeltaFault) → asides (delta_steps fault) ≤ 1

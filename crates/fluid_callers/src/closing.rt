@@ -1,7 +1,7 @@
 //! A connection leaves.
 ghost use Rattle.std.specs.Prelude.{◌≡◌, ◌≤◌, ◌+◌, ℕ, List, IfOk};
 ghost use Rattle.fluid_types.specs.Fits.{Fits};
-ghost use Rattle.fluid_document.specs.Entries.{most};
+ghost use Rattle.fluid_types.specs.Forms.{largest};
 ghost use Rattle.fluid_rules.specs.declared.limits.Limits.{Limits as ALimits};
 ghost use Rattle.fluid_steps.specs.declared.steps.Step.TheVariants as step;
 ghost use Rattle.fluid_transcript.specs.World.{World, Document};
@@ -36,7 +36,7 @@ pub fn close<B: Shelves>(
 ) -> Result<Text, Stop>
 where
     B::K: Drop,
-    requires moment { moment ≤ most }
+    requires moment { moment ≤ largest }
     ensures does { (w : World) → DeskStands lanes.old w → IsSoundVoice w voice.now → voice_of w name.now ≡ voice.now → w.moment ≡ moment →
         CloseDoes (done lanes.old.limits w (step.Close name.now)) name.now lanes.new result }
     ensures runs { (before steps : ℕ) → HasRun before steps lanes.old → RunsOn before (steps + 1) lanes.new result }
@@ -57,7 +57,7 @@ fn leave<B: Shelves>(
 ) -> Result<(), Stop>
 where
     B::K: Drop,
-    requires moment { moment ≤ most }
+    requires moment { moment ≤ largest }
     ensures does { (w : World) (c : List ℕ) → DeskStands lanes.old w → IsSoundVoice w state.now → w.moment ≡ moment → LeavesDesk w c state.now lanes.new result }
     ensures runs { (before steps : ℕ) → HasRun before steps lanes.old → RunsOn before (steps + 1) lanes.new result }
     ensures limits { lanes.new.limits ≡ lanes.old.limits }
@@ -80,7 +80,7 @@ fn leave_document<B: Shelves>(
 ) -> Result<(), Stop>
 where
     B::K: Drop,
-    requires moment { moment ≤ most }
+    requires moment { moment ≤ largest }
     ensures does { (w : World) (c : List ℕ) (next : ℕ) → DeskStands lanes.old w → IsSoundVoice w (VoiceState.Writing document.now id.now next) → w.moment ≡ moment →
         LeavesDesk w c (VoiceState.Writing document.now id.now next) lanes.new result }
     ensures runs { (before steps : ℕ) → HasRun before steps lanes.old → RunsOn before (steps + 1) lanes.new result }
@@ -100,7 +100,7 @@ fn leave_lane<K: Keeper>(
     id: &ClientId,
     moment: u64,
 ) -> Result<(), Stop>
-    requires moment { moment ≤ most }
+    requires moment { moment ≤ largest }
     ensures does { (limits : ALimits) (d : Document) → IsLaneOf limits lane.old d → EntersLane limits d (Raw.Leave id.now moment) lane.new result }
     ensures runs { LaneRuns lane.old lane.new result }
 {

@@ -3,7 +3,7 @@ ghost use Rattle.std.specs.Prelude.{◌≡◌, ◌≤◌, ◌<◌, ◌+◌, ◌-
 ghost use Rattle.fluid_types.specs.Ledger.{order};
 ghost use Rattle.fluid_types.specs.Order.{AreNumberedFrom};
 ghost use Rattle.fluid_types.specs.declared.messages.Message.{Message as AMessage};
-ghost use Rattle.fluid_document.specs.Entries.{most};
+ghost use Rattle.fluid_types.specs.Forms.{largest};
 ghost use Rattle.fluid_rules.specs.declared.limits.Limits.{Limits as ALimits};
 ghost use Rattle.fluid_steps.specs.declared.steps.Step.TheVariants as step;
 ghost use Rattle.fluid_voice.specs.States.{document_name};
@@ -42,7 +42,7 @@ pub fn collect<B: Shelves>(
 ) -> Result<Written, Stop>
 where
     B::K: Drop,
-    requires moment { moment ≤ most }
+    requires moment { moment ≤ largest }
     ensures does { (w : World) → DeskStands lanes.old w → IsSoundVoice w voice.old → voice_of w name.now ≡ voice.old → w.moment ≡ moment →
         CallDoes (done lanes.old.limits w (step.Collect name.now)) name.now lanes.new voice.new result }
     ensures runs { (first steps : ℕ) → HasRun first steps lanes.old → RunsReading first (steps + 1) lanes.new result }
@@ -67,7 +67,7 @@ fn gather<B: Shelves>(
 ) -> Result<(Written, u64), Stop>
 where
     B::K: Drop,
-    requires moment { moment ≤ most }
+    requires moment { moment ≤ largest }
     ensures does { (w : World) → DeskStands lanes.old w → IsSoundVoice w voice.now → voice_of w name.now ≡ voice.now → w.moment ≡ moment →
         GatherDoes (done lanes.old.limits w (step.Collect name.now)) name.now lanes.new voice.now result }
     ensures runs { (first steps : ℕ) → HasRun first steps lanes.old → RunsReading first (steps + 1) lanes.new result }
@@ -96,7 +96,7 @@ fn gather_of<B: Shelves>(
 ) -> Result<(Written, u64), Stop>
 where
     B::K: Drop,
-    requires moment { moment ≤ most }
+    requires moment { moment ≤ largest }
     ensures does { (w : World) → IsNextOf document.now next voice.now → DeskStands lanes.old w → IsSoundVoice w voice.now → voice_of w name.now ≡ voice.now →
         w.moment ≡ moment → GatherDoes (done lanes.old.limits w (step.Collect name.now)) name.now lanes.new voice.now result }
     ensures runs { (first steps : ℕ) → HasRun first steps lanes.old → RunsReading first (steps + 1) lanes.new result }

@@ -1,6 +1,6 @@
 //! A connection hears a text.
 ghost use Rattle.std.specs.Prelude.{◌≡◌, ◌≤◌, ◌+◌, ℕ, List, All, Some, IfOk, length, option_map};
-ghost use Rattle.fluid_document.specs.Entries.{most};
+ghost use Rattle.fluid_types.specs.Forms.{largest};
 ghost use Rattle.fluid_readback.specs.Laws.{longest_text};
 ghost use Rattle.fluid_steps.specs.declared.steps.Step.TheVariants as step;
 ghost use Rattle.fluid_voice.specs.Fitting.{IsFitting};
@@ -42,7 +42,7 @@ pub fn send<B: Shelves, O: Objects>(
 ) -> Result<Written, Stop>
 where
     B::K: Drop,
-    requires moment { moment ≤ most }
+    requires moment { moment ≤ largest }
     requires short { length text.now ≤ longest_text }
     ensures does { (w : World) → DeskStands lanes.old w → StoreStands (O.seen objects.old) w → IsSoundVoice w voice.old → voice_of w name.now ≡ voice.old →
         w.moment ≡ moment → CallDoesWith (done lanes.old.limits w (step.Send name.now text.now)) name.now lanes.new (O.seen objects.new) voice.new result }
@@ -71,7 +71,7 @@ fn hear_at<B: Shelves, O: Objects>(
 ) -> Result<Written, Stop>
 where
     B::K: Drop,
-    requires moment { moment ≤ most }
+    requires moment { moment ≤ largest }
     requires fit { All IsFitting acts }
     ensures does { (w : World) (text : List ℕ) → DeskStands lanes.old w → StoreStands (O.seen objects.old) w → IsSoundVoice w voice.old →
         voice_of w name.now ≡ voice.old → w.moment ≡ moment → acts ≡ acts_of voice.old text moment → reached acts voice.old ≡ Some document.now →

@@ -1,7 +1,7 @@
 //! What the messages of a document make of its queues and tasks.
 ghost use Rattle.std.specs.Prelude.{◌≡◌, ◌≤◌, ◌+◌, ℕ, IfOk};
 ghost use Rattle.fluid_types.specs.Order.{AreFirst};
-ghost use Rattle.fluid_document.specs.Entries.{most};
+ghost use Rattle.fluid_types.specs.Forms.{largest};
 ghost use Rattle.fluid_rules.specs.declared.limits.Limits.{Limits as ALimits};
 ghost use Rattle.fluid_steps.specs.declared.steps.Step.TheVariants as step;
 ghost use Rattle.fluid_tasks.specs.Kept.{StandsFor};
@@ -33,7 +33,7 @@ pub fn tasks<B: Shelves>(
 ) -> Result<Text, Stop>
 where
     B::K: Drop,
-    requires moment { moment ≤ most }
+    requires moment { moment ≤ largest }
     ensures does { (w : World) → DeskStands lanes.old w → w.moment ≡ moment → DeskDoes (done lanes.old.limits w (step.Tasks name.now)) lanes.new result }
     ensures runs { (first steps : ℕ) → HasRun first steps lanes.old → RunsReading first (steps + 1) lanes.new result }
     ensures limits { lanes.new.limits ≡ lanes.old.limits }

@@ -1,6 +1,6 @@
 -- What a connection collects, slice by slice.
 use Rattle.std.proofs.Common.{◌≡◌, ◌∙◌, ℕ, ◌+◌, ◌<◌, ◌≤◌, Bool, true, false, List, [], ◌++◌, length, All, Result, Ok, Err, append-nil, refl, sym, ap, subst, arith, length-append}
-use Rattle.fluid_document.specs.Entries.{most}
+use Rattle.fluid_types.specs.Forms.{largest}
 use Rattle.std.proofs.lemmas.List.Elements.{All-nil, All-append}
 use Rattle.fluid_types.specs.declared.messages.Message.{Message}
 use Rattle.fluid_types.specs.Order.{AreNumberedFrom}
@@ -139,5 +139,5 @@ collects_back visit back lent door pass behind next answer same_lent same_door s
     (subst (λ (d : Doorway). CollectsAll d.name (knowing d.name pass) (knowing door.name behind) next answer) same_door
     (subst (λ (d : Doorway). CollectsAll d.name (knowing d.name pass) (knowing d.name behind) next answer) same_lent does)))
 
-pub comes_back : (visit back : Visiting) (door : Doorway) (behind : APass) → door ≡ visit.door → back ≡ record { door = door; pass = behind } → length behind.seen ≤ most → ComesBack visit back
+pub comes_back : (visit back : Visiting) (door : Doorway) (behind : APass) → door ≡ visit.door → back ≡ record { door = door; pass = behind } → length behind.seen ≤ largest → ComesBack visit back
 comes_back visit back door behind same_door is few = subst (λ v. ComesBack visit v) (sym is) (record { door = same_door; few = few })

@@ -2,7 +2,7 @@
 use Rattle.std.proofs.Common.{◌≡◌, ◌∙◌, ℕ, zero, suc, ◌+◌, ◌^◌, ◌<◌, ◌≤◌, nat_lt, true, List, [], ◌∷◌, ◌++◌, length, Option, Some, Result, Ok, Err, IfOk, append-nil, refl, sym, ap, subst, arith}
 use Rattle.std.proofs.lemmas.Bool.Decides.{nat_tests}
 use Rattle.fluid_types.specs.declared.messages.Message.{Message}
-use Rattle.fluid_document.specs.Entries.{most}
+use Rattle.fluid_types.specs.Forms.{largest}
 use Rattle.fluid_deltas.specs.declared.fault.DeltaFault.{DeltaFault}
 use Rattle.fluid_doors.specs.Collecting.{AreNext, IsEventUnder, gathered}
 use Rattle.fluid_codec.specs.declared.replies.Reply.{Reply}
@@ -38,7 +38,7 @@ event_is name (Stored id) is = absurd is
 
 -- ---- what is given fits
 
-fits_by : (next count : ℕ) → next < 2 ^ 64 → (0 < count → next + count ≤ most + 1) → next + count < 2 ^ 64
+fits_by : (next count : ℕ) → next < 2 ^ 64 → (0 < count → next + count ≤ largest + 1) → next + count < 2 ^ 64
 fits_by next zero fits last = omega arith
 fits_by next (suc n) fits last = let h = last (omega arith) in omega arith
 

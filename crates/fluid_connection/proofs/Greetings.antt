@@ -14,7 +14,7 @@ use Rattle.fluid_types.specs.declared.verdicts.Verdict.TheVariants as verdict
 use Rattle.fluid_rules.specs.Rules.{verdict as verdict_of}
 use Rattle.fluid_rules.specs.Counted.{is_full, has_too_many_clients}
 use Rattle.fluid_rules.proofs.Verdicts.{verdict-is_message, message-number}
-use Rattle.fluid_document.specs.Entries.{most}
+use Rattle.fluid_types.specs.Forms.{largest}
 use Rattle.fluid_deltas.specs.declared.fault.DeltaFault.{DeltaFault}
 use Rattle.fluid_deltas.specs.declared.fault.DeltaFault.TheVariants as delta
 use Rattle.fluid_store.specs.Storing.{Storing}
@@ -178,7 +178,7 @@ greets_join c visit now door p q r is_door is_pass is_now turn write grows =
     })
 
 pub greets_read : (c : Connect) (visit now : Visiting) (door : Doorway) (p q : APass) (a : Act) (r : Result ActEnd TalkFault) → door ≡ visit.door → p ≡ visit.pass → now ≡ record { door = door; pass = q }
-    → a ≡ act_of c → length q.seen ≤ most → (answer : Result ActEnd DeltaFault) → r ≡ looked answer → IfOk answer (SuitsLook a) → DoesAs (knowing door.name p) (knowing door.name q) a r → Greets c visit now r
+    → a ≡ act_of c → length q.seen ≤ largest → (answer : Result ActEnd DeltaFault) → r ≡ looked answer → IfOk answer (SuitsLook a) → DoesAs (knowing door.name p) (knowing door.name q) a r → Greets c visit now r
 greets_read c visit now door p q a r is_door is_pass is_now is_act few answer is suits does =
     let ends = looked_ends visit.door.name c.name c.write c.scopes c.detail c.moment answer (subst (λ b. IfOk answer (SuitsLook b)) is_act suits) in
     subst (λ n. Greets c visit n r) (sym is_now) (record {

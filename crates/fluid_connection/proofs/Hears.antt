@@ -6,7 +6,7 @@ use Rattle.fluid_turn.specs.Entries.{IsPrefix, entries}
 use Rattle.fluid_turn.proofs.Lists.{entries-append}
 use Rattle.fluid_types.specs.Ledger.{order}
 use Rattle.fluid_types.proofs.Ledgers.{order-append}
-use Rattle.fluid_document.specs.Entries.{most}
+use Rattle.fluid_types.specs.Forms.{largest}
 use Rattle.fluid_store.specs.Held.{Held}
 use Rattle.fluid_store.specs.Storing.{Storing}
 use Rattle.fluid_store.specs.declared.fault.StoreFault.TheVariants as store
@@ -63,7 +63,7 @@ behind_later a b front = omega (arith, order_longer a b front)
 
 -- a connected one with a later visit of its document
 pub talk_goes : (t u : Talked) (added : List Step) → IsTalk t → u.voice ≡ t.voice → Goes (pass_of t.visit) (pass_of u.visit) added
-    → (length (pass_of t.visit).seen ≤ most → length (pass_of u.visit).seen ≤ most) → IsTalk u
+    → (length (pass_of t.visit).seen ≤ largest → length (pass_of u.visit).seen ≤ largest) → IsTalk u
 talk_goes t u added is same goes few = record {
   named = λ on. goes.same.name ∙ is.named (was on) ∙ ap document_name (sym same);
   first = λ on. subst (λ s. 0 < next_number s) (sym same) (is.first (was on));
@@ -323,7 +323,7 @@ visit_hears s visit now door p q a b acts told fault is_door is_pass is_now h =
 
 -- a connected one behind its acts
 pub hears_talk : (v w : VoiceState) (k : AKey) (visit now : Visiting) (handed : Option Visiting) (a b : Storing) (acts : List Act) (told : ATold) (fault : Option TalkFault)
-    → IsTalk (record { voice = v; key = k; visit = Some visit; handed = handed }) → w ≡ v → (length visit.pass.seen ≤ most → length now.pass.seen ≤ most)
+    → IsTalk (record { voice = v; key = k; visit = Some visit; handed = handed }) → w ≡ v → (length visit.pass.seen ≤ largest → length now.pass.seen ≤ largest)
     → HearsActs v (knowing visit.door.name visit.pass) (knowing now.door.name now.pass) a b acts told fault → IsTalk (record { voice = w; key = k; visit = Some now; handed = handed })
 hears_talk v w k visit now handed a b acts told fault is same few h =
     talk_goes (record { voice = v; key = k; visit = Some visit; handed = handed }) (record { voice = w; key = k; visit = Some now; handed = handed }) _ is same h.does.goes few

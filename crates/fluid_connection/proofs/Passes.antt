@@ -4,7 +4,7 @@ use Rattle.std.proofs.lemmas.List.{length-map}
 use Rattle.std.proofs.lemmas.Bool.Decides.{nat_tests}
 use Rattle.fluid_turn.specs.declared.view.Numbered.{Numbered}
 use Rattle.fluid_turn.specs.Entries.{entries}
-use Rattle.fluid_document.specs.Entries.{most}
+use Rattle.fluid_types.specs.Forms.{largest}
 use Rattle.fluid_lane.specs.declared.steps.Step.{Step}
 use Rattle.fluid_lane.specs.declared.fault.LaneFault.{LaneFault}
 use Rattle.fluid_lane.specs.declared.fault.LaneFault.TheVariants as lane
@@ -45,10 +45,10 @@ as_long : (many long seen : ℕ) → nat_le many long ≡ true → seen ≡ long
 as_long many long seen worn same few = grind (arith, nat_tests)
 
 -- who is told that the document is worn has seen as many steps as there can be
-pub long_seen : (p q : APass) (says : List Step → Type 0) → (grows : Grows p q [] says) → is_worn_behind (entries grows.before) ≡ true → length q.seen ≡ most
+pub long_seen : (p q : APass) (says : List Step → Type 0) → (grows : Grows p q [] says) → is_worn_behind (entries grows.before) ≡ true → length q.seen ≡ largest
 long_seen p q says grows long =
-    as_long most (length (entries grows.before)) (length q.seen) long
+    as_long largest (length (entries grows.before)) (length q.seen) long
     (ap length (grows.seen ∙ append-nil grows.before) ∙ sym (length-map grows.before (λ (x : Numbered Step). x.entry))) grows.few
 
-pub worn_seen : (A : Type 0) (p q : APass) (says : List Step → Type 0) → (grows : Grows p q [] says) → WornBy {A = A} (is_worn_behind (entries grows.before)) (Err lane.Worn) → length q.seen ≡ most
+pub worn_seen : (A : Type 0) (p q : APass) (says : List Step → Type 0) → (grows : Grows p q [] says) → WornBy {A = A} (is_worn_behind (entries grows.before)) (Err lane.Worn) → length q.seen ≡ largest
 worn_seen A p q says grows worn = long_seen p q says grows (worn_long A (is_worn_behind (entries grows.before)) worn)

@@ -5,7 +5,7 @@ use Rattle.fluid_json.specs.declared.memory.NoMemory.{NoMemory as Refused}
 use Rattle.fluid_types.specs.Fits.{Fits}
 use Rattle.fluid_types.specs.Names.{entry_name}
 use Rattle.fluid_types.specs.declared.entries.Raw.TheVariants.{Join}
-use Rattle.fluid_document.specs.Entries.{most}
+use Rattle.fluid_types.specs.Forms.{largest}
 use Rattle.fluid_codec.specs.declared.replies.Reply.{Reply}
 use Rattle.fluid_opening.specs.declared.fault.DoorFault.{DoorFault}
 use Rattle.fluid_opening.specs.declared.fault.DoorFault.TheVariants as door
@@ -43,7 +43,7 @@ name_of a = []
 
 -- its join fits a log under whichever id it gets
 abbrev pub FitsJoin : Connect → Type 0
-FitsJoin connect = (n : ℕ) → n ≤ most → Fits (Join (entry_name n) connect.scopes connect.detail connect.moment)
+FitsJoin connect = (n : ℕ) → n ≤ largest → Fits (Join (entry_name n) connect.scopes connect.detail connect.moment)
 
 -- ---- the visit that was handed in, and the service
 
@@ -73,7 +73,7 @@ ReachesBy name handed k m (Err fault) = IsRefusedDoor name fault (keyed k) (keye
 -- the visit behind asking it
 pub record Greets (connect : Connect) (visit now : Visiting) (answer : Result ActEnd TalkFault) : Type 0 where
   pub door : now.door ≡ visit.door
-  pub few : length now.pass.seen ≤ most
+  pub few : length now.pass.seen ≤ largest
   pub does : DoesAs (knowing visit.door.name visit.pass) (knowing now.door.name now.pass) (act_of connect) answer
   pub ends : IfOk answer (IsConnectEnd (Some visit.door.name) (act_of connect))
   pub faults : IfErr answer (λ fault. IsFaultOf (Some visit.door.name) (Some fault))
@@ -86,7 +86,7 @@ IsAheadIn write q end = ⊤
 
 pub record MaySettle (name : List ℕ) (write : Bool) (visit : Visiting) (answer : Result ActEnd TalkFault) : Type 0 where
   pub named : visit.door.name ≡ name
-  pub few : length visit.pass.seen ≤ most
+  pub few : length visit.pass.seen ≤ largest
   pub ahead : IfOk answer (IsAheadIn write (knowing visit.door.name visit.pass))
 
 -- ---- what is said to it

@@ -2,7 +2,7 @@
 use Rattle.std.specs.Prelude.{◌≡◌, ◌<◌, ◌≤◌, ℕ, ◌+◌, true, List, [], ◌∷◌, ◌++◌, length, All, Result, Ok, Err}
 use Rattle.fluid_types.specs.declared.messages.Message.{Message}
 use Rattle.fluid_types.specs.Order.{AreNumberedFrom}
-use Rattle.fluid_document.specs.Entries.{most}
+use Rattle.fluid_types.specs.Forms.{largest}
 use Rattle.fluid_deltas.specs.Pushed.{slice}
 use Rattle.fluid_deltas.specs.Ranges.{AreNumbersOf}
 use Rattle.fluid_deltas.specs.declared.fault.DeltaFault.{DeltaFault}
@@ -86,4 +86,4 @@ CollectsAll name p q from (Err fault) = FailsToCollect p q fault
 -- by the same door
 pub record ComesBack (old new : Visiting) : Type 0 where
   pub door : new.door ≡ old.door
-  pub few : length new.pass.seen ≤ most
+  pub few : length new.pass.seen ≤ largest

@@ -2,7 +2,7 @@
 use Rattle.std.specs.Prelude.{◌≡◌, ◌<◌, ◌≤◌, ℕ, true, List, length, Option, Some, None, IfSome, refl}
 use Rattle.std.specs.Coded.{Coded, code_by, coded×, coded_ℕ, coded_list, coded_option}
 use Rattle.fluid_turn.specs.declared.view.Numbered.{Numbered}
-use Rattle.fluid_document.specs.Entries.{most}
+use Rattle.fluid_types.specs.Forms.{largest}
 use Rattle.fluid_opening.specs.declared.shelf.ShelfStep.{ShelfStep}
 use Rattle.fluid_opening.specs.contracts.shelf.ShelfStep as shelf_steps
 use Rattle.fluid_service.specs.Visiting.{Visiting}
@@ -42,7 +42,7 @@ pub record IsTalk (t : Talked) : Type 0 where
   pub named : is_connected t.voice ≡ true → (pass_of t.visit).name ≡ document_name t.voice
   pub first : is_connected t.voice ≡ true → 0 < next_number t.voice
   pub next : is_connected t.voice ≡ true → (pass_of t.visit).told ≡ true → next_number t.voice ≤ number_behind_last (pass_of t.visit).seen
-  pub few : is_connected t.voice ≡ true → length (pass_of t.visit).seen ≤ most
+  pub few : is_connected t.voice ≡ true → length (pass_of t.visit).seen ≤ largest
 
 -- one that noted how many steps its document had has delivered all that its pass has seen
 abbrev pub IsDelivered : Talking → Type 0

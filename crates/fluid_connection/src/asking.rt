@@ -1,7 +1,7 @@
 // What a text asks for beside entries: one act alone.
 ghost use Rattle.std.specs.Prelude.{◌≡◌, ◌≤◌, ◌∷◌, [], length, Result, IfOk};
 ghost use Rattle.fluid_deltas.specs.declared.fault.DeltaFault.{DeltaFault as ADeltaFault};
-ghost use Rattle.fluid_document.specs.Entries.{most};
+ghost use Rattle.fluid_types.specs.Forms.{largest};
 ghost use Rattle.fluid_doors.specs.Looking.{IsLook, SuitsLook};
 ghost use Rattle.fluid_voice.specs.declared.ends.ActEnd.{ActEnd as AnEnd};
 ghost use Rattle.fluid_connection.specs.Knowing.{knowing};
@@ -32,7 +32,7 @@ pub(crate) fn do_one<R: Wait, K: Keeper, O: Objects>(
     requires pass { pass.turn ≡ door.now.turn }
     requires act { IsQuestion act }
     ensures turn { result.0.turn ≡ door.now.turn }
-    ensures few { length pass.seen ≤ most → length result.0.seen ≤ most }
+    ensures few { length pass.seen ≤ largest → length result.0.seen ≤ largest }
     ensures same { voice.new ≡ voice.old }
     ensures does { HearsActs voice.old (knowing door.now.name pass) (knowing door.now.name result.0) (O.seen objects.old) (O.seen objects.new) (act ∷ []) result.1 result.2 }
 {
@@ -58,7 +58,7 @@ fn ask<R: Wait, K: Keeper, O: Objects>(
     requires pass { pass.turn ≡ door.now.turn }
     requires act { IsQuestion act.now }
     ensures turn { result.0.turn ≡ door.now.turn }
-    ensures few { length pass.seen ≤ most → length result.0.seen ≤ most }
+    ensures few { length pass.seen ≤ largest → length result.0.seen ≤ largest }
     ensures does { AsksAs (knowing door.now.name pass) (knowing door.now.name result.0) (O.seen objects.old) (O.seen objects.new) act.now result.1 }
 {
     match act {
@@ -83,7 +83,7 @@ pub(crate) fn look<R: Wait, K: Keeper>(
     requires pass { pass.turn ≡ door.now.turn }
     requires act { IsLook act.now }
     ensures turn { result.0.turn ≡ door.now.turn }
-    ensures few { length result.0.seen ≤ most }
+    ensures few { length result.0.seen ≤ largest }
     ensures looked { (answer : Result AnEnd ADeltaFault) × ((result.1 ≡ looked answer) × IfOk answer (SuitsLook act.now)) }
     ensures does { DoesAs (knowing door.now.name pass) (knowing door.now.name result.0) act.now result.1 }
 {

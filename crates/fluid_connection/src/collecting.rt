@@ -1,6 +1,6 @@
 // What a connection collects: the messages that it hasn't delivered.
 ghost use Rattle.std.specs.Prelude.{◌≡◌, ◌<◌, ◌≤◌, ◌+◌, ◌^◌, List, ℕ, true, false, length, Some, None, is_some, IfOk};
-ghost use Rattle.fluid_document.specs.Entries.{most};
+ghost use Rattle.fluid_types.specs.Forms.{largest};
 ghost use Rattle.fluid_voice.specs.States.{is_connected, next_number};
 ghost use Rattle.fluid_doors.specs.Collecting.{IsEventUnder, gathered};
 ghost use Rattle.fluid_talk.specs.Talking.{number_behind_last};
@@ -88,7 +88,7 @@ fn collect_slices<R: Wait, K: Keeper>(
     requires first { 0 < next }
     requires within { pass.turn.fixed.told ≡ true → next ≤ number_behind_last pass.seen }
     ensures turn { result.0.turn ≡ door.now.turn }
-    ensures few { length result.0.seen ≤ most }
+    ensures few { length result.0.seen ≤ largest }
     ensures does { CollectsAll door.now.name (knowing door.now.name pass) (knowing door.now.name result.0) next result.1 }
 {
     let steps = door.hint();
@@ -130,7 +130,7 @@ fn collect_next<R: Wait, K: Keeper>(
     requires pass { pass.turn ≡ door.now.turn }
     requires first { 0 < next }
     ensures turn { result.0.turn ≡ door.now.turn }
-    ensures few { length result.0.seen ≤ most }
+    ensures few { length result.0.seen ≤ largest }
     ensures does { TakesNext door.now.name (knowing door.now.name pass) (knowing door.now.name result.0) next events.old events.new result.1 }
 {
     let cursor = Cursor { next };

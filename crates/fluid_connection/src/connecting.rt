@@ -1,6 +1,6 @@
 // How a document is reached.
 ghost use Rattle.std.specs.Prelude.{◌≡◌, ◌≤◌, ◌∷◌, [], true, false, if◌then◌else◌, None};
-ghost use Rattle.fluid_document.specs.Entries.{most};
+ghost use Rattle.fluid_types.specs.Forms.{largest};
 ghost use Rattle.fluid_service.specs.Keys.{Serving};
 ghost use Rattle.fluid_voice.specs.declared.states.VoiceState.TheVariants.{Fresh};
 ghost use Rattle.fluid_voice.specs.States.{is_connected};
@@ -50,7 +50,7 @@ where
         requires service { belongs self.old service.now }
         requires fresh { self.old.voice ≡ Fresh }
         requires fits { FitsJoin connect }
-        requires moment { connect.moment ≤ most }
+        requires moment { connect.moment ≤ largest }
         ensures service { (x : Serving) → belongs self.old x → belongs self.new x }
         ensures does { HearsOther (talking self.old) (talking self.new) (act_of connect ∷ []) result.0 result.1 }
     {
@@ -83,7 +83,7 @@ where
         moment: u64,
     ) -> Result<Visit<B::K>, DoorFault>
         requires service { belongs self.old service.now }
-        requires moment { moment ≤ most }
+        requires moment { moment ≤ largest }
         ensures same { self.new ≡ record self.old { key = self.new.key } }
         ensures service { (x : Serving) → belongs self.old x → belongs self.new x }
         ensures reached { ReachesBy name.now self.old.handed self.old.key self.new.key result }

@@ -1,6 +1,6 @@
 // The entries of a connection.
 ghost use Rattle.std.specs.Prelude.{◌≡◌, ◌≤◌, true, length};
-ghost use Rattle.fluid_document.specs.Entries.{most};
+ghost use Rattle.fluid_types.specs.Forms.{largest};
 ghost use Rattle.fluid_types.specs.Fits.{Fits};
 ghost use Rattle.fluid_lane.specs.Standing.{IsLeaveOrSubmission};
 ghost use Rattle.fluid_connection.specs.Knowing.{knowing};
@@ -33,7 +33,7 @@ pub(crate) fn enter<R: Wait, K: Keeper>(
     requires fits { Fits raw }
     requires kind { IsLeaveOrSubmission raw }
     ensures turn { result.0.turn ≡ door.now.turn }
-    ensures few { length result.0.seen ≤ most }
+    ensures few { length result.0.seen ≤ largest }
     ensures does { DoesAs (knowing door.now.name pass) (knowing door.now.name result.0) (AnAct.Enter raw) result.1 }
 {
     let (pass, answer) = door.submit(rt, alloc, pass, raw);
@@ -53,7 +53,7 @@ pub(crate) fn enter_all<R: Wait, K: Keeper>(
     requires pass { pass.turn ≡ door.now.turn }
     requires acts { AreSubmissions acts.items }
     ensures turn { result.0.turn ≡ door.now.turn }
-    ensures few { length pass.seen ≤ most → length result.0.seen ≤ most }
+    ensures few { length pass.seen ≤ largest → length result.0.seen ≤ largest }
     ensures does { EntersText voice.now (knowing door.now.name pass) (knowing door.now.name result.0) acts.items result.1 result.2 }
 {
     let mut pass = pass;
@@ -83,7 +83,7 @@ fn enter_next<R: Wait, K: Keeper>(
     requires full { told.old.full ≡ true → IsFullAt (knowing door.now.name pass) }
     requires room { HasRoom told.old.counts }
     ensures turn { result.0.turn ≡ door.now.turn }
-    ensures few { length pass.seen ≤ most → length result.0.seen ≤ most }
+    ensures few { length pass.seen ≤ largest → length result.0.seen ≤ largest }
     ensures does { NextDoes voice.now told.old told.new (knowing door.now.name pass) (knowing door.now.name result.0) act result.1 }
 {
     let raw = entry_of(act);

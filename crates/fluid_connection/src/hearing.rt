@@ -2,7 +2,6 @@
 ghost use Rattle.std.specs.Prelude.{◌≡◌, ◌≤◌, true, false, length, All, Some};
 ghost use Rattle.fluid_types.specs.Forms.{largest};
 ghost use Rattle.fluid_readback.specs.Laws.{longest_text};
-ghost use Rattle.fluid_document.specs.Entries.{most};
 ghost use Rattle.fluid_service.specs.Keys.{Serving};
 ghost use Rattle.fluid_voice.specs.Fitting.{IsFitting};
 ghost use Rattle.fluid_voice.specs.States.{is_connected, is_used};
@@ -150,7 +149,7 @@ fn do_acts<R: Wait, K: Keeper, O: Objects>(
     requires fit { All IsFitting acts }
     ensures same { voice.new ≡ voice.old }
     ensures door { result.0.door ≡ visit.door }
-    ensures few { length visit.pass.seen ≤ most → length result.0.pass.seen ≤ most }
+    ensures few { length visit.pass.seen ≤ largest → length result.0.pass.seen ≤ largest }
     ensures does { HearsActs voice.old (knowing visit.door.name visit.pass) (knowing result.0.door.name result.0.pass) (O.seen objects.old) (O.seen objects.new) acts result.1 result.2 }
 {
     let (door, pass) = visit.into_parts();

@@ -1,6 +1,6 @@
 // How a client leaves.
 ghost use Rattle.std.specs.Prelude.{◌≡◌, ◌≤◌, true, length, is_some};
-ghost use Rattle.fluid_document.specs.Entries.{most};
+ghost use Rattle.fluid_types.specs.Forms.{largest};
 ghost use Rattle.fluid_types.specs.declared.entries.Raw.{Raw as ARaw};
 ghost use Rattle.fluid_voice.specs.declared.actions.Act.TheVariants as AnAct;
 ghost use Rattle.fluid_voice.specs.declared.states.VoiceState.TheVariants.{Used};
@@ -47,7 +47,7 @@ fn enter<R: Wait, K: Keeper>(
     requires pass { pass.turn ≡ door.now.turn }
     requires leave { IsLeave raw }
     ensures turn { result.0.turn ≡ door.now.turn }
-    ensures few { length result.0.seen ≤ most }
+    ensures few { length result.0.seen ≤ largest }
     ensures does { EntersBy (knowing door.now.name pass) (knowing door.now.name result.0) raw result.1 }
 {
     let (pass, answer) = door.submit(rt, alloc, pass, raw);

@@ -12,7 +12,8 @@ use Rattle.fluid_store.specs.Held.{Held}
 use Rattle.fluid_store.specs.Storing.{Storing}
 use Rattle.fluid_runtime.specs.AppTree.{tree_since}
 use Rattle.fluid_tree.specs.Summary.{Summary}
-use Rattle.fluid_document.specs.Entries.{Entries, most}
+use Rattle.fluid_types.specs.Forms.{largest}
+use Rattle.fluid_document.specs.Entries.{Entries}
 use Rattle.fluid_document.proofs.Foldings.{entered-entries_of}
 use Rattle.fluid_lane.specs.Steps.{ledger}
 use Rattle.fluid_lane.specs.Standing.{Standing, IsTold, is_worn}
@@ -197,9 +198,9 @@ module _ (limits : Limits) (old new : Standing) (d : Document) (of : IsLaneOf li
         length_ledger d.raws,
       )
 
-  worn_then : (linked after : Linked) → linked.told ≡ told_by true old store → after.told ≡ told_by true new now → OneMore linked.told after.told → is_worn new ≡ true → most ≤ steps_on d new + 1
+  worn_then : (linked after : Linked) → linked.told ≡ told_by true old store → after.told ≡ told_by true new now → OneMore linked.told after.told → is_worn new ≡ true → largest ≤ steps_on d new + 1
   worn_then linked after told told_now one worn =
-      omega (arith, leb-true most (new.entries.entered + new.sides) worn, bounded_by linked.told after.told (sym told) (sym told_now) one)
+      omega (arith, leb-true largest (new.entries.entered + new.sides) worn, bounded_by linked.told after.told (sym told) (sym told_now) one)
 
 -- where the lane stood for a document, a call ends so as it may over a desk that stands for a world
 pub left_ends : (good : Bool) (began old new : Standing) (first before now : Storing) (a : Along) (stop : Option LentFault) (trees : ℕ) (fault : LentFault) (result : Stop) → old ≡ began → before ≡ first

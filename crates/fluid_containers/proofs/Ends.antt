@@ -12,7 +12,7 @@ use Rattle.fluid_store.specs.declared.fault.StoreFault.{StoreFault}
 use Rattle.fluid_store.specs.declared.fault.StoreFault.TheVariants as store
 use Rattle.fluid_lane.specs.declared.fault.LaneFault.{LaneFault}
 use Rattle.fluid_lane.specs.declared.fault.LaneFault.TheVariants as lanes
-use Rattle.fluid_document.specs.Entries.{most}
+use Rattle.fluid_types.specs.Forms.{largest}
 use Rattle.fluid_lane.specs.Standing.{Standing, is_worn}
 use Rattle.fluid_lanes.specs.Opened.{Opened, with_lane}
 use Rattle.fluid_desk.specs.declared.stop.Stop.{Stop}
@@ -82,7 +82,7 @@ unlent_links old before (Err stop) is = record { later = omega arith; sides = om
 -- ---- over a desk that stands for a world
 
 -- a lane that stands for a list refuses nothing but that it is worn
-lane_honest : (steps : ℕ) (old new : Standing) (fault : LaneFault) → (is_worn new ≡ true → most ≤ steps + 1) → failing.LaneFails old new fault → stops.IsHonest steps (stop_of fault)
+lane_honest : (steps : ℕ) (old new : Standing) (fault : LaneFault) → (is_worn new ≡ true → largest ≤ steps + 1) → failing.LaneFails old new fault → stops.IsHonest steps (stop_of fault)
 lane_honest steps old new (lanes.LogFailed note) worn cause = tt
 lane_honest steps old new (lanes.DeltaFailed note) worn cause = tt
 lane_honest steps old new lanes.Worn worn cause = worn cause
@@ -95,7 +95,7 @@ lane_honest steps old new lanes.CheckpointsFull worn cause = absurd cause
 lane_honest steps old new (lanes.BadCheckpoint n f) worn cause = absurd cause
 lane_honest steps old new (lanes.TooLarge n) worn cause = absurd cause
 
-delta_honest : (steps : ℕ) (old new : Standing) (fault : DeltaFault) → (is_worn new ≡ true → most ≤ steps + 1) → failing.DeltasFail old new fault → failing.IsHonest (Deltas fault) → stops.IsHonest steps (delta_stop fault)
+delta_honest : (steps : ℕ) (old new : Standing) (fault : DeltaFault) → (is_worn new ≡ true → largest ≤ steps + 1) → failing.DeltasFail old new fault → failing.IsHonest (Deltas fault) → stops.IsHonest steps (delta_stop fault)
 delta_honest steps old new (delta.DeltaFailed note) worn cause honest = tt
 delta_honest steps old new (delta.BadDelta n) worn cause honest = absurd honest
 delta_honest steps old new delta.Worn worn cause honest = worn cause
@@ -113,7 +113,7 @@ store_honest steps (store.BadObject id place) mild = absurd (differ mild)
 store_honest steps (store.Tree f) mild = absurd (differ mild)
 store_honest steps (store.NoPath path) mild = absurd (differ mild)
 
-pub fault_honest : (steps : ℕ) (old new : Standing) (before now : Storing) (fault : LentFault) → (is_worn new ≡ true → most ≤ steps + 1) → HasCause old new before now fault → failing.IsHonest fault → is_refusal fault ≡ false
+pub fault_honest : (steps : ℕ) (old new : Standing) (before now : Storing) (fault : LentFault) → (is_worn new ≡ true → largest ≤ steps + 1) → HasCause old new before now fault → failing.IsHonest fault → is_refusal fault ≡ false
     → stops.IsHonest steps (stop_for fault)
 fault_honest steps old new before now (Lane fault) worn cause honest mild = lane_honest steps old new fault worn cause
 fault_honest steps old new before now (Deltas fault) worn cause honest mild = delta_honest steps old new fault worn cause honest
@@ -132,7 +132,7 @@ none_refused stop trees fault after none is =
     by true same = absurd (few (subst (λ n. 1 ≤ n) none (after (ap (λ o. option_map_or is_refusal o false) is ∙ same))))
 
 pub stop_honest : (steps : ℕ) (old new : Standing) (before now : Storing) (stop : Option LentFault) (trees : ℕ) (fault : LentFault) → IsAlong true old before (record { lane = new; store = now; stop = stop })
-    → IsTreeCounted stop trees → trees ≡ 0 → stop ≡ Some fault → (is_worn new ≡ true → most ≤ steps + 1) → stops.IsHonest steps (stop_for fault)
+    → IsTreeCounted stop trees → trees ≡ 0 → stop ≡ Some fault → (is_worn new ≡ true → largest ≤ steps + 1) → stops.IsHonest steps (stop_for fault)
 stop_honest steps old new before now stop trees fault along after none is worn =
     fault_honest steps old new before now fault worn (if_some (HasCause old new before now) stop fault is along.cause) (if_some failing.IsHonest stop fault is (along.honest refl)) (none_refused stop trees fault after none is)
 
@@ -146,7 +146,7 @@ left_well good began old new first before now a stop at_first at_before at is al
 -- where the lane stood, an end is one that a desk which stands for a world may have
 pub left_honest : (good : Bool) (began old new : Standing) (first before now : Storing) (a : Along) (stop : Option LentFault) (trees : ℕ) (fault : LentFault) (result : Stop) → old ≡ began → before ≡ first
     → a ≡ record { lane = new; store = now; stop = a.stop } → stop ≡ a.stop → IsAlong good began first a → good ≡ true → IsTreeCounted a.stop trees → trees ≡ 0 → stop ≡ Some fault → result ≡ stop_for fault
-    → (steps : ℕ) → (is_worn new ≡ true → most ≤ steps + 1) → stops.IsHonest steps result
+    → (steps : ℕ) → (is_worn new ≡ true → largest ≤ steps + 1) → stops.IsHonest steps result
 left_honest good began old new first before now a stop trees fault result at_first at_before at is along holds counted none there same steps worn =
     subst (stops.IsHonest steps) (sym same)
     (stop_honest steps old new before now stop trees fault (subst (λ g. IsAlong g old before (record { lane = new; store = now; stop = stop })) holds (left_so good began old new first before now a stop at_first at_before at is along))

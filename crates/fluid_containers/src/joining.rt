@@ -1,6 +1,6 @@
 //! A container's client joins its document.
 ghost use Rattle.std.specs.Prelude.{◌≡◌, ◌≤◌, IfOk};
-ghost use Rattle.fluid_document.specs.Entries.{most};
+ghost use Rattle.fluid_types.specs.Forms.{largest};
 ghost use Rattle.fluid_rules.specs.declared.limits.Limits.{Limits as ALimits};
 ghost use Rattle.fluid_transcript.specs.World.{World, Document};
 ghost use Rattle.fluid_desk.specs.Stands.{IsLaneOf};
@@ -27,7 +27,7 @@ pub(crate) fn join<K: Keeper, O: Objects>(
     document: &DocName,
     moment: u64,
 ) -> Result<Result<ClientId, ConnectRefusal>, Stop>
-    requires moment { moment ≤ most }
+    requires moment { moment ≤ largest }
     ensures does { (limits : ALimits) (w : World) (d : Document) → IsLaneOf limits lane.old d → w.moment ≡ moment → JoinsLane limits w d lane.new result }
     ensures store { objects.new ≡ objects.old }
     ensures stood { HasStood lane.old → IfOk result (λ _. HasStood lane.new) }

@@ -3,7 +3,7 @@ ghost use Rattle.std.specs.Prelude.{◌≡◌, ◌≤◌, ◌+◌, ℕ, Bool, Li
 ghost use Rattle.std.specs.List.{last_or};
 ghost use Rattle.std.specs.FinMap.{get};
 ghost use Rattle.fluid_types.specs.Ledger.{Ledger};
-ghost use Rattle.fluid_document.specs.Entries.{most};
+ghost use Rattle.fluid_types.specs.Forms.{largest};
 ghost use Rattle.fluid_rules.specs.declared.limits.Limits.{Limits as ALimits};
 ghost use Rattle.fluid_steps.specs.declared.steps.Step.TheVariants as step;
 ghost use Rattle.fluid_store.specs.Held.{Held as AreHeld};
@@ -69,7 +69,7 @@ pub fn load<B: Shelves, O: Objects>(
 where
     B::K: Drop,
     ghost good: { Bool }
-    requires moment { moment ≤ most }
+    requires moment { moment ≤ largest }
     requires stands { MayStand good lanes.old }
     ensures does { (w : World) → good ≡ true → DeskStands lanes.old w → StoreStands objects.old w → IsSound w → w.moment ≡ moment → get w.names name.now ≡ None →
         LoadDoes (done lanes.old.limits w (step.Load name.now document.now pick.now)) name.now lanes.new objects.new result }
@@ -112,7 +112,7 @@ fn load_on<K: Keeper, O: Objects>(
     moment: u64,
 ) -> Result<(Text, Loaded), Stop>
     ghost good: { Bool }
-    requires moment { moment ≤ most }
+    requires moment { moment ≤ largest }
     requires stood { good ≡ true → HasStood lane.old }
     ensures does { (limits : ALimits) (w : World) (d : Document) → good ≡ true → IsLaneOf limits lane.old d → StoreStands objects.old w → w.moment ≡ moment →
         LaneLoadsAs limits w d name.now document.now pick.now lane.new objects.new result }
@@ -135,7 +135,7 @@ pub fn load_last<B: Shelves, O: Objects>(
 where
     B::K: Drop,
     ghost good: { Bool }
-    requires moment { moment ≤ most }
+    requires moment { moment ≤ largest }
     requires stands { MayStand good lanes.old }
     ensures does { (w : World) → good ≡ true → DeskStands lanes.old w → StoreStands objects.old w → IsSound w → w.moment ≡ moment →
         DeskDoesWith (loaded_last_in lanes.old.limits w document.now) lanes.new objects.new result }
@@ -158,7 +158,7 @@ fn load_last_on<K: Keeper, O: Objects>(
     moment: u64,
 ) -> Result<Text, Stop>
     ghost good: { Bool }
-    requires moment { moment ≤ most }
+    requires moment { moment ≤ largest }
     requires stood { good ≡ true → HasStood lane.old }
     ensures does { (limits : ALimits) (w : World) (d : Document) → good ≡ true → IsLaneOf limits lane.old d → StoreStands objects.old w → w.moment ≡ moment →
         LaneEndsIn limits w d document.now (last_pick d) lane.new objects.new result }
@@ -190,7 +190,7 @@ fn load_lane<K: Keeper, O: Objects>(
     moment: u64,
 ) -> Result<Loaded, Stop>
     ghost good: { Bool }
-    requires moment { moment ≤ most }
+    requires moment { moment ≤ largest }
     requires stood { good ≡ true → HasStood lane.old }
     ensures does { (limits : ALimits) (w : World) (d : Document) → good ≡ true → IsLaneOf limits lane.old d → StoreStands objects.old w → w.moment ≡ moment →
         LaneLoads limits w d document.now pick.now lane.new objects.new result }
@@ -215,7 +215,7 @@ fn load_as<K: Keeper, O: Objects, W: Begun>(
     pick: &Pick,
     moment: u64,
 ) -> Result<Loaded, Stop>
-    requires moment { moment ≤ most }
+    requires moment { moment ≤ largest }
     requires lane { lane.old ≡ W.began }
     requires store { objects.old ≡ W.before }
     requires stood { W.good ≡ true → HasStood W.began }

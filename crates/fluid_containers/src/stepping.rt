@@ -2,7 +2,6 @@
 ghost use Rattle.std.specs.Prelude.{◌≡◌, ◌≤◌, ◌<◌, ◌+◌, ℕ, Bool, true, Some, Ok, Err};
 ghost use Rattle.std.specs.FinMap.{get};
 ghost use Rattle.fluid_types.specs.Forms.{largest};
-ghost use Rattle.fluid_document.specs.Entries.{most};
 ghost use Rattle.fluid_loader.specs.Calls.{shown_channels};
 ghost use Rattle.fluid_loader.specs.Fitting.{MaySubmit};
 ghost use Rattle.fluid_runtime.specs.Shown.{shown};
@@ -64,7 +63,7 @@ pub fn pump<B: Shelves, O: Objects>(
 where
     B::K: Drop,
     ghost good: { Bool }
-    requires moment { moment ≤ most }
+    requires moment { moment ≤ largest }
     requires stands { MayStand good lanes.old }
     ensures does { (w : World) (k : AContainerOf) → good ≡ true → DeskStands lanes.old w → StoreStands objects.old w → IsSound w → w.moment ≡ moment →
         get w.names name.now ≡ Some (container k) → IsHolderOf w holder.old k →
@@ -93,7 +92,7 @@ fn pump_lane<K: Keeper, O: Objects, W: Begun>(
     name: &ScriptName,
     moment: u64,
 ) -> Result<Text, Stop>
-    requires moment { moment ≤ most }
+    requires moment { moment ≤ largest }
     requires lane { lane.old ≡ W.began }
     requires store { objects.old ≡ W.before }
     requires stood { W.good ≡ true → HasStood W.began }
@@ -145,7 +144,7 @@ pub fn edit<B: Shelves, O: Objects>(
 where
     B::K: Drop,
     ghost good: { Bool }
-    requires moment { moment ≤ most }
+    requires moment { moment ≤ largest }
     requires stands { MayStand good lanes.old }
     requires short { IsShort edit }
     requires numbers { holder.old.container.last < largest }
@@ -184,7 +183,7 @@ fn edit_lane<K: Keeper, O: Objects, W: Begun>(
     edit: Edit,
     moment: u64,
 ) -> Result<Text, Stop>
-    requires moment { moment ≤ most }
+    requires moment { moment ≤ largest }
     requires lane { lane.old ≡ W.began }
     requires store { objects.old ≡ W.before }
     requires stood { W.good ≡ true → HasStood W.began }
@@ -239,7 +238,7 @@ pub fn beat<B: Shelves, O: Objects>(
 where
     B::K: Drop,
     ghost good: { Bool }
-    requires moment { moment ≤ most }
+    requires moment { moment ≤ largest }
     requires stands { MayStand good lanes.old }
     requires numbers { holder.old.container.last < largest }
     ensures does { (w : World) (k : AContainerOf) → good ≡ true → DeskStands lanes.old w → StoreStands objects.old w → IsSound w → w.moment ≡ moment →
@@ -268,7 +267,7 @@ fn beat_lane<K: Keeper, O: Objects, W: Begun>(
     name: &ScriptName,
     moment: u64,
 ) -> Result<Text, Stop>
-    requires moment { moment ≤ most }
+    requires moment { moment ≤ largest }
     requires lane { lane.old ≡ W.began }
     requires store { objects.old ≡ W.before }
     requires stood { W.good ≡ true → HasStood W.began }
@@ -326,7 +325,7 @@ pub fn summarize<B: Shelves, O: Objects>(
 where
     B::K: Drop,
     ghost good: { Bool }
-    requires moment { moment ≤ most }
+    requires moment { moment ≤ largest }
     requires stands { MayStand good lanes.old }
     requires numbers { holder.old.container.last < largest }
     ensures does { (w : World) (k : AContainerOf) → good ≡ true → DeskStands lanes.old w → StoreStands objects.old w → IsSound w → w.moment ≡ moment →
@@ -362,7 +361,7 @@ fn summarize_lane<K: Keeper, O: Objects, W: Begun>(
     name: &ScriptName,
     moment: u64,
 ) -> Result<Text, Stop>
-    requires moment { moment ≤ most }
+    requires moment { moment ≤ largest }
     requires lane { lane.old ≡ W.began }
     requires store { objects.old ≡ W.before }
     requires stood { W.good ≡ true → HasStood W.began }
@@ -429,7 +428,7 @@ pub fn show<B: Shelves>(
 ) -> Result<Text, Stop>
 where
     B::K: Drop,
-    requires moment { moment ≤ most }
+    requires moment { moment ≤ largest }
     ensures does { (w : World) (k : AContainerOf) → DeskStands lanes.old w → IsSound w → w.moment ≡ moment →
         get w.names name.now ≡ Some (container k) → IsHolderOf w holder.now k →
         DeskDoes (done lanes.old.limits w (step.Show name.now)) lanes.new result }

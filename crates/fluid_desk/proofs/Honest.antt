@@ -10,7 +10,7 @@ use Rattle.fluid_types.specs.Ledger.{raws}
 use Rattle.fluid_rules.specs.Rules.{ledger as ledger_by_rules}
 use Rattle.fluid_rules.specs.declared.limits.Limits.{Limits}
 use Rattle.fluid_rules.proofs.Legal.{ledger-raws}
-use Rattle.fluid_document.specs.Entries.{most}
+use Rattle.fluid_types.specs.Forms.{largest}
 use Rattle.fluid_lane.specs.declared.fault.LaneFault.TheVariants as lane
 use Rattle.fluid_lane.specs.Standing.{Standing, is_worn}
 use Rattle.fluid_lanes.specs.Opened.{Opened, with_lane}
@@ -50,18 +50,18 @@ honest_more n m (BadStored (Lane (lane.TooLarge bytes))) le h = absurd h
 honest_more n m NoMemory le h = tt
 
 -- a worn lane has come to the end
-pub worn_steps : (limits : Limits) (s : Standing) (d : Document) → IsLaneOf limits s d → is_worn s ≡ true → most ≤ steps_on d s + 1
+pub worn_steps : (limits : Limits) (s : Standing) (d : Document) → IsLaneOf limits s d → is_worn s ≡ true → largest ≤ steps_on d s + 1
 worn_steps limits s d of worn =
-    omega (arith, leb-true most (s.entries.entered + s.sides) worn, (lane_of limits s d of).entered, length_ledger d.raws)
+    omega (arith, leb-true largest (s.entries.entered + s.sides) worn, (lane_of limits s d of).entered, length_ledger d.raws)
 
 pub grown_steps : (e : Effect) (d : Document) (s : Standing) → steps_on d s ≤ steps_on (grown e d) s
 grown_steps e d s = omega (arith, length-append d.raws e.entries)
 
 -- and stays as it was
-pub worn_same : (limits : Limits) (old new : Standing) (d : Document) → IsLaneOf limits old d → (is_worn old ≡ true) × (new ≡ old) → most ≤ steps_on d new + 1
-worn_same limits old new d of is = subst (λ s. most ≤ steps_on d s + 1) (sym is.1) (worn_steps limits old d of is.0)
+pub worn_same : (limits : Limits) (old new : Standing) (d : Document) → IsLaneOf limits old d → (is_worn old ≡ true) × (new ≡ old) → largest ≤ steps_on d new + 1
+worn_same limits old new d of is = subst (λ s. largest ≤ steps_on d s + 1) (sym is.1) (worn_steps limits old d of is.0)
 
-pub worn_grown : (limits : Limits) (old new : Standing) (e : Effect) (d : Document) → IsLaneOf limits old d → (is_worn old ≡ true) × (new ≡ old) → most ≤ steps_on (grown e d) new + 1
+pub worn_grown : (limits : Limits) (old new : Standing) (e : Effect) (d : Document) → IsLaneOf limits old d → (is_worn old ≡ true) × (new ≡ old) → largest ≤ steps_on (grown e d) new + 1
 worn_grown limits old new e d of is = omega (arith, worn_same limits old new d of is, grown_steps e d new)
 
 -- ---- on a desk

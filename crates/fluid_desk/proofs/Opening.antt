@@ -23,7 +23,8 @@ use Rattle.fluid_log.specs.Shelving.{keeper_under, fresh}
 use Rattle.fluid_ticket.proofs.JoinedRows.{rows-joined}
 use Rattle.fluid_core.specs.Entering.{State, state_of}
 use Rattle.fluid_core.proofs.Entered.{stands-sequencer}
-use Rattle.fluid_document.specs.Entries.{Entries, most, entries_of}
+use Rattle.fluid_types.specs.Forms.{largest}
+use Rattle.fluid_document.specs.Entries.{Entries, entries_of}
 use Rattle.fluid_document.specs.Kept.{IsKept}
 use Rattle.fluid_document.specs.Laws.{KeptIsLoaded, CheckpointIsLoaded}
 use Rattle.fluid_document.specs.declared.fault.LoadFault.{LoadFault}
@@ -253,13 +254,13 @@ abbrev pub opened_steps : ℕ → Document → ℕ
 opened_steps moment d = length (with_entries (farewells moment d) d).raws
 
 -- the numbers don't suffice for its entries and the leaves
-worn_start : KeptIsLoaded → CheckpointIsLoaded → (from : Option ℕ) (content : Content) (d : Document) (moment : ℕ) → IsKept false (ledger_of d) content → StartsBad from content lane.Worn → most ≤ opened_steps moment d + 1
+worn_start : KeptIsLoaded → CheckpointIsLoaded → (from : Option ℕ) (content : Content) (d : Document) (moment : ℕ) → IsKept false (ledger_of d) content → StartsBad from content lane.Worn → largest ≤ opened_steps moment d + 1
 worn_start first law from content d moment kept bad = by bad
   where
     is : loaded content from ≡ Ok (entries_of (ledger_of d))
     is = loaded_all first law (ledger_of d) content from kept
 
-    by : (loaded content from ≡ Err loading.Worn) ⊎ HasNoRoom from content → most ≤ opened_steps moment d + 1
+    by : (loaded content from ≡ Err loading.Worn) ⊎ HasNoRoom from content → largest ≤ opened_steps moment d + 1
     by (inl worn) = absurd (never_worn (entries_of (ledger_of d)) (sym is ∙ worn))
     by (inr no_room) =
         let same = same_entries no_room.entries (entries_of (ledger_of d)) (sym no_room.is ∙ is) in

@@ -10,7 +10,8 @@ use Rattle.fluid_types.specs.declared.messages.Message.{Message}
 use Rattle.fluid_types.specs.declared.verdicts.Verdict.TheVariants.{Sequenced}
 use Rattle.fluid_rules.specs.Rules.{verdict}
 use Rattle.fluid_rules.specs.declared.limits.Limits.{Limits}
-use Rattle.fluid_document.specs.Entries.{entries_of, most}
+use Rattle.fluid_types.specs.Forms.{largest}
+use Rattle.fluid_document.specs.Entries.{entries_of}
 use Rattle.fluid_document.specs.Kept.{checkpoint_text}
 use Rattle.fluid_lane.specs.declared.steps.Step.TheVariants.{Entered}
 use Rattle.fluid_lane.specs.declared.fault.LaneFault.{LaneFault}
@@ -273,7 +274,7 @@ entering_ends old new (lane.TooLarge n) may cause = absurd may
 pub worn_ends : (old new : Standing) → (is_worn old ≡ true) × (new ≡ old) → LaneEnds old new (stop_of lane.Worn)
 worn_ends old new is = ap is_worn is.1 ∙ is.0
 
-pub unruled_honest : {A : Type 0} (steps : ℕ) (old new : Standing) (fault : LaneFault) → IsGated {A = A} old new [] IsOutside (Err fault) → ((is_worn old ≡ true) × (new ≡ old) → most ≤ steps + 1) → IsHonest steps (stop_of fault)
+pub unruled_honest : {A : Type 0} (steps : ℕ) (old new : Standing) (fault : LaneFault) → IsGated {A = A} old new [] IsOutside (Err fault) → ((is_worn old ≡ true) × (new ≡ old) → largest ≤ steps + 1) → IsHonest steps (stop_of fault)
 unruled_honest {A = A} steps old new fault gate worn = by (is_worn old) refl
   where
     by : (b : Bool) → is_worn old ≡ b → IsHonest steps (stop_of fault)

@@ -4,7 +4,7 @@ use Rattle.std.specs.FinMap.{get}
 use Rattle.std.specs.Option.{option_map_or}
 use Rattle.fluid_io.specs.Causes.{Rose}
 use Rattle.fluid_deltas.specs.Ranges.{IsNoted}
-use Rattle.fluid_document.specs.Entries.{most}
+use Rattle.fluid_types.specs.Forms.{largest}
 use Rattle.fluid_lane.specs.declared.fault.LaneFault.{LaneFault}
 use Rattle.fluid_lane.specs.declared.fault.LaneFault.TheVariants as lane
 use Rattle.fluid_lane.specs.Standing.{Standing, is_worn}
@@ -37,7 +37,7 @@ turned_by door.NoMemory = Err NoMemory
 -- over a desk that stands for a world nothing that is stored is refused, but that a document with so many entries and side steps, or
 -- one entry more, has come to the end of all numbers
 abbrev pub IsHonest : (steps : ℕ) → Stop → Type 0
-IsHonest steps (BadStored (Lane lane.Worn)) = most ≤ steps + 1
+IsHonest steps (BadStored (Lane lane.Worn)) = largest ≤ steps + 1
 IsHonest steps (BadStored fault) = ⊥
 IsHonest steps other = ⊤
 

@@ -1,7 +1,7 @@
 //! The steps on a document. Each opens its document at its first use, at a moment that is the number of its line, and gives the line
 //! that is written for it, without its end, or says why the script ends there.
 ghost use Rattle.std.specs.Prelude.{◌≡◌, ◌≤◌, ◌+◌, ℕ};
-ghost use Rattle.fluid_document.specs.Entries.{most};
+ghost use Rattle.fluid_types.specs.Forms.{largest};
 ghost use Rattle.fluid_steps.specs.declared.steps.Step.TheVariants as step;
 ghost use Rattle.fluid_transcript.specs.World.{World};
 ghost use Rattle.fluid_transcript.specs.Transcript.{done};
@@ -31,7 +31,7 @@ pub fn count<B: Shelves>(
 ) -> Result<Text, Stop>
 where
     B::K: Drop,
-    requires moment { moment ≤ most }
+    requires moment { moment ≤ largest }
     ensures does { (w : World) → DeskStands lanes.old w → w.moment ≡ moment → DeskDoes (done lanes.old.limits w (step.Count name.now)) lanes.new result }
     ensures runs { (before steps : ℕ) → HasRun before steps lanes.old → RunsOn before (steps + 1) lanes.new result }
     ensures limits { lanes.new.limits ≡ lanes.old.limits }
@@ -52,7 +52,7 @@ pub fn checkpoint<B: Shelves>(
 ) -> Result<Text, Stop>
 where
     B::K: Drop,
-    requires moment { moment ≤ most }
+    requires moment { moment ≤ largest }
     ensures does { (w : World) → DeskStands lanes.old w → w.moment ≡ moment → DeskDoes (done lanes.old.limits w (step.Checkpoint name.now)) lanes.new result }
     ensures runs { (before steps : ℕ) → HasRun before steps lanes.old → RunsOn before (steps + 1) lanes.new result }
     ensures limits { lanes.new.limits ≡ lanes.old.limits }
@@ -74,7 +74,7 @@ pub fn restart<B: Shelves>(
 ) -> Result<Text, Stop>
 where
     B::K: Drop,
-    requires moment { moment ≤ most }
+    requires moment { moment ≤ largest }
     ensures does { (w : World) → DeskStands lanes.old w → w.moment ≡ moment → DeskDoes (done lanes.old.limits w (step.Restart name.now number)) lanes.new result }
     ensures runs { (before steps : ℕ) → HasRun before steps lanes.old → RunsOn before (steps + 1) lanes.new result }
     ensures limits { lanes.new.limits ≡ lanes.old.limits }
@@ -96,7 +96,7 @@ pub fn sweep<B: Shelves>(
 ) -> Result<Text, Stop>
 where
     B::K: Drop,
-    requires moment { moment ≤ most }
+    requires moment { moment ≤ largest }
     ensures does { (w : World) → DeskStands lanes.old w → w.moment ≡ moment → DeskDoes (done lanes.old.limits w (step.Sweep name.now silence)) lanes.new result }
     ensures runs { (before steps : ℕ) → HasRun before steps lanes.old → RunsOn before (steps + 1) lanes.new result }
     ensures limits { lanes.new.limits ≡ lanes.old.limits }
@@ -119,7 +119,7 @@ pub fn scribe<B: Shelves, O: Objects>(
 ) -> Result<Text, Stop>
 where
     B::K: Drop,
-    requires moment { moment ≤ most }
+    requires moment { moment ≤ largest }
     ensures does { (w : World) → DeskStands lanes.old w → StoreStands (O.seen objects.old) w → w.moment ≡ moment →
         DeskDoesWith (done lanes.old.limits w (step.Scribe name.now)) lanes.new (O.seen objects.new) result }
     ensures runs { (before steps : ℕ) → HasRun before steps lanes.old → RunsWith before (steps + 1) (O.seen objects.old) lanes.new (O.seen objects.new) result }
@@ -142,7 +142,7 @@ pub fn reopen<B: Shelves>(
 ) -> Result<Text, Stop>
 where
     B::K: Drop,
-    requires moment { moment ≤ most }
+    requires moment { moment ≤ largest }
     ensures does { (w : World) → DeskStands lanes.old w → w.moment ≡ moment → DeskDoes (done lanes.old.limits w (step.Reopen name.now)) lanes.new result }
     ensures runs { (before steps : ℕ) → HasRun before steps lanes.old → RunsOn before (steps + 1) lanes.new result }
     ensures limits { lanes.new.limits ≡ lanes.old.limits }

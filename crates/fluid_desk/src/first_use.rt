@@ -1,6 +1,6 @@
 //! A document's first use.
 ghost use Rattle.std.specs.Prelude.{◌≡◌, ◌≤◌, ℕ, IfOk, IfErr};
-ghost use Rattle.fluid_document.specs.Entries.{most};
+ghost use Rattle.fluid_types.specs.Forms.{largest};
 ghost use Rattle.fluid_transcript.specs.World.{World};
 ghost use Rattle.fluid_desk.specs.Stands.{DeskStands};
 ghost use Rattle.fluid_desk.specs.Stopping.{HasRun, RunsOn, turned_by};
@@ -23,7 +23,7 @@ pub fn ready<B: Shelves>(
 ) -> Result<bool, Stop>
 where
     B::K: Drop,
-    requires moment { moment ≤ most }
+    requires moment { moment ≤ largest }
     ensures readied { IfOk result (IsReadied name.now moment lanes.old lanes.new) }
     ensures honest { (w : World) → DeskStands lanes.old w → IfErr result (IsUnready w name.now lanes.new) }
     ensures runs { (before steps : ℕ) → HasRun before steps lanes.old → RunsOn before steps lanes.new result }

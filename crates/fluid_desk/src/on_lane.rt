@@ -1,6 +1,6 @@
 //! The steps on the lane of a document that is open.
 ghost use Rattle.std.specs.Prelude.{◌≡◌, ◌≤◌, ℕ};
-ghost use Rattle.fluid_document.specs.Entries.{most};
+ghost use Rattle.fluid_types.specs.Forms.{largest};
 ghost use Rattle.fluid_rules.specs.declared.limits.Limits.{Limits as ALimits};
 ghost use Rattle.fluid_transcript.specs.World.{World, Document, ledger_of};
 ghost use Rattle.fluid_transcript.specs.Documents.{checkpointed, counted_up, restarted, swept};
@@ -67,7 +67,7 @@ pub(crate) fn sweep<K: Keeper>(
     moment: u64,
     silence: u64,
 ) -> Result<Text, Stop>
-    requires moment { moment ≤ most }
+    requires moment { moment ≤ largest }
     ensures does { (limits : ALimits) (w : World) (d : Document) → IsLaneOf limits lane.old d → w.moment ≡ moment → ActDoes limits (swept w d name.now silence) d lane.new result }
     ensures runs { LaneRuns lane.old lane.new result }
 {

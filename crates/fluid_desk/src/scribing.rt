@@ -1,7 +1,7 @@
 //! What the scribe does about the pending summarize of a document whose lane is in hand.
 ghost use Rattle.std.specs.Prelude.{◌≡◌, ◌≤◌, ◌++◌, ℕ, Some, IfOk, codes, decimal};
 ghost use Rattle.fluid_rules.specs.Scribe.{reported};
-ghost use Rattle.fluid_document.specs.Entries.{most};
+ghost use Rattle.fluid_types.specs.Forms.{largest};
 ghost use Rattle.fluid_core.specs.Entering.{IsUpTo};
 ghost use Rattle.fluid_rules.specs.declared.answers.Answer.{Answer};
 ghost use Rattle.fluid_rules.specs.declared.limits.Limits.{Limits as ALimits};
@@ -34,7 +34,7 @@ pub(crate) fn scribe<K: Keeper, O: Objects>(
     objects: &mut O,
     moment: u64,
 ) -> Result<Text, Stop>
-    requires moment { moment ≤ most }
+    requires moment { moment ≤ largest }
     ensures does { (limits : ALimits) (w : World) (d : Document) → IsLaneOf limits lane.old d → StoreStands (O.seen objects.old) w → w.moment ≡ moment →
         ActDoesWith limits (scribed w d name.now) d lane.new (O.seen objects.new) result }
     ensures runs { LaneRunsWith lane.old lane.new (O.seen objects.old) (O.seen objects.new) result }
@@ -58,8 +58,8 @@ fn conclude<K: Keeper>(
     found: bool,
     moment: u64,
 ) -> Result<Text, Stop>
-    requires moment { moment ≤ most }
-    requires number { IsUpTo most summary }
+    requires moment { moment ≤ largest }
+    requires number { IsUpTo largest summary }
     ensures does { (limits : ALimits) (d : Document) → IsLaneOf limits lane.old d →
         Concludes limits d name.now summary found moment lane.new result }
     ensures runs { LaneRuns lane.old lane.new result }

@@ -13,7 +13,8 @@ use Rattle.fluid_rules.specs.Rules.{verdict, IsLegal, IsLegalBehind}
 use Rattle.fluid_rules.proofs.Counted.{counted-push}
 use Rattle.fluid_rules.proofs.Legal.{legal-push}
 use Rattle.fluid_core.specs.Entering.{State, state_of}
-use Rattle.fluid_document.specs.Entries.{Entries, most, taken_up, entries_of}
+use Rattle.fluid_types.specs.Forms.{largest}
+use Rattle.fluid_document.specs.Entries.{Entries, taken_up, entries_of}
 use Rattle.fluid_document.specs.Loading.{record_in, log_folded}
 use Rattle.fluid_document.specs.Kept.{IsLoggable, records}
 use Rattle.fluid_core.proofs.Entered.{verdict-state_of, state_of-push}
@@ -47,13 +48,13 @@ unfolding entries_of
 counted-entries_of l = refl
 
 -- the records of a legal ledger behind another are folded to both together
-pub folded-kept : (before l : Ledger) → IsLegal before → IsLegalBehind before l → All IsLoggable l → length before + length l ≤ most
+pub folded-kept : (before l : Ledger) → IsLegal before → IsLegalBehind before l → All IsLoggable l → length before + length l ≤ largest
     → log_folded (entries_of before) (records l) ≡ Ok (entries_of (before ++ l))
 unfolding log_folded
 folded-kept before [] first legal loggable few = ap (λ m. Ok (entries_of m)) (sym (append-nil before))
 folded-kept before (entry ∷ l) first legal loggable few =
     let same : (entry.0, verdict before entry.0) ≡ entry = ap (λ v. (entry.0, v)) (sym legal.0) in
-    rw (lt-leb most (entries_of before).entered (omega (arith, few, entered-entries_of before)), record_in-printed entry (All-head IsLoggable entry l loggable))
+    rw (lt-leb largest (entries_of before).entered (omega (arith, few, entered-entries_of before)), record_in-printed entry (All-head IsLoggable entry l loggable))
     (ap (λ e. log_folded e (records l)) (taken-entries_of before entry.0 first ∙ ap (λ x. entries_of (before ++ x ∷ [])) same)
     ∙ folded-kept (before ++ entry ∷ []) l (legal-push before entry first legal.0) legal.1 (All-tail IsLoggable entry l loggable) (omega (arith, few, length-append before (entry ∷ [])))
     ∙ ap (λ m. Ok (entries_of m)) (append_assoc before (entry ∷ []) l))

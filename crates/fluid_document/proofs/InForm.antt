@@ -19,7 +19,7 @@ use Rattle.fluid_readback.specs.Quorums.{QuorumsAreReadBack}
 use Rattle.fluid_readback.proofs.Messages.{sequenced_are_read_back}
 use Rattle.fluid_checkpoint.specs.Heard.{moments_of}
 use Rattle.fluid_checkpoint.specs.Laws.{IsClient, IsMoment, IsInForm}
-use Rattle.fluid_document.specs.Entries.{most, entries_of}
+use Rattle.fluid_document.specs.Entries.{entries_of}
 use Rattle.fluid_document.specs.Kept.{IsLoggable, checkpoint_state}
 use Rattle.fluid_document.proofs.Moments.{entries_all, moments_sorted, moments_put_back}
 use Rattle.fluid_document.proofs.Rows.{AllRows}
@@ -51,7 +51,7 @@ minimum_none : last_minimum [] ≤ largest
 unfolding last_minimum order
 minimum_none = omega arith
 
-minimum-small : (l : Ledger) → IsLegal l → All IsLoggable l → length l ≤ most → last_minimum l ≤ largest
+minimum-small : (l : Ledger) → IsLegal l → All IsLoggable l → length l ≤ largest → last_minimum l ≤ largest
 minimum-small = logged-induction (λ l. last_minimum l ≤ largest) minimum_none
     (λ l entry legal loggable few low is. subst (λ n. n ≤ largest) (sym (last_minimum-push l entry)) (small_behind (last_minimum l) entry.1 low
     (λ m said. (sequenced_are_read_back l entry.0 m legal (omega (arith, few, seq-le_length l)) loggable.fits (sym is ∙ said)).in_grammar.minimum)))
@@ -60,7 +60,7 @@ minimum-state_of : (l : Ledger) → (tickets.state_of l).last_minimum ≡ last_m
 unfolding tickets.state_of
 minimum-state_of l = refl
 
-pub in_form : QuorumsAreReadBack → (l : Ledger) → IsLegal l → All IsLoggable l → length l ≤ most → AreTexts (entries_of l).state.scribe.base → IsInForm (checkpoint_state (entries_of l))
+pub in_form : QuorumsAreReadBack → (l : Ledger) → IsLegal l → All IsLoggable l → length l ≤ largest → AreTexts (entries_of l).state.scribe.base → IsInForm (checkpoint_state (entries_of l))
 unfolding entries_of state_of state_members
 in_form back l legal loggable few texts =
     let sound = sound-legal l legal (omega (arith, seq-le_length l, few)) in

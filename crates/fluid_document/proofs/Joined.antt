@@ -16,7 +16,6 @@ use Rattle.fluid_clients.specs.Table.{byte_order}
 use Rattle.fluid_ticket.specs.State as ticket
 use Rattle.fluid_core.specs.Entering.{State, start, after, state_of}
 use Rattle.fluid_core.proofs.Entered.{state_of-push}
-use Rattle.fluid_document.specs.Entries.{most}
 use Rattle.fluid_document.specs.Kept.{IsLoggable}
 use Rattle.fluid_document.proofs.Onwards.{start-state_of}
 use Rattle.fluid_document.proofs.Orders.{logged-induction}
@@ -47,7 +46,7 @@ joined_after s raw v in_grammar all = rows-changed IsJoined s.sequencer raw v (j
 nobody : AllRows IsJoined start.sequencer.rows
 nobody id row there = absurd (none-some _ (sym (get-empty byte_order id) ∙ there))
 
-pub joined-ledger : (l : Ledger) → IsLegal l → All IsLoggable l → length l ≤ most → AllRows IsJoined (state_of l).sequencer.rows
+pub joined-ledger : (l : Ledger) → IsLegal l → All IsLoggable l → length l ≤ largest → AllRows IsJoined (state_of l).sequencer.rows
 joined-ledger = logged-induction (λ l. AllRows IsJoined (state_of l).sequencer.rows) (subst (λ s. AllRows IsJoined s.sequencer.rows) start-state_of nobody)
     (λ l entry legal loggable few all is. subst (λ s. AllRows IsJoined s.sequencer.rows) (sym (state_of-push l entry.0 entry.1 legal is))
     (joined_after (state_of l) entry.0 entry.1 (fits_in_grammar entry.0 loggable.fits) all))

@@ -20,7 +20,7 @@ use Rattle.fluid_deltas.specs.Pushed.{AreDeltasOf}
 use Rattle.fluid_deltas.specs.Flushes.{put_behind}
 use Rattle.fluid_deltas.proofs.Telling.{tells_along, tells_becomes}
 use Rattle.fluid_document.specs.Loading.{PutsDeltas}
-use Rattle.fluid_document.specs.Entries.{most}
+use Rattle.fluid_types.specs.Forms.{largest}
 use Rattle.fluid_document.specs.Kept.{IsLoggable, records, IsRecordOf, IsTorn, IsLogOf, IsCheckpointOf, IsKept}
 
 level_as : (l : Ledger) (log : List (List ℕ)) → log ≡ records l → IsLogOf false l log
@@ -71,7 +71,7 @@ checkpoints_grow l m more one other texts same le = All-weaker (IsCheckpointOf l
       reached = omega (arith, is.reached, le);
     }) texts
 
-torn_entered : (l : Ledger) (c : Content) (bytes : List ℕ) (is : IsRecordOf bytes) → IsKept true l c → c.log ≡ records l ++ bytes ∷ [] → length l < most
+torn_entered : (l : Ledger) (c : Content) (bytes : List ℕ) (is : IsRecordOf bytes) → IsKept true l c → c.log ≡ records l ++ bytes ∷ [] → length l < largest
     → IsKept false (l ++ (is.raw, verdict l is.raw) ∷ []) c
 torn_entered l c bytes is kept splits few =
     let entry : Raw × Verdict = (is.raw, verdict l is.raw) in
@@ -85,7 +85,7 @@ torn_entered l c bytes is kept splits few =
     }
 
 -- an entry more, with its verdict and its record
-pub kept_entered : (l : Ledger) (raw : Raw) (v : Verdict) (c : Content) → IsKept false l c → v ≡ verdict l raw → IsLoggable (raw, v) → length l < most
+pub kept_entered : (l : Ledger) (raw : Raw) (v : Verdict) (c : Content) → IsKept false l c → v ≡ verdict l raw → IsLoggable (raw, v) → length l < largest
     → IsKept false (l ++ (raw, v) ∷ []) (add_record (raw_printed raw) c)
 kept_entered l raw v c kept is loggable few =
     let torn : IsRecordOf (raw_printed raw) = record { raw = raw; fits = loggable.fits; is = refl; text = loggable.text } in
@@ -93,7 +93,7 @@ kept_entered l raw v c kept is loggable few =
     (torn_entered l _ _ torn (kept_torn l raw c kept loggable.fits loggable.text) (ap (λ log. log ++ raw_printed raw ∷ []) (level_log l c.log kept.log)) few)
 
 -- what is kept but for a record behind the log's end is kept for the ledger, or for the ledger with the entry of that record
-pub kept_whole : (l : Ledger) (c : Content) → IsKept true l c → length l < most → IsKept false l c ⊎ ((raw : Raw) × IsKept false (l ++ (raw, verdict l raw) ∷ []) c)
+pub kept_whole : (l : Ledger) (c : Content) → IsKept true l c → length l < largest → IsKept false l c ⊎ ((raw : Raw) × IsKept false (l ++ (raw, verdict l raw) ∷ []) c)
 kept_whole l c kept few = by kept.log.behind kept.log.splits kept.log.torn
   where
     by : (behind : List (List ℕ)) → c.log ≡ records l ++ behind → IsTorn behind → IsKept false l c ⊎ ((raw : Raw) × IsKept false (l ++ (raw, verdict l raw) ∷ []) c)

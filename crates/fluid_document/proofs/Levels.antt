@@ -13,7 +13,8 @@ use Rattle.fluid_deltas.specs.Pushed.{Pushed, pushed, IsKeepable, IsFull, DropsP
 use Rattle.fluid_core.specs.Entering.{State, verdict_in, after}
 use Rattle.fluid_core.specs.Entering as entering
 use Rattle.fluid_core.proofs.Entered.{parts_of}
-use Rattle.fluid_document.specs.Entries.{Entries, most, counts, taken_up, IsLevelled}
+use Rattle.fluid_types.specs.Forms.{largest}
+use Rattle.fluid_document.specs.Entries.{Entries, counts, taken_up, IsLevelled}
 use Rattle.fluid_document.proofs.Onwards.{after-sequence, verdict-number, messages-keepable, sound-after}
 use Rattle.fluid_document.proofs.Foldings.{same_entries}
 
@@ -29,17 +30,17 @@ numbered : (n : ℕ) (v : Verdict) → ((m : Message) → v ≡ Sequenced m → 
 numbered n (Sequenced m) each = (each m refl, tt)
 numbered n v each = tt
 
-pub sequence_few : (e : Entries) (d : Pushed) → IsLevelled e d → e.entered < most → e.state.sequencer.sequence < 2 ^ 53 - 1
+pub sequence_few : (e : Entries) (d : Pushed) → IsLevelled e d → e.entered < largest → e.state.sequencer.sequence < 2 ^ 53 - 1
 sequence_few e d level few = omega (arith, level.sequenced, few)
 
 -- the message of the next verdict, where it has one, is numbered behind those that were pushed, and can be kept
 pub next-numbered : (e : Entries) (d : Pushed) (raw : Raw) → IsLevelled e d → AreNumberedFrom (pushed d + 1) (messages_of (verdict_in e.state raw))
 next-numbered e d raw level = numbered (pushed d + 1) (verdict_in e.state raw) (λ m is. verdict-number e.state raw m is ∙ ap (λ n. n + 1) level.level)
 
-pub next-keepable : (e : Entries) (d : Pushed) (raw : Raw) → IsLevelled e d → e.entered < most → Fits raw → All IsKeepable (messages_of (verdict_in e.state raw))
+pub next-keepable : (e : Entries) (d : Pushed) (raw : Raw) → IsLevelled e d → e.entered < largest → Fits raw → All IsKeepable (messages_of (verdict_in e.state raw))
 next-keepable e d raw level few fits = messages-keepable e.state raw level.sound (sequence_few e d level few) fits
 
-pub levelled-taken : (e : Entries) (d f : Pushed) (raw : Raw) → IsLevelled e d → e.entered < most → pushed f ≡ pushed d + length (messages_of (verdict_in e.state raw)) → IsLevelled (taken_up e raw) f
+pub levelled-taken : (e : Entries) (d f : Pushed) (raw : Raw) → IsLevelled e d → e.entered < largest → pushed f ≡ pushed d + length (messages_of (verdict_in e.state raw)) → IsLevelled (taken_up e raw) f
 unfolding taken_up
 levelled-taken e d f raw level few count =
     let v = verdict_in e.state raw in

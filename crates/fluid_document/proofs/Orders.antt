@@ -13,28 +13,28 @@ use Rattle.fluid_rules.proofs.Legal.{legal-induction, legal-first, legal-behind}
 use Rattle.fluid_readback.specs.Laws.{IsReadBack}
 use Rattle.fluid_readback.proofs.Messages.{sequenced_are_read_back}
 use Rattle.fluid_deltas.specs.Pushed.{IsKeepable}
-use Rattle.fluid_document.specs.Entries.{most}
+use Rattle.fluid_types.specs.Forms.{largest}
 use Rattle.fluid_document.specs.Kept.{IsLoggable}
 use Rattle.fluid_document.proofs.Onwards.{message_all}
 
 -- what holds of no entries, and goes on with each verdict of the rules on an entry that a log takes, holds of each such ledger
-pub logged-induction : (P : Ledger → Type 0) → P [] → ((l : Ledger) (entry : Raw × Verdict) → IsLegal l → IsLoggable entry → length l < most → P l → entry.1 ≡ verdict l entry.0 → P (l ++ entry ∷ []))
-    → (l : Ledger) → IsLegal l → All IsLoggable l → length l ≤ most → P l
+pub logged-induction : (P : Ledger → Type 0) → P [] → ((l : Ledger) (entry : Raw × Verdict) → IsLegal l → IsLoggable entry → length l < largest → P l → entry.1 ≡ verdict l entry.0 → P (l ++ entry ∷ []))
+    → (l : Ledger) → IsLegal l → All IsLoggable l → length l ≤ largest → P l
 logged-induction P begin step =
-    legal-induction (λ l. All IsLoggable l → length l ≤ most → P l) (λ all few. begin)
+    legal-induction (λ l. All IsLoggable l → length l ≤ largest → P l) (λ all few. begin)
     (λ l entry legal so_far is all few.
     let parts = All-pop IsLoggable (l ++ entry ∷ []) l (Some entry) refl all in
-    let shorter : length l < most = omega (arith, few, length-append l (entry ∷ [])) in
+    let shorter : length l < largest = omega (arith, few, length-append l (entry ∷ [])) in
     step l entry legal parts.1 shorter (so_far parts.0 (omega (arith, shorter))) is)
 
 -- each message of the order is in the grammar and read back from its text
-pub order-read_back : (l : Ledger) → IsLegal l → All IsLoggable l → length l ≤ most → All IsReadBack (order l)
+pub order-read_back : (l : Ledger) → IsLegal l → All IsLoggable l → length l ≤ largest → All IsReadBack (order l)
 unfolding order
 order-read_back = logged-induction (λ l. All IsReadBack (order l)) (All-nil IsReadBack)
     (λ l entry legal loggable few back is. subst (All IsReadBack) (sym (order-push l entry)) (All-append IsReadBack (order l) (messages_of entry.1) back
     (message_all IsReadBack entry.1 (λ m said. sequenced_are_read_back l entry.0 m legal (omega (arith, few, seq-le_length l)) loggable.fits (sym is ∙ said)))))
 
-pub order-keepable : (l : Ledger) → IsLegal l → All IsLoggable l → length l ≤ most → All IsKeepable (order l)
+pub order-keepable : (l : Ledger) → IsLegal l → All IsLoggable l → length l ≤ largest → All IsKeepable (order l)
 order-keepable l legal loggable few =
     All-weaker IsReadBack IsKeepable (λ m back. record { short = omega (arith, back.short); read_back = back.read_back }) (order l) (order-read_back l legal loggable few)
 

@@ -17,7 +17,8 @@ use Rattle.fluid_deltas.specs.Flushes.{put_behind}
 use Rattle.fluid_deltas.proofs.Telling.{tells_each, tells_both, tells_along}
 use Rattle.fluid_document.specs.declared.fault.LoadFault.{LoadFault}
 use Rattle.fluid_document.specs.declared.fault.LoadFault.TheVariants.{LogFailed, DeltaFailed, NoMemory, BadRecord, BadCheckpoint, Worn}
-use Rattle.fluid_document.specs.Entries.{Entries, InMemory, most, taken_up}
+use Rattle.fluid_types.specs.Forms.{largest}
+use Rattle.fluid_document.specs.Entries.{Entries, InMemory, taken_up}
 use Rattle.fluid_document.specs.Kept.{IsKept}
 use Rattle.fluid_document.specs.Loading.{record_in, with_record, log_folded, IsRecord, DecodesAs, IsBadAs, IsLoadFault, HasRead, PutsDeltas}
 use Rattle.fluid_document.specs.Puts.{PutsFirst, PutsEarly, PutsFew}
@@ -88,7 +89,7 @@ has_folded_nothing k m reached = record {
 
 -- the fold goes on with the record in this place
 goes_on : (first now : Entries) (place : ℕ) (c : Content) (text : List ℕ) → now.entered ≡ place → FoldsOn first now place c → slice_get c.log place ≡ Some text
-    → log_folded first (drop first.entered c.log) ≡ (if nat_le most place then Err Worn else with_record place (record_in text) (λ raw. log_folded (taken_up now raw) (drop (place + 1) c.log)))
+    → log_folded first (drop first.entered c.log) ≡ (if nat_le largest place then Err Worn else with_record place (record_in text) (λ raw. log_folded (taken_up now raw) (drop (place + 1) c.log)))
 unfolding log_folded
 goes_on first now place c text at so_far kept =
     let next : suc place ≡ place + 1 = omega arith in
@@ -120,14 +121,14 @@ read_one n before mid now m is first next bound =
     let here : mid ≡ before + n = first (omega (arith, is, bound)) in
     omega (arith, here, is, next (omega (arith, here, is, bound)))
 
-bad_as : (first now : Entries) (place : ℕ) (c d : Content) (fault : LoadFault) → now.entered ≡ place → place < most → FoldsOn first now place c → d.log ≡ c.log → DecodesAs d place (Err fault)
+bad_as : (first now : Entries) (place : ℕ) (c d : Content) (fault : LoadFault) → now.entered ≡ place → place < largest → FoldsOn first now place c → d.log ≡ c.log → DecodesAs d place (Err fault)
     → IsBadAs (log_folded first (drop first.entered c.log)) fault
 bad_as first now place c d (BadRecord bad) at few so_far same is =
-    goes_on first now place c is.1.text at so_far (rw same at is.1.kept) ∙ rw (lt-leb most place few, is.1.decodes) (ap (λ n. Err (BadRecord n)) (sym is.0))
+    goes_on first now place c is.1.text at so_far (rw same at is.1.kept) ∙ rw (lt-leb largest place few, is.1.decodes) (ap (λ n. Err (BadRecord n)) (sym is.0))
 bad_as first now place c d fault at few so_far same is = search rules
 
 module _ (old mid : Keeping) (first now : InMemory) (place : ℕ) (has : HasFolded old mid first now place) where
-  pub has_folded_more : (new : Keeping) (next : InMemory) → place < most → place < old.records → Tells mid.content (HasLengths mid) → mid.faults ≤ new.faults → HasRead 1 mid.reads new.reads → PutsDeltas mid new → next.messages.before ≤ new.deltas
+  pub has_folded_more : (new : Keeping) (next : InMemory) → place < largest → place < old.records → Tells mid.content (HasLengths mid) → mid.faults ≤ new.faults → HasRead 1 mid.reads new.reads → PutsDeltas mid new → next.messages.before ≤ new.deltas
       → PutsEarly now.messages.before next.messages.before mid new → PutsFew place mid new → IsTaken place mid new now next → HasFolded old new first next (place + 1)
   has_folded_more new next few lt sized later reads puts reached early lacked taken = record {
     later = omega (arith, has.later, later);
@@ -136,14 +137,14 @@ module _ (old mid : Keeping) (first now : InMemory) (place : ℕ) (has : HasFold
     within = omega (arith, has.within);
     reads = λ bound. read_one (place - first.entries.entered) old.reads mid.reads new.reads (place + 1 - first.entries.entered) (omega (arith, has.within)) has.reads reads bound;
     folds = tells_over old mid has.puts (FoldsOn first.entries now.entries place) (λ c. IsRecord c place (Some taken.raw)) (FoldsOn first.entries next.entries (place + 1))
-        (λ c so_far one. rw taken.entries (goes_on first.entries now.entries place c one.text has.entered so_far one.kept ∙ rw (lt-leb most place few, one.decodes) refl)) has.folds taken.is;
+        (λ c so_far one. rw taken.entries (goes_on first.entries now.entries place c one.text has.entered so_far one.kept ∙ rw (lt-leb largest place few, one.decodes) refl)) has.folds taken.is;
     reached = reached;
     early = omega (arith, has.early, early.0, early.1);
     lacked = omega (arith, has.early, has.lacked, lacked);
     stands = λ l stands. takes_entry l place mid new now next (omega (arith, lt, has.puts.kept.records)) sized puts taken (has.stands l stands);
   }
 
-  pub has_folded_bad : (fault : LoadFault) → place < most → Tells mid.content (λ c. DecodesAs c place (Err fault)) → Tells old.content (λ c. IsBadAs (log_folded first.entries (drop first.entries.entered c.log)) fault)
+  pub has_folded_bad : (fault : LoadFault) → place < largest → Tells mid.content (λ c. DecodesAs c place (Err fault)) → Tells old.content (λ c. IsBadAs (log_folded first.entries (drop first.entries.entered c.log)) fault)
   has_folded_bad fault few is =
       tells_over old mid has.puts (FoldsOn first.entries now.entries place) (λ c. DecodesAs c place (Err fault)) _
       (λ c so_far one. bad_as first.entries now.entries place c (put_behind has.puts.messages c) fault has.entered few so_far refl one) has.folds is
@@ -152,10 +153,10 @@ module _ (old mid : Keeping) (first now : InMemory) (place : ℕ) (has : HasFold
       → Tells old.content (StandsAt l first first.entries.entered) → Tells new.content (IsKept false l)
   has_folded_left new next fault lt sized puts left l stands = leaves_entry l place mid new now next fault (omega (arith, lt, has.puts.kept.records)) sized puts left (has.stands l stands)
 
-  pub has_folded_worn : most ≤ place → place < old.records → Tells old.content (HasLengths old) → Tells old.content (λ c. log_folded first.entries (drop first.entries.entered c.log) ≡ Err Worn)
+  pub has_folded_worn : largest ≤ place → place < old.records → Tells old.content (HasLengths old) → Tells old.content (λ c. log_folded first.entries (drop first.entries.entered c.log) ≡ Err Worn)
   has_folded_worn full lt sized =
       tells_both old.content (FoldsOn first.entries now.entries place) (HasLengths old) _ (λ c so_far lengths.
-      goes_on first.entries now.entries place c _ has.entered so_far (slice_get-get_or c.log place [] (omega (arith, lt, lengths.records))) ∙ rw (le-leb most place full) refl) has.folds sized
+      goes_on first.entries now.entries place c _ has.entered so_far (slice_get-get_or c.log place [] (omega (arith, lt, lengths.records))) ∙ rw (le-leb largest place full) refl) has.folds sized
 
   pub has_folded_all : old.records ≤ place → Tells old.content (HasLengths old) → Tells old.content (λ c. log_folded first.entries (drop first.entries.entered c.log) ≡ Ok now.entries)
   has_folded_all le sized =

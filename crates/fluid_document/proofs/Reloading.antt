@@ -16,7 +16,8 @@ use Rattle.fluid_checkpoint.specs.declared.state.Form.TheVariants.{One, Two}
 use Rattle.fluid_rules.specs.Rules.{IsLegal}
 use Rattle.fluid_rules.proofs.Legal.{legal-first, legal-behind}
 use Rattle.fluid_rules.proofs.Counted.{counted-none}
-use Rattle.fluid_document.specs.Entries.{Entries, most, nothing_entered, entries_of}
+use Rattle.fluid_types.specs.Forms.{largest}
+use Rattle.fluid_document.specs.Entries.{Entries, nothing_entered, entries_of}
 use Rattle.fluid_document.specs.Loading.{log_folded, folded_behind, begun_from, begun, loaded, IsSaid}
 use Rattle.fluid_document.specs.Kept.{IsLoggable, records, checkpoint_state, IsKept}
 use Rattle.fluid_document.proofs.Onwards.{start-state_of}
@@ -81,7 +82,7 @@ loaded-any back l c k kept lt =
 
 pub counted_as_printed : QuorumsAreReadBack → CheckpointsAreCounted
 counted_as_printed back before behind c k text kept at printed =
-    let few : length before ≤ most = omega (arith, kept.few, length-append before behind) in
+    let few : length before ≤ largest = omega (arith, kept.few, length-append before behind) in
     let said = says_printed back before (legal-first before behind kept.legal) (first_part IsLoggable before behind kept.loggable) few text printed in
     let says = says_before back (before ++ behind) c k text at kept in
     let same = ap (λ (s : Checkpoint). s.sequencer.sequence) (says_two _ _ _ says _ said) in

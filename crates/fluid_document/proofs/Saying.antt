@@ -29,7 +29,8 @@ use Rattle.fluid_checkpoint.specs.Laws.{IsWritten}
 use Rattle.fluid_checkpoint.proofs.Back.{read_back, first_read}
 use Rattle.fluid_readback.specs.Quorums.{QuorumsAreReadBack}
 use Rattle.fluid_checkpoint.specs.Reading.{answer}
-use Rattle.fluid_document.specs.Entries.{Entries, most, entries_of}
+use Rattle.fluid_types.specs.Forms.{largest}
+use Rattle.fluid_document.specs.Entries.{Entries, entries_of}
 use Rattle.fluid_document.specs.Kept.{IsLoggable, checkpoint_state, checkpoint_text, IsPrinted, IsOfFirst, IsCheckpointOf, IsKept}
 use Rattle.fluid_document.specs.Loading.{entries_in, begun_from}
 use Rattle.fluid_document.proofs.InForm.{in_form}
@@ -69,7 +70,7 @@ pub sequence-entries_of : (l : Ledger) → (entries_of l).state.sequencer.sequen
 unfolding entries_of state_of
 sequence-entries_of l = sequence-state_of l
 
-pub begun_kept : (number deltas : ℕ) (l : Ledger) → IsLegal l → length l ≤ most → seq l ≤ deltas → begun_from number deltas (checkpoint_state (entries_of l)) ≡ Ok (entries_of l)
+pub begun_kept : (number deltas : ℕ) (l : Ledger) → IsLegal l → length l ≤ largest → seq l ≤ deltas → begun_from number deltas (checkpoint_state (entries_of l)) ≡ Ok (entries_of l)
 begun_kept number deltas l legal few reached =
     let low = seq-le_length l in
     rw (le-leb (entries_of l).state.sequencer.sequence (min (entries_of l).entered deltas) (omega (arith, sequence-entries_of l, entered-entries_of l, low, reached))) (ap Ok (entries_back l legal (omega (arith, low, few))))
@@ -88,7 +89,7 @@ pub record SaysBefore (l : Ledger) (deltas : ℕ) (said : Result Form Checkpoint
   pub behind : Ledger
   pub splits : l ≡ before ++ behind
   pub legal : IsLegal before
-  pub few : length before ≤ most
+  pub few : length before ≤ largest
   pub reached : seq before ≤ deltas
   pub says : (said ≡ Ok (Two (checkpoint_state (entries_of before)))) ⊎ (said ≡ Ok (One (length before)))
 
@@ -97,7 +98,7 @@ pub says_two : (l : Ledger) (deltas : ℕ) (said : Result Form CheckpointFault) 
 says_two l deltas said says s is =
     ⊎_elim (λ (two : said ≡ Ok (Two (checkpoint_state (entries_of says.before)))). cc) (λ (one : said ≡ Ok (One (length says.before))). absurd (cc)) says.says
 
-pub says_printed : QuorumsAreReadBack → (l : Ledger) → IsLegal l → All IsLoggable l → length l ≤ most → (text : List ℕ) → IsPrinted (entries_of l) text → answer text ≡ Ok (Two (checkpoint_state (entries_of l)))
+pub says_printed : QuorumsAreReadBack → (l : Ledger) → IsLegal l → All IsLoggable l → length l ≤ largest → (text : List ℕ) → IsPrinted (entries_of l) text → answer text ≡ Ok (Two (checkpoint_state (entries_of l)))
 unfolding checkpoint_text
 says_printed back l legal loggable few text printed = ap answer printed.text ∙ read_back (checkpoint_state (entries_of l)) (in_form back l legal loggable few printed.written.blobs) printed.written
 
@@ -106,7 +107,7 @@ says_before back l content number text at kept =
     let is = all-there (IsCheckpointOf l (length content.deltas)) content.checkpoints number text at kept.checkpoints in
     let legal = legal-first is.before is.behind (subst IsLegal is.splits kept.legal) in
     let loggable = first_part IsLoggable is.before is.behind (subst (All IsLoggable) is.splits kept.loggable) in
-    let few : length is.before ≤ most = omega (arith, kept.few, ap length is.splits, length-append is.before is.behind) in
+    let few : length is.before ≤ largest = omega (arith, kept.few, ap length is.splits, length-append is.before is.behind) in
     record {
       before = is.before;
       behind = is.behind;

@@ -29,7 +29,8 @@ use Rattle.fluid_quorum.specs.declared.state.ScribeState.{ScribeState}
 use Rattle.fluid_core.specs.Entering.{state_of}
 use Rattle.fluid_checkpoint.specs.Text.{base_tree}
 use Rattle.fluid_checkpoint.specs.Laws.{IsBase, AreMessages, IsChange, IsAck}
-use Rattle.fluid_document.specs.Entries.{most, entries_of}
+use Rattle.fluid_types.specs.Forms.{largest}
+use Rattle.fluid_document.specs.Entries.{entries_of}
 use Rattle.fluid_document.specs.Kept.{IsLoggable}
 use Rattle.fluid_document.proofs.Orders.{order-read_back}
 use Rattle.fluid_document.proofs.Acked.{waits_all, acks_in_form}
@@ -144,7 +145,7 @@ state_in_form back base ms first all texts =
       shallow = canonical.1;
     }
 
-pub scribe_in_form : QuorumsAreReadBack → (l : Ledger) → IsLegal l → All IsLoggable l → length l ≤ most → AreTexts (entries_of l).state.scribe.base → IsScribed (entries_of l).state.scribe
+pub scribe_in_form : QuorumsAreReadBack → (l : Ledger) → IsLegal l → All IsLoggable l → length l ≤ largest → AreTexts (entries_of l).state.scribe.base → IsScribed (entries_of l).state.scribe
 unfolding entries_of state_of scribe.state_of
 scribe_in_form back l legal loggable few texts =
     state_in_form back (base_of (order l)) (order l) (sequenced-numbered (order l) 0 0 (legal-sequenced l legal)) (order-read_back l legal loggable few) texts

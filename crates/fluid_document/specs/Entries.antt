@@ -5,6 +5,7 @@ use Rattle.fluid_types.specs.declared.entries.Raw.{Raw}
 use Rattle.fluid_types.specs.declared.messages.Message.{Message}
 use Rattle.fluid_types.specs.declared.verdicts.Verdict.{Verdict}
 use Rattle.fluid_types.specs.declared.verdicts.Verdict.TheVariants.{Sequenced}
+use Rattle.fluid_types.specs.Forms.{largest}
 use Rattle.fluid_types.specs.Ledger.{Ledger, messages_of}
 use Rattle.fluid_types.specs.Order.{AreNumberedFrom}
 use Rattle.fluid_rules.specs.Counted.{is_counted, counted}
@@ -17,10 +18,6 @@ use Rattle.fluid_ticket.specs.State.{IsSound}
 use Rattle.fluid_core.specs.Entering.{State, start, verdict_in, after, state_of}
 use Rattle.fluid_core.specs.Entering as entering
 use Rattle.fluid_document.specs.declared.document.Prepared.{Prepared}
-
--- the most entries and side steps of a document, 2^53 - 1
-abbrev pub most : ℕ
-most = 2 ^ 53 - 1
 
 -- how much an entry adds to the count of joins and submissions
 abbrev pub counts : Raw → ℕ
@@ -65,8 +62,8 @@ core_of m = record { state = m.entries.state; clients = m.clients; notes = m.not
 pub record IsLevelled (e : Entries) (d : Pushed) : Type 0 where
   pub level : e.state.sequencer.sequence ≡ pushed d
   pub sequenced : e.state.sequencer.sequence ≤ e.entered
-  pub counts : e.counted ≤ e.entered + most
-  pub few : e.entered ≤ most
+  pub counts : e.counted ≤ e.entered + largest
+  pub few : e.entered ≤ largest
   -- no reference is ahead of the order
   pub sound : IsSound e.state.sequencer
 
@@ -79,7 +76,7 @@ pub record IsReadyIn (m : InMemory) (raw : Raw) (p : Prepared) : Type 0 where
   pub keepable : All IsKeepable (messages_of (verdict_in m.entries.state raw))
   pub next : AreNumberedFrom (pushed m.messages + 1) (messages_of (verdict_in m.entries.state raw))
   pub counts : p.counts ≡ counts raw
-  pub few : m.entries.entered < most
+  pub few : m.entries.entered < largest
   pub room : 0 < m.messages.spare
 
 pub record IsReady (m : InMemory) (p : Prepared) : Type 0 where

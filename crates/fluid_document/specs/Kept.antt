@@ -13,7 +13,8 @@ use Rattle.fluid_checkpoint.specs.Laws.{IsWritten}
 use Rattle.fluid_checkpoint.specs.Heard.{state_of}
 use Rattle.fluid_checkpoint.specs.declared.state.State.{State as Checkpoint}
 use Rattle.fluid_deltas.specs.Pushed.{AreDeltasOf}
-use Rattle.fluid_document.specs.Entries.{Entries, most, entries_of}
+use Rattle.fluid_types.specs.Forms.{largest}
+use Rattle.fluid_document.specs.Entries.{Entries, entries_of}
 
 -- a raw entry that a log takes: it fits, and its record is a text
 pub record IsLoggable (entry : Raw × Verdict) : Type 0 where
@@ -77,7 +78,7 @@ pub record IsCheckpointOf (ledger : Ledger) (deltas : ℕ) (bytes : List ℕ) : 
 -- a keeper of this content is kept for the ledger
 pub record IsKept (owed : Bool) (ledger : Ledger) (content : Content) : Type 0 where
   pub legal : IsLegal ledger
-  pub few : length ledger ≤ most
+  pub few : length ledger ≤ largest
   pub loggable : All IsLoggable ledger
   pub log : IsLogOf owed ledger content.log
   pub deltas : AreDeltasOf (order ledger) content.deltas

@@ -3,14 +3,15 @@ use Rattle.std.specs.Prelude.{◌≡◌, ℕ, ◌+◌, ◌≤◌, ◌<◌, false
 use Rattle.fluid_types.specs.Ledger.{Ledger}
 use Rattle.fluid_rules.specs.Rules.{IsLegal, IsLegalBehind}
 use Rattle.fluid_log.specs.Keeping.{Content}
-use Rattle.fluid_document.specs.Entries.{most, entries_of}
+use Rattle.fluid_types.specs.Forms.{largest}
+use Rattle.fluid_document.specs.Entries.{entries_of}
 use Rattle.fluid_document.specs.Loading.{log_folded, begun, loaded}
 use Rattle.fluid_document.specs.Kept.{IsLoggable, records, IsPrinted, IsKept}
 
 -- the records of a legal ledger behind another one are folded to both together
 abbrev pub RecordsAreFolded : Type 0
 RecordsAreFolded =
-    (before l : Ledger) → IsLegal before → IsLegalBehind before l → All IsLoggable l → length before + length l ≤ most
+    (before l : Ledger) → IsLegal before → IsLegalBehind before l → All IsLoggable l → length before + length l ≤ largest
     → log_folded (entries_of before) (records l) ≡ Ok (entries_of (before ++ l))
 
 -- what a keeper is kept for is what is read of it, from its first record on

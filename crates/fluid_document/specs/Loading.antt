@@ -1,7 +1,7 @@
 -- How the entries of a document are read out of what a keeper keeps: a checkpoint, and the log behind it.
 use Rattle.std.specs.Prelude.{◌≡◌, ℕ, ◌+◌, ◌-◌, ◌^◌, ◌<◌, ◌≤◌, nat_le, min, ⊤, List, [], ◌∷◌, length, drop, slice_get, codes, Option, Some, None, Result, Ok, Err, if◌then◌else◌}
 use Rattle.std.specs.Str.{is_utf8}
-use Rattle.fluid_types.specs.Forms.{Read}
+use Rattle.fluid_types.specs.Forms.{Read, largest}
 use Rattle.fluid_types.specs.Fits.{longest_record}
 use Rattle.fluid_types.specs.Printed.{raw_printed}
 use Rattle.fluid_types.specs.Records.{raw_spelled}
@@ -19,7 +19,7 @@ use Rattle.fluid_checkpoint.specs.declared.fault.CheckpointFault.{CheckpointFaul
 use Rattle.fluid_checkpoint.specs.declared.fault.CheckpointFault.TheVariants.{BadField}
 use Rattle.fluid_deltas.specs.declared.pages.TheConstants.{RESIDENT}
 use Rattle.fluid_deltas.specs.Ranges.{IsNoted}
-use Rattle.fluid_document.specs.Entries.{Entries, most, nothing_entered, taken_up}
+use Rattle.fluid_document.specs.Entries.{Entries, nothing_entered, taken_up}
 use Rattle.fluid_document.specs.declared.fault.LoadFault.{LoadFault}
 use Rattle.fluid_document.specs.declared.fault.LoadFault.TheVariants.{LogFailed, DeltaFailed, NoMemory, BadRecord, BadCheckpoint, Worn}
 
@@ -43,7 +43,7 @@ with_record place (Some raw) rest = rest raw
 unfoldable pub log_folded : Entries → List (List ℕ) → Result Entries LoadFault
 log_folded f [] = Ok f
 log_folded f (bytes ∷ log) =
-    if nat_le most f.entered then Err Worn else with_record f.entered (record_in bytes) (λ raw. log_folded (taken_up f raw) log)
+    if nat_le largest f.entered then Err Worn else with_record f.entered (record_in bytes) (λ raw. log_folded (taken_up f raw) log)
 
 -- ---- a checkpoint
 
@@ -111,7 +111,7 @@ IsLoadFault records before now (DeltaFailed note) = IsNoted before now note × (
 IsLoadFault records before now NoMemory = ⊤
 IsLoadFault records before now (BadRecord place) = ⊤
 IsLoadFault records before now (BadCheckpoint number fault) = ⊤
-IsLoadFault records before now Worn = most < records
+IsLoadFault records before now Worn = largest < records
 
 -- a fault of what is kept is the definition's. Want of memory and a keeper that failed may come before it
 abbrev pub IsBadAs : {A : Type 0} → Result A LoadFault → LoadFault → Type 0

@@ -12,7 +12,8 @@ use Rattle.fluid_checkpoint.specs.declared.state.Form.{Form}
 use Rattle.fluid_checkpoint.specs.declared.state.Form.TheVariants.{One, Two}
 use Rattle.fluid_deltas.specs.Pushed.{Pushed, pushed, IsKeepable, ArePartOf, AreDeltasOf, StandIn, StandFor}
 use Rattle.fluid_core.specs.Entering.{verdict_in}
-use Rattle.fluid_document.specs.Entries.{InMemory, most, entries_of, taken_up}
+use Rattle.fluid_types.specs.Forms.{largest}
+use Rattle.fluid_document.specs.Entries.{InMemory, entries_of, taken_up}
 use Rattle.fluid_document.specs.Kept.{IsKept}
 use Rattle.fluid_document.specs.Loading.{IsRecord, DecodesAs, entries_in}
 use Rattle.fluid_document.specs.declared.fault.LoadFault.{LoadFault}
@@ -63,7 +64,7 @@ pub record IsResumed (s : Checkpoint) (m : InMemory) : Type 0 where
 
 -- what a text says is in range
 abbrev pub IsInRange : Form → Type 0
-IsInRange (Two s) = (s.entered ≤ most) × (s.counted ≤ most)
+IsInRange (Two s) = (s.entered ≤ largest) × (s.counted ≤ largest)
 IsInRange (One entered) = ⊤
 
 -- so many entries of a ledger are taken up, for which the keeper is kept

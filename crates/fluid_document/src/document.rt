@@ -12,7 +12,8 @@ ghost use Rattle.fluid_deltas.specs.Pushed.{pushed, IsKeepable, ArePartOf, Stand
 ghost use Rattle.fluid_deltas.specs.Ranges.{IsNotBad, IsAnswer, IsHeldAnswer, IsSlice, AreHeld, Reads, held_between, range_of};
 ghost use Rattle.fluid_deltas.specs.Flushes.{lacking, AreAll};
 ghost use Rattle.fluid_deltas.specs.declared.pages.TheConstants.{RESIDENT};
-ghost use Rattle.fluid_document.specs.Entries.{most, counts, nothing_entered, GoOn, Commits, IsLevelled, IsReadyIn, IsReady, copied, left_over};
+ghost use Rattle.fluid_types.specs.Forms.{largest};
+ghost use Rattle.fluid_document.specs.Entries.{counts, nothing_entered, GoOn, Commits, IsLevelled, IsReadyIn, IsReady, copied, left_over};
 ghost use Rattle.fluid_document.specs.Kept.{IsPrinted};
 ghost use Rattle.fluid_document.specs.Taking.{IsResumed};
 ghost use Rattle.fluid_document.specs.Puts.{Flushes, PutsFirst, PutsFew, unflushed};
@@ -80,8 +81,8 @@ impl Document {
 
     // What the state of a checkpoint keeps, whose messages are a keeper's first deltas.
     pub(crate) fn resumed(alloc: Global, state: State) -> Document
-        requires few { state.entered ≤ most }
-        requires counted { state.counted ≤ most }
+        requires few { state.entered ≤ largest }
+        requires counted { state.counted ≤ largest }
         requires sequenced { state.sequencer.sequence ≤ state.entered }
         ensures { IsResumed state result }
     {
@@ -120,7 +121,7 @@ impl Document {
     /// The last sequence number.
     pub fn seq(&self) -> u64
         ensures is { result ≡ self.now.entries.state.sequencer.sequence }
-        ensures few { result ≤ most }
+        ensures few { result ≤ largest }
     {
         self.core.seq()
     }
@@ -150,7 +151,7 @@ impl Document {
     pub fn job(&mut self, alloc: Global) -> Result<Option<Job>, NoMemory>
         ensures same { (self.new.entries ≡ self.old.entries) × (self.new.messages ≡ self.old.messages) }
         ensures job { IfOk result (λ given. given ≡ job_of self.old.entries.state) }
-        ensures number { IfOk result (λ given. IfSome given (λ job. IsUpTo most job.summary)) }
+        ensures number { IfOk result (λ given. IfSome given (λ job. IsUpTo largest job.summary)) }
         ensures reference { IfOk result (λ given. IfSome given (λ job. job.reference ≤ job.summary)) }
     {
         // (read for its clause alone)
@@ -247,7 +248,7 @@ impl Document {
     // Gives a raw entry its verdict and makes every growth that this verdict needs. What is kept stays.
     pub(crate) fn prepare(&mut self, alloc: Global, raw: &Raw) -> Result<Prepared, NoMemory>
         requires fits { Fits raw.now }
-        requires few { self.old.entries.entered < most }
+        requires few { self.old.entries.entered < largest }
         requires room { length self.old.messages.held < RESIDENT }
         ensures entries { self.new.entries ≡ self.old.entries }
         ensures before { self.new.messages.before ≡ self.old.messages.before }

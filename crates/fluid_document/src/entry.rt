@@ -10,7 +10,8 @@ ghost use Rattle.fluid_log.specs.declared.keeper.TheConstants.{LONGEST_KEPT};
 ghost use Rattle.fluid_core.specs.Entering.{verdict_in};
 ghost use Rattle.fluid_deltas.specs.Pushed.{pushed, StandIn, StandFor};
 ghost use Rattle.fluid_deltas.specs.declared.pages.TheConstants.{RESIDENT};
-ghost use Rattle.fluid_document.specs.Entries.{most, IsReadyIn, IsReady, left_over};
+ghost use Rattle.fluid_types.specs.Forms.{largest};
+ghost use Rattle.fluid_document.specs.Entries.{IsReadyIn, IsReady, left_over};
 ghost use Rattle.fluid_document.specs.Puts.{PutsFirst, PutsEarly, PutsFew};
 ghost use Rattle.fluid_document.specs.Rooms.{for_room};
 ghost use Rattle.fluid_document.specs.Entry.{IsEnterFault, RoomDoes, Appends, FinishDoes, EntersBy};
@@ -33,7 +34,7 @@ pub fn enter<K: Keeper>(
     raw: &Raw,
 ) -> Result<Verdict, EnterFault>
     requires fits { Fits raw.now }
-    requires few { document.old.entries.entered < most }
+    requires few { document.old.entries.entered < largest }
     requires reached { document.old.messages.before ≤ (K.seen keeper.old).deltas }
     ensures enters { EntersBy raw.now (K.seen keeper.old) (K.seen keeper.new) document.old document.new result }
     ensures said { IfOk result (λ verdict. verdict ≡ verdict_in document.old.entries.state raw.now) }
@@ -52,7 +53,7 @@ pub fn take_in<K: Keeper>(
     raw: &Raw,
 ) -> Result<(), EnterFault>
     requires fits { Fits raw.now }
-    requires few { document.old.entries.entered < most }
+    requires few { document.old.entries.entered < largest }
     requires reached { document.old.messages.before ≤ (K.seen keeper.old).deltas }
     ensures { EntersBy raw.now (K.seen keeper.old) (K.seen keeper.new) document.old document.new result }
 {
@@ -69,7 +70,7 @@ fn prepared<K: Keeper>(
     raw: &Raw,
 ) -> Result<(Text, Prepared), EnterFault>
     requires fits { Fits raw.now }
-    requires few { document.old.entries.entered < most }
+    requires few { document.old.entries.entered < largest }
     requires reached { document.old.messages.before ≤ (K.seen keeper.old).deltas }
     ensures later { (K.seen keeper.old).faults ≤ (K.seen keeper.new).faults }
     ensures reads { (K.seen keeper.new).reads ≡ (K.seen keeper.old).reads }

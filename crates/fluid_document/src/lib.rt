@@ -17,4 +17,4 @@ pub use document::Document;
 pub use entry::{enter, take_in};
 pub use fault::{EnterFault, FlushFault, LoadFault};
 pub use laws::{checkpoints_are_counted, kept_is_loaded, records_are_folded};
-pub use loading::{MOST, bad_field, load, note_of};
+pub use loading::{bad_field, load, note_of};

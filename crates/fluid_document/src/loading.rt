@@ -9,7 +9,8 @@ ghost use Rattle.fluid_log.specs.Calls.{KeepsSame, reads_after};
 ghost use Rattle.fluid_deltas.specs.Ranges.{IsNoted};
 ghost use Rattle.fluid_types.specs.Ledger.{Ledger, messages_of};
 ghost use Rattle.fluid_core.specs.Entering.{verdict_in};
-ghost use Rattle.fluid_document.specs.Entries.{most, nothing_entered, taken_up};
+ghost use Rattle.fluid_types.specs.Forms.{largest};
+ghost use Rattle.fluid_document.specs.Entries.{nothing_entered, taken_up};
 ghost use Rattle.fluid_document.specs.Loading.{record_in, fitting, log_folded, entered_in, begun_from, begun, loaded, SaysAs, IsLoadFault, IsLoaded, HasRead, ReadsBehind, PutsDeltas, DecodesAs};
 ghost use Rattle.fluid_document.specs.Kept.{IsKept};
 ghost use Rattle.fluid_document.specs.Puts.{PutsFirst, PutsEarly, PutsFew};
@@ -28,9 +29,6 @@ use fluid_readback::blobs_of_messages_are_read_back;
 use fluid_types::{CodecFault, Raw};
 use std::alloc::Global;
 use std::str;
-
-/// The most entries and side steps of a document, 2^53 - 1.
-pub const MOST: u64 = LARGEST;
 
 /// The most bytes of a record in a log, 4 MiB.
 const LONGEST_RECORD: usize = 4_194_304;
@@ -118,7 +116,7 @@ fn take_up<K: Keeper>(
     raw: &Raw,
 ) -> Result<(), LoadFault>
     requires fits { Fits raw.now }
-    requires few { document.old.entries.entered < most }
+    requires few { document.old.entries.entered < largest }
     requires there { document.old.entries.entered < (K.seen keeper.old).records }
     requires reached { document.old.messages.before ≤ (K.seen keeper.old).deltas }
     ensures later { (K.seen keeper.old).faults ≤ (K.seen keeper.new).faults }
@@ -163,7 +161,7 @@ fn take_next<K: Keeper>(
 ) -> Result<(), LoadFault>
     requires there { place < (K.seen keeper.old).records }
     requires at { document.old.entries.entered ≡ place }
-    requires few { document.old.entries.entered < most }
+    requires few { document.old.entries.entered < largest }
     requires reached { document.old.messages.before ≤ (K.seen keeper.old).deltas }
     ensures later { (K.seen keeper.old).faults ≤ (K.seen keeper.new).faults }
     ensures cause { IfErr result (IsLoadFault (K.seen keeper.old).records (K.seen keeper.old).faults (K.seen keeper.new).faults) }
@@ -202,7 +200,7 @@ fn fold_behind<K: Keeper>(
 {
     let end = keeper.len();
     for place in document.entered()..end {
-        if place >= MOST {
+        if place >= LARGEST {
             return Err(LoadFault::Worn);
         }
         take_next(alloc, keeper, document, place)?;

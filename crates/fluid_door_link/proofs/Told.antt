@@ -16,7 +16,8 @@ use Rattle.fluid_rules.specs.Counted.{is_full}
 use Rattle.fluid_rules.specs.declared.limits.Limits.{Limits}
 use Rattle.fluid_rules.proofs.Legal.{ledger-only}
 use Rattle.fluid_log.specs.Keeping.{Content}
-use Rattle.fluid_document.specs.Entries.{Entries, entries_of, most}
+use Rattle.fluid_types.specs.Forms.{largest}
+use Rattle.fluid_document.specs.Entries.{Entries, entries_of}
 use Rattle.fluid_document.specs.Kept.{IsLoggable, IsKept, records}
 use Rattle.fluid_store.specs.Held.{Held, IsShort}
 use Rattle.fluid_store.specs.Storing.{Storing}
@@ -122,7 +123,7 @@ module _ (s : Standing) (known : IsKnown s) where
   order_told orders = orders ledger_of lane_for.kept.legal lane_for.kept.few lane_for.kept.loggable
 
   -- its messages are no more than a document may have entries
-  pub few_order : length (order ledger_of) ≤ most
+  pub few_order : length (order ledger_of) ≤ largest
   few_order = omega (arith, seq-le_length ledger_of, seq_is ledger_of, lane_for.kept.few)
 
   -- what is told is a document

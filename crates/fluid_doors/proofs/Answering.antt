@@ -20,7 +20,8 @@ use Rattle.fluid_rules.specs.Past.{is_sequenced}
 use Rattle.fluid_rules.specs.Counted.{is_counted, has_too_many_clients}
 use Rattle.fluid_scribe.specs.declared.job.Job.{Job}
 use Rattle.fluid_core.specs.Entering.{verdict_in, job_of}
-use Rattle.fluid_document.specs.Entries.{most, entries_of}
+use Rattle.fluid_types.specs.Forms.{largest}
+use Rattle.fluid_document.specs.Entries.{entries_of}
 use Rattle.fluid_document.specs.Kept.{checkpoint_text}
 use Rattle.fluid_document.proofs.Onwards.{verdict-number}
 use Rattle.fluid_lane.proofs.Safe.{not_worn}
@@ -50,7 +51,7 @@ use Rattle.fluid_doors.specs.Laws.{NewIsKept}
 -- ---- the list
 
 pub worn_same : (s : Standing) (l : List Step) → LaneStands s l → is_worn s ≡ is_worn_behind l
-worn_same s l stands = ap (nat_le most) stands.number
+worn_same s l stands = ap (nat_le largest) stands.number
 
 -- a keeper that tells its content tells this
 pub told_is : {A : Type 0} (o : Option A) (Q : Type 0) → is_some o ≡ true → Tells o (λ _. Q) → Q

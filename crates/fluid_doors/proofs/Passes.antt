@@ -11,7 +11,7 @@ use Rattle.fluid_rules.specs.declared.limits.Limits.{Limits}
 use Rattle.fluid_turn.specs.declared.view.Numbered.{Numbered}
 use Rattle.fluid_turn.specs.Entries.{IsPrefix, by_seat, entries, made_by, is_number}
 use Rattle.fluid_turn.specs.Seats.{seeing}
-use Rattle.fluid_document.specs.Entries.{most}
+use Rattle.fluid_types.specs.Forms.{largest}
 use Rattle.fluid_lane.specs.declared.fault.LaneFault.{LaneFault}
 use Rattle.fluid_lane.specs.declared.steps.Step.{Step}
 use Rattle.fluid_lane.specs.declared.steps.Step.TheVariants.{Entered}
@@ -43,7 +43,7 @@ entries_length [] = refl
 entries_length (x ∷ xs) = ap suc (entries_length xs)
 
 -- the list that a pass has seen is no longer than the steps for which a lane stands
-pub few_seen : (s : Standing) (l : List (Numbered Step)) → LaneStands s (entries l) → s.entries.entered + s.sides ≤ most → length l ≤ most
+pub few_seen : (s : Standing) (l : List (Numbered Step)) → LaneStands s (entries l) → s.entries.entered + s.sides ≤ largest → length l ≤ largest
 few_seen s l stands few = let e = stands.number in let n = entries_length l in omega (arith, e, n, few)
 
 -- as many of them bear a number as there are, or fewer
@@ -55,7 +55,7 @@ made_few number l =
 pub own_few : (p : APass) → p.mine ≡ made_by p.number p.seen → length p.mine ≤ length p.seen
 own_few p is = subst (λ m. length m ≤ length p.seen) (sym is) (made_few p.number p.seen)
 
-pub grows_by : (p q seat : APass) (list : List (Numbered Step)) (added : List Step) (holds : List Step → Type 0) → seat ≡ seeing list p → q ≡ adding added seat → length q.seen ≤ most → IsPrefix p.seen list → holds (entries list) → Grows p q added holds
+pub grows_by : (p q seat : APass) (list : List (Numbered Step)) (added : List Step) (holds : List Step → Type 0) → seat ≡ seeing list p → q ≡ adding added seat → length q.seen ≤ largest → IsPrefix p.seen list → holds (entries list) → Grows p q added holds
 grows_by p q seat list added holds saw is few begins says =
     let same : q ≡ adding added (seeing list p) = is ∙ ap (adding added) saw in record {
       turn = ap (λ k. k.turn) same;

@@ -9,7 +9,7 @@ use Rattle.fluid_types.specs.Order.{AreNumberedFrom}
 use Rattle.fluid_types.specs.declared.messages.Message.{Message}
 use Rattle.fluid_types.proofs.Ledgers.{order-append}
 use Rattle.fluid_types.proofs.Numbers.{numbered_same, numbered_take, numbered_drop, numbered_append}
-use Rattle.fluid_document.specs.Entries.{most}
+use Rattle.fluid_types.specs.Forms.{largest}
 use Rattle.fluid_deltas.specs.Pushed.{slice}
 use Rattle.fluid_deltas.specs.Ranges.{IsSlice, IsFaultOf, IsBadIn, AreNumbersOf}
 use Rattle.fluid_deltas.specs.declared.fault.DeltaFault.{DeltaFault}
@@ -120,7 +120,7 @@ stands_on old new t u added l same goes stands =
 -- ---- tails that begin
 
 -- one without messages
-pub empty_tail : (told : Bool) (from : ℕ) (l : List Step) → 0 < from → from ≤ most + 1 → (told ≡ true → from ≤ length (order (ledger l)) + 1) → IsTailOf told (record { from = from; messages = [] }) l
+pub empty_tail : (told : Bool) (from : ℕ) (l : List Step) → 0 < from → from ≤ largest + 1 → (told ≡ true → from ≤ length (order (ledger l)) + 1) → IsTailOf told (record { from = from; messages = [] }) l
 empty_tail told from l first few within = record {
   first = first;
   numbered = tt;
@@ -141,7 +141,7 @@ reaches_to s l n law stands few is =
     let says = told_is s.keeping.content (SaysOf s (ledger l)) is (law s l stands) in
     let same = says.seq ∙ seq_is (ledger l) in omega (arith, few, same)
 
-pub begun : (s : Standing) (old new : ATail) (from : ℕ) (l : List Step) → LaneSays → LaneStands s l → s.entries.state.sequencer.sequence ≤ most → 0 < from → from ≤ s.entries.state.sequencer.sequence + 1 → Begins old new from → IsTailOf (terms_of s).told old l
+pub begun : (s : Standing) (old new : ATail) (from : ℕ) (l : List Step) → LaneSays → LaneStands s l → s.entries.state.sequencer.sequence ≤ largest → 0 < from → from ≤ s.entries.state.sequencer.sequence + 1 → Begins old new from → IsTailOf (terms_of s).told old l
     → IsTailOf (terms_of s).told new l
 begun s old new from l law stands bound first few (inl (same, reached)) was = subst (λ t. IsTailOf (terms_of s).told t l) (sym same) was
 begun s old new from l law stands bound first few (inr anew) was =
@@ -169,7 +169,7 @@ trimmed told old new l trims was =
     }
 
 -- the messages behind it were put
-pub extended : (told : Bool) (old new : ATail) (to : ℕ) (ms : List Message) (l : List Step) → new ≡ with_more ms old → to ≤ most + 1 → AreNumbersOf (old.from + length old.messages) to ms
+pub extended : (told : Bool) (old new : ATail) (to : ℕ) (ms : List Message) (l : List Step) → new ≡ with_more ms old → to ≤ largest + 1 → AreNumbersOf (old.from + length old.messages) to ms
     → (told ≡ true → (ms ≡ slice (order (ledger l)) (old.from + length old.messages) to) × (to ≤ length (order (ledger l)) + 1)) → IsTailOf told old l → IsTailOf told new l
 extended told old new to ms l is bound numbers sliced was = subst (λ t. IsTailOf told t l) (sym is) (record {
   first = was.first;
@@ -203,7 +203,7 @@ order-one : (raw : Raw) (m : Message) → order (ledger (Entered raw (Sequenced 
 unfolding order
 order-one raw m = refl
 
-kept_up : (old new : Standing) (last : ℕ) (t u : ATail) (raw : Raw) (m : Message) (l : List Step) → LaneSays → Continues old new (Entered raw (Sequenced m) ∷ []) → last ≡ new.entries.state.sequencer.sequence → last ≤ most → KeepsUp last m t u
+kept_up : (old new : Standing) (last : ℕ) (t u : ATail) (raw : Raw) (m : Message) (l : List Step) → LaneSays → Continues old new (Entered raw (Sequenced m) ∷ []) → last ≡ new.entries.state.sequencer.sequence → last ≤ largest → KeepsUp last m t u
     → BenchStands old t l → IsTailOf (terms_of old).told u (l ++ Entered raw (Sequenced m) ∷ [])
 kept_up old new last t u raw m l law goes is bound (inl same) stands =
     subst (λ v. IsTailOf (terms_of old).told v (l ++ Entered raw (Sequenced m) ∷ [])) (sym same) (tail_grows (terms_of old).told t l (Entered raw (Sequenced m) ∷ []) stands.tail)
@@ -244,7 +244,7 @@ kept_short_by last (Ok Dropped) old new same short = same_short old new same sho
 kept_short_by last (Ok Absorbed) old new same short = same_short old new same short
 kept_short_by last (Err fault) old new same short = same_short old new same short
 
-pub kept_up_by : (old new : Standing) (last : ℕ) (t u : ATail) (raw : Raw) (result : Result Verdict LaneFault) (l : List Step) → LaneSays → Continues old new (steps_of (entered_by raw) result) → last ≡ new.entries.state.sequencer.sequence → last ≤ most
+pub kept_up_by : (old new : Standing) (last : ℕ) (t u : ATail) (raw : Raw) (result : Result Verdict LaneFault) (l : List Step) → LaneSays → Continues old new (steps_of (entered_by raw) result) → last ≡ new.entries.state.sequencer.sequence → last ≤ largest
     → KeepsUpBy last result t u → BenchStands old t l → IsTailOf (terms_of old).told u (l ++ steps_of (entered_by raw) result)
 kept_up_by old new last t u raw (Ok (Sequenced m)) l law goes is bound keeps stands = kept_up old new last t u raw m l law goes is bound keeps stands
 kept_up_by old new last t u raw (Ok (Nacked nack)) l law goes is bound same stands = subst (λ v. IsTailOf (terms_of old).told v (l ++ entered_by raw (Nacked nack))) (sym same) (tail_grows (terms_of old).told t l (entered_by raw (Nacked nack)) stands.tail)
@@ -255,7 +255,7 @@ kept_up_by old new last t u raw (Err fault) l law goes is bound same stands = su
 -- ---- what is gathered
 
 -- an event with the messages of a tail
-pub collects_event : (s : Standing) (t : ATail) (name : List ℕ) (event : Reply) (l : List Step) (next to atmost : ℕ) → LaneSays → LaneStands s l → IsTailOf (terms_of s).told t l → s.entries.state.sequencer.sequence ≤ most
+pub collects_event : (s : Standing) (t : ATail) (name : List ℕ) (event : Reply) (l : List Step) (next to atmost : ℕ) → LaneSays → LaneStands s l → IsTailOf (terms_of s).told t l → s.entries.state.sequencer.sequence ≤ largest
     → t.from ≤ next → next ≤ to → to ≤ t.from + length t.messages → to ≡ next + min atmost (s.entries.state.sequencer.sequence + 1 - next) → next + length (stretch t next to) ≡ to
     → event ≡ Ops name (stretch t next to) → Collects gathered (terms_of s) next atmost (Ok (Some event)) l
 collects_event s t name event l next to atmost law stands tail bound first ordered last is count event_is =
@@ -364,7 +364,7 @@ module _ {V : Type 0} (messages : V → List Message) where
 -- ---- by the bench
 
 -- a tail that begins where the cursor's range begins
-pub apart_tail : (s : Standing) (l : List Step) (next atmost len from to : ℕ) (t : ATail) → LaneSays → LaneStands s l → len ≤ most → 0 < next → len ≡ s.entries.state.sequencer.sequence → from ≡ next → to ≡ next + min atmost (len + 1 - next) → from < to
+pub apart_tail : (s : Standing) (l : List Step) (next atmost len from to : ℕ) (t : ATail) → LaneSays → LaneStands s l → len ≤ largest → 0 < next → len ≡ s.entries.state.sequencer.sequence → from ≡ next → to ≡ next + min atmost (len + 1 - next) → from < to
     → t ≡ record { from = from; messages = [] } → IsTailOf (terms_of s).told t l
 apart_tail s l next atmost len from to t law stands bound first is at ends some begins =
     let high = min-le_right atmost (len + 1 - next) in

@@ -2,7 +2,7 @@
 use Rattle.std.specs.Prelude.{◌≡◌, ⊤, ℕ, ◌<◌, ◌⊎◌, nat_le, Bool, true, false, List, length, Option, Some, None, Result, Ok, Err, IfOk, IfErr}
 use Rattle.fluid_io.specs.Causes.{Rose}
 use Rattle.fluid_rules.specs.Rules.{IsLegal}
-use Rattle.fluid_document.specs.Entries.{most}
+use Rattle.fluid_types.specs.Forms.{largest}
 use Rattle.fluid_lane.specs.declared.steps.Step.{Step}
 use Rattle.fluid_lane.specs.declared.fault.LaneFault.{LaneFault}
 use Rattle.fluid_lane.specs.declared.fault.LaneFault.TheVariants.{LogFailed, DeltaFailed, NoMemory, Worn}
@@ -15,7 +15,7 @@ use Rattle.fluid_doors.specs.declared.bench.Terms.{Terms}
 
 -- the list has as many steps as a document may have
 abbrev pub is_worn_behind : List Step → Bool
-is_worn_behind l = nat_le most (length l)
+is_worn_behind l = nat_le largest (length l)
 
 abbrev pub IsNotWorn : LaneFault → Type 0
 IsNotWorn Worn = ⊥

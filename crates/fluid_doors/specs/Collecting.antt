@@ -12,7 +12,7 @@ use Rattle.fluid_deltas.specs.declared.fault.DeltaFault.TheVariants.{DeltaFailed
 use Rattle.fluid_codec.specs.declared.replies.Reply.{Reply}
 use Rattle.fluid_codec.specs.declared.replies.Reply.TheVariants.{Ops}
 use Rattle.fluid_voice.specs.Feed.{brought}
-use Rattle.fluid_document.specs.Entries.{most}
+use Rattle.fluid_types.specs.Forms.{largest}
 use Rattle.fluid_lane.specs.declared.steps.Step.{Step}
 use Rattle.fluid_lane.specs.Steps.{ledger}
 use Rattle.fluid_doors.specs.declared.bench.Terms.{Terms}
@@ -54,7 +54,7 @@ pub record CollectsTold {V : Type 0} (messages : V → List Message) (next atmos
 pub record AreNext (next atmost : ℕ) (messages : List Message) : Type 0 where
   pub numbered : AreNumberedFrom next messages
   pub few : length messages ≤ atmost
-  pub last : 0 < length messages → next + length messages ≤ most + 1
+  pub last : 0 < length messages → next + length messages ≤ largest + 1
 
 -- a fault of the keeper has its counts of faults that were read in this call, and they rose
 abbrev pub IsReadCause : (before now : ℕ) → DeltaFault → Type 0

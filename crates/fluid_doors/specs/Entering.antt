@@ -12,7 +12,7 @@ use Rattle.fluid_rules.specs.Rules.{verdict, joined, IsLegal}
 use Rattle.fluid_rules.specs.Past.{is_sequenced}
 use Rattle.fluid_rules.specs.Counted.{is_counted, counted, has_too_many_clients}
 use Rattle.fluid_core.specs.Entering.{IsUpTo}
-use Rattle.fluid_document.specs.Entries.{most}
+use Rattle.fluid_types.specs.Forms.{largest}
 use Rattle.fluid_lane.specs.declared.steps.Step.{Step}
 use Rattle.fluid_lane.specs.declared.steps.Step.TheVariants.{Entered}
 use Rattle.fluid_lane.specs.declared.fault.LaneFault.{LaneFault}
@@ -67,8 +67,8 @@ IsJoined scopes detail moment l (id, message) =
 
 -- over any keeper the id is `c` and a number, and the message has one that a document may have
 pub record HasNumbers (a : List ℕ × Message) : Type 0 where
-  pub entry : (n : ℕ) × ((n < most) × (a.0 ≡ entry_name n))
-  pub message : IsUpTo most a.1.number
+  pub entry : (n : ℕ) × ((n < largest) × (a.0 ≡ entry_name n))
+  pub message : IsUpTo largest a.1.number
 
 -- Where the keeper tells its content, the join is one of a client that isn't joined, so that the limit of clients holds for it
 pub record Joins (t : Terms) (scopes : Scopes) (detail : Tree) (moment : ℕ) (result : Result (List ℕ × Message) LaneFault) (l : List Step) : Type 0 where

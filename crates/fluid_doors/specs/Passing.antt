@@ -3,7 +3,7 @@ use Rattle.std.specs.Prelude.{◌≡◌, ◌≤◌, List, ◌++◌, map, length}
 use Rattle.fluid_turn.specs.declared.view.Numbered.{Numbered}
 use Rattle.fluid_turn.specs.Entries.{IsPrefix, by_seat, entries}
 use Rattle.fluid_turn.specs.Seats.{Known}
-use Rattle.fluid_document.specs.Entries.{most}
+use Rattle.fluid_types.specs.Forms.{largest}
 use Rattle.fluid_lane.specs.declared.steps.Step.{Step}
 use Rattle.fluid_lane.specs.Standing.{Standing, LaneStands}
 use Rattle.fluid_doors.specs.declared.bench.Terms.{Terms}
@@ -27,7 +27,7 @@ pub record Grows (p q : APass) (added : List Step) (holds : List Step → Type 0
   pub seen : q.seen ≡ before ++ map (by_seat p.number) added
   pub mine : q.mine ≡ p.mine ++ added
   pub more : IsPrefix p.seen q.seen
-  pub few : length q.seen ≤ most
+  pub few : length q.seen ≤ largest
   pub says : holds (entries before)
 
 -- A call on a lane behind its door: what never changes stays, the keeper's count of faults never falls, and whatever list it stood

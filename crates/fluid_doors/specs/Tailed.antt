@@ -5,7 +5,7 @@ use Rattle.fluid_types.specs.Order.{AreNumberedFrom}
 use Rattle.fluid_types.specs.declared.messages.Message.{Message}
 use Rattle.fluid_deltas.specs.Pushed.{slice}
 use Rattle.fluid_deltas.specs.declared.fault.DeltaFault.{DeltaFault}
-use Rattle.fluid_document.specs.Entries.{most}
+use Rattle.fluid_types.specs.Forms.{largest}
 use Rattle.fluid_feed.specs.Tails.{ATail, too_many, with_more, IsTrimmed}
 use Rattle.fluid_types.specs.declared.verdicts.Verdict.{Verdict}
 use Rattle.fluid_types.specs.declared.verdicts.Verdict.TheVariants.{Sequenced}
@@ -26,7 +26,7 @@ pub record IsIn (t : ATail) (order : List Message) : Type 0 where
 pub record IsTailOf (tells : Bool) (t : ATail) (l : List Step) : Type 0 where
   pub first : 0 < t.from
   pub numbered : AreNumberedFrom t.from t.messages
-  pub few : t.from + length t.messages ≤ most + 1
+  pub few : t.from + length t.messages ≤ largest + 1
   pub told : tells ≡ true → IsIn t (order (ledger l))
 
 -- a lane that stands for the list, and a tail of its order that hasn't too many messages

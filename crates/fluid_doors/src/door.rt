@@ -7,7 +7,7 @@ ghost use Rattle.fluid_turn.specs.Seats.{IsNew, SeesMore};
 ghost use Rattle.fluid_types.specs.Fits.{Fits};
 ghost use Rattle.fluid_types.specs.Names.{entry_name};
 ghost use Rattle.fluid_types.specs.declared.verdicts.Verdict.{Verdict as AVerdict};
-ghost use Rattle.fluid_document.specs.Entries.{most};
+ghost use Rattle.fluid_types.specs.Forms.{largest};
 ghost use Rattle.fluid_lane.specs.declared.steps.Step.{Step as AStep};
 ghost use Rattle.fluid_lane.specs.Standing.{LaneStands, IsLeaveOrSubmission};
 ghost use Rattle.fluid_lane.specs.Steps.{ledger, steps, steps_of, range_steps, entered_by, stored_by, restarted_by};
@@ -183,7 +183,7 @@ impl<K: Keeper> Door<K> {
         moment: u64,
     ) -> (Pass<K>, Result<(ClientId, Message), LaneFault>)
         requires pass { pass.turn ≡ self.now.turn }
-        requires fits { (n : ℕ) → n ≤ most → Fits (Raw.Join (entry_name n) scopes detail moment) }
+        requires fits { (n : ℕ) → n ≤ largest → Fits (Raw.Join (entry_name n) scopes detail moment) }
         ensures { Grows pass result.0 (steps_of (joined_as scopes detail moment) result.1) (Joins self.now.turn.fixed scopes detail moment result.1) }
     {
         let mut held = self.turn.take_noted(rt, pass);
@@ -202,7 +202,7 @@ impl<K: Keeper> Door<K> {
         silence: u64,
     ) -> (Pass<K>, Result<Option<ClientId>, LaneFault>)
         requires pass { pass.turn ≡ self.now.turn }
-        requires moment { moment ≤ most }
+        requires moment { moment ≤ largest }
         ensures { (verdict : AVerdict) × Grows pass result.0 (steps_of (swept_as moment verdict) result.1) (Sweeps self.now.turn.fixed moment silence verdict result.1) }
     {
         let mut held = self.turn.take_noted(rt, pass);

@@ -6,7 +6,7 @@ ghost use Rattle.fluid_types.specs.declared.entries.Raw.{Raw as ARaw};
 ghost use Rattle.fluid_types.specs.declared.messages.Message.{Message as AMessage};
 ghost use Rattle.fluid_types.specs.declared.verdicts.Verdict.{Verdict as AVerdict};
 ghost use Rattle.fluid_rules.specs.Past.{is_sequenced};
-ghost use Rattle.fluid_document.specs.Entries.{most};
+ghost use Rattle.fluid_types.specs.Forms.{largest};
 ghost use Rattle.fluid_lane.specs.declared.steps.Step.{Step as AStep};
 ghost use Rattle.fluid_lane.specs.Steps.{steps_of, fault_steps, delta_steps, range_steps, entered_by, joined_by, swept_by, stored_by, restarted_by};
 ghost use Rattle.fluid_doors.specs.Terms.{terms_of};
@@ -30,7 +30,7 @@ pub(crate) fn close_with<K: Keeper>(held: Held<'_, Bench<K>>, step: &Step) -> Pa
     requires stands { BenchStands held.value.lane held.value.tail (entries held.place.list ++ step.now ∷ []) }
     requires fixed { terms_of held.value.lane ≡ held.place.seat.turn.fixed }
     ensures pass { result ≡ entering step.now held.entry.place.seat }
-    ensures few { length result.seen ≤ most }
+    ensures few { length result.seen ≤ largest }
 {
     let mut held = held;
     // (read for its clause alone)
@@ -45,7 +45,7 @@ pub(crate) fn close<K: Keeper>(held: Held<'_, Bench<K>>) -> Pass<K>
     requires stands { BenchStands held.value.lane held.value.tail (entries held.place.list) }
     requires fixed { terms_of held.value.lane ≡ held.place.seat.turn.fixed }
     ensures pass { result ≡ held.entry.place.seat }
-    ensures few { length result.seen ≤ most }
+    ensures few { length result.seen ≤ largest }
 {
     // (read for its clause alone)
     let _number = held.value.lane.number();
@@ -58,7 +58,7 @@ pub(crate) fn close_noted<K: Keeper>(held: Held<'_, Bench<K>>, note: Option<Faul
     requires stands { BenchStands held.value.lane held.value.tail (entries held.place.list ++ note_steps note) }
     requires fixed { terms_of held.value.lane ≡ held.place.seat.turn.fixed }
     ensures pass { result ≡ adding (note_steps note) held.entry.place.seat }
-    ensures few { length result.seen ≤ most }
+    ensures few { length result.seen ≤ largest }
 {
     match note {
         Some(note) => close_with(held, &Step::Aside(Side::Failed(note))),
@@ -99,7 +99,7 @@ pub(crate) fn close_entered<K: Keeper>(
     requires fixed { terms_of held.value.lane ≡ held.place.seat.turn.fixed }
     ensures same { result.1 ≡ answer }
     ensures pass { result.0 ≡ adding (steps_of (entered_by raw) answer) held.entry.place.seat }
-    ensures few { length result.0.seen ≤ most }
+    ensures few { length result.0.seen ≤ largest }
 {
     match answer {
         Ok(verdict) => {
@@ -136,7 +136,7 @@ pub(crate) fn close_joined<K: Keeper>(
     requires join { IfOk answer (λ a. IsJoin a.0) }
     ensures same { result.1 ≡ with_id answer }
     ensures pass { result.0 ≡ adding (steps_of joined_by answer) held.entry.place.seat }
-    ensures few { length result.0.seen ≤ most }
+    ensures few { length result.0.seen ≤ largest }
 {
     match answer {
         Ok((raw, message)) => {
@@ -209,7 +209,7 @@ pub(crate) fn close_swept<K: Keeper>(
     requires leave { IfOk answer (λ given. IfSome given (λ a. IsLeave a.0)) }
     ensures same { result.1 ≡ with_left answer }
     ensures pass { result.0 ≡ adding (steps_of swept_by answer) held.entry.place.seat }
-    ensures few { length result.0.seen ≤ most }
+    ensures few { length result.0.seen ≤ largest }
 {
     match answer {
         Ok(Some((raw, message))) => {
@@ -246,7 +246,7 @@ pub(crate) fn close_stored<K: Keeper>(
     requires fixed { terms_of held.value.lane ≡ held.place.seat.turn.fixed }
     ensures same { result.1 ≡ answer }
     ensures pass { result.0 ≡ adding (steps_of stored_by answer) held.entry.place.seat }
-    ensures few { length result.0.seen ≤ most }
+    ensures few { length result.0.seen ≤ largest }
 {
     match answer {
         Ok(number) => {
@@ -271,7 +271,7 @@ pub(crate) fn close_restarted<K: Keeper>(
     requires fixed { terms_of held.value.lane ≡ held.place.seat.turn.fixed }
     ensures same { result.1 ≡ answer }
     ensures pass { result.0 ≡ adding (steps_of (restarted_by number) answer) held.entry.place.seat }
-    ensures few { length result.0.seen ≤ most }
+    ensures few { length result.0.seen ≤ largest }
 {
     match answer {
         Ok(()) => {
@@ -295,7 +295,7 @@ pub(crate) fn close_read<K: Keeper, A>(
     requires fixed { terms_of held.value.lane ≡ held.place.seat.turn.fixed }
     ensures same { result.1 ≡ answer }
     ensures pass { result.0 ≡ adding (range_steps answer) held.entry.place.seat }
-    ensures few { length result.0.seen ≤ most }
+    ensures few { length result.0.seen ≤ largest }
 {
     match answer {
         Ok(read) => (close(held), Ok(read)),

@@ -6,7 +6,7 @@ ghost use Rattle.fluid_lane.specs.Steps.{range_steps};
 ghost use Rattle.fluid_doors.specs.Terms.{terms_of};
 ghost use Rattle.fluid_doors.specs.Passing.{Continues};
 ghost use Rattle.fluid_doors.specs.Collecting.{Collects, IsEventUnder, IsReadCause, gathered};
-ghost use Rattle.fluid_document.specs.Entries.{most};
+ghost use Rattle.fluid_types.specs.Forms.{largest};
 ghost use Rattle.fluid_doors.specs.Tailed.{IsTailOf, Begins, KeepsUp, KeepsUpBy, IsNoLonger, ReachesTo, ReadsUpTo};
 ghost use Rattle.fluid_feed.specs.Tails.{too_many};
 
@@ -93,7 +93,7 @@ pub(crate) fn keep_up(
     tail: &mut Tail,
     answer: &Result<Verdict, LaneFault>,
 )
-    requires { last ≤ most }
+    requires { last ≤ largest }
     ensures { KeepsUpBy last answer.now tail.old tail.new }
 {
     match answer {
@@ -105,7 +105,7 @@ pub(crate) fn keep_up(
 
 // Where memory is wanting, the tail stays as it was, and what it lacks is read later.
 fn put_last(alloc: Global, last: u64, tail: &mut Tail, message: &Message)
-    requires { last ≤ most }
+    requires { last ≤ largest }
     ensures { KeepsUp last message.now tail.old tail.new }
 {
     if tail.end() != message.number || message.number != last {

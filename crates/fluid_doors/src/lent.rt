@@ -3,7 +3,7 @@
 ghost use Rattle.std.specs.Prelude.{◌≡◌, ℕ, ◌<◌, ◌≤◌, List, [], ◌∷◌, ◌++◌, length, IfOk, IfErr, IfSome};
 ghost use Rattle.fluid_types.specs.Fits.{Fits};
 ghost use Rattle.fluid_types.specs.Names.{entry_name};
-ghost use Rattle.fluid_document.specs.Entries.{most};
+ghost use Rattle.fluid_types.specs.Forms.{largest};
 ghost use Rattle.fluid_core.specs.Entering.{IsUpTo};
 ghost use Rattle.fluid_lane.specs.declared.steps.Step.{Step as AStep};
 ghost use Rattle.fluid_lane.specs.Faults.{IsCausedBy, IsOutside, IsReadFault};
@@ -63,7 +63,7 @@ impl<K: Keeper> Bench<K> {
         detail: Json,
         moment: u64,
     ) -> Result<(Raw, Message), LaneFault>
-        requires fits { (n : ℕ) → n ≤ most → Fits (Raw.Join (entry_name n) scopes detail moment) }
+        requires fits { (n : ℕ) → n ≤ largest → Fits (Raw.Join (entry_name n) scopes detail moment) }
         ensures goes { Continues self.old.lane self.new.lane (steps_of joined_by result) }
         ensures raw { IfOk result (IsJoinOf scopes detail moment) }
         ensures tail { self.new.tail ≡ self.old.tail }
@@ -103,7 +103,7 @@ impl<K: Keeper> Bench<K> {
         moment: u64,
         silence: u64,
     ) -> Result<Option<(Raw, Message)>, LaneFault>
-        requires moment { moment ≤ most }
+        requires moment { moment ≤ largest }
         ensures goes { Continues self.old.lane self.new.lane (steps_of swept_by result) }
         ensures raw { IfOk result (IsLeaveAt moment) }
         ensures tail { self.new.tail ≡ self.old.tail }
@@ -118,7 +118,7 @@ impl<K: Keeper> Bench<K> {
     pub fn job(&mut self, alloc: Global) -> Result<Option<Job>, NoMemory>
         ensures same { self.new.lane ≡ self.old.lane }
         ensures tail { self.new.tail ≡ self.old.tail }
-        ensures number { IfOk result (λ given. IfSome given (λ job. IsUpTo most job.summary)) }
+        ensures number { IfOk result (λ given. IfSome given (λ job. IsUpTo largest job.summary)) }
         ensures says { (l : List AStep) → LaneStands self.old.lane l → IfOk result (λ given. IsJobOf (terms_of self.old.lane) given l) }
     {
         lanes_say_their_ledgers();

@@ -1,7 +1,7 @@
 //! What a door does about a summary that is pending.
 ghost use Rattle.std.specs.Prelude.{◌≡◌, ◌≤◌, ⊤, [], Some, IfOk, IfSome};
 ghost use Rattle.fluid_core.specs.Entering.{IsUpTo};
-ghost use Rattle.fluid_document.specs.Entries.{most};
+ghost use Rattle.fluid_types.specs.Forms.{largest};
 ghost use Rattle.fluid_lane.specs.Steps.{steps_of, entered_by};
 ghost use Rattle.fluid_doors.specs.Passing.{Grows};
 ghost use Rattle.fluid_doors.specs.Entering.{Reports};
@@ -34,7 +34,7 @@ impl<K: Keeper> Door<K> {
         moment: u64,
     ) -> (Pass<K>, Result<ScribeEnd, ScribeFault>)
         requires pass { pass.turn ≡ self.now.turn }
-        requires moment { moment ≤ most }
+        requires moment { moment ≤ largest }
         ensures counts { Counts (O.seen objects.old) (O.seen objects.new) }
         ensures scribes { Scribes self.now.turn.fixed pass result.0 moment (O.seen objects.old) (O.seen objects.new) result.1 }
     {
@@ -63,7 +63,7 @@ impl<K: Keeper> Door<K> {
         pass: Pass<K>,
     ) -> (Pass<K>, Result<Option<Job>, NoMemory>)
         requires { pass.turn ≡ self.now.turn }
-        ensures number { IfOk result.1 (λ given. IfSome given (λ job. IsUpTo most job.summary)) }
+        ensures number { IfOk result.1 (λ given. IfSome given (λ job. IsUpTo largest job.summary)) }
         ensures job { IfOk result.1 (λ given. Grows pass result.0 [] (IsJobOf self.now.turn.fixed given)) }
         ensures same { Grows pass result.0 [] (λ l. ⊤) }
     {
@@ -83,8 +83,8 @@ impl<K: Keeper> Door<K> {
         moment: u64,
     ) -> (Pass<K>, Result<Verdict, LaneFault>)
         requires pass { pass.turn ≡ self.now.turn }
-        requires number { IsUpTo most summary }
-        requires moment { moment ≤ most }
+        requires number { IsUpTo largest summary }
+        requires moment { moment ≤ largest }
         ensures { Grows pass result.0 (steps_of (entered_by (Raw.Report summary found moment)) result.1) (Reports self.now.turn.fixed (Raw.Report summary found moment) result.1) }
     {
         // (a law, and no work: its clause is for the proof)

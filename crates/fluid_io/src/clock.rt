@@ -7,17 +7,15 @@ use std::marker::Model;
 use std::time;
 use std::time::{SystemTime, UNIX_EPOCH};
 
-/// The last moment, since moments stand in JSON texts.
-pub const LAST_MOMENT: u64 = LARGEST;
-
-/// A clock. A moment is a whole number of milliseconds since the start of 1970, and at most `LAST_MOMENT`.
+/// A clock. A moment is a whole number of milliseconds since the start of 1970, and at most `LARGEST`,
+/// since it stands in JSON texts.
 /// A clock has no fault.
 pub trait Clock {
     /// The moment, of a clock that tells it.
     ghost moment: { Self → Option ℕ };
 
     fn now(&self) -> u64
-        ensures bound { result ≤ LAST_MOMENT }
+        ensures bound { result ≤ LARGEST }
         ensures told { Tells (moment self.now) (λ moment. result ≡ moment) };
 }
 
@@ -40,7 +38,7 @@ impl Model for FixedClock {
 impl FixedClock {
     /// It always tells this moment, in milliseconds.
     pub fn new(moment: u64) -> FixedClock
-        requires { moment ≤ LAST_MOMENT }
+        requires { moment ≤ LARGEST }
         ensures { result ≡ moment }
     {
         FixedClock { moment }
@@ -58,7 +56,7 @@ impl Clock for FixedClock {
 }
 
 /// A clock of std. It doesn't tell its moment. It reads 0 where it can't be read or is set before 1970, and
-/// stands at `LAST_MOMENT` behind it.
+/// stands at `LARGEST` behind it.
 #[derive(Drop)]
 pub struct StdClock<C: time::Clock> {
     inner: C,
@@ -88,7 +86,7 @@ impl<C: time::Clock> Clock for StdClock<C> {
             .ok()
             .and_then(|now| now.duration_since(UNIX_EPOCH).ok());
         match since_1970 {
-            Some(elapsed) => elapsed.as_millis().min(u128::from(LAST_MOMENT)) as u64,
+            Some(elapsed) => elapsed.as_millis().min(u128::from(LARGEST)) as u64,
             None => 0,
         }
     }

@@ -14,7 +14,7 @@ mod plan;
 mod sink;
 mod source;
 
-pub use clock::{Clock, FixedClock, LAST_MOMENT, StdClock};
+pub use clock::{Clock, FixedClock, StdClock};
 pub use faults::{Failed, FaultNote};
 pub use line::{Line, LineFault};
 pub use lines::{LONGEST_TEXT, Lines, MOST_LINES};

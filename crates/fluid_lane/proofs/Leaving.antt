@@ -16,7 +16,8 @@ use Rattle.fluid_deltas.specs.Flushes.{put_behind, with_deltas, lacking_up_to}
 use Rattle.fluid_core.specs.Entering.{verdict_in, after}
 use Rattle.fluid_deltas.specs.Pushed.{Pushed}
 use Rattle.fluid_deltas.specs.declared.pages.TheConstants.{PAGE, RESIDENT}
-use Rattle.fluid_document.specs.Entries.{Entries, InMemory, IsLevelled, most, taken_up}
+use Rattle.fluid_types.specs.Forms.{largest}
+use Rattle.fluid_document.specs.Entries.{Entries, InMemory, IsLevelled, taken_up}
 use Rattle.fluid_document.specs.Rooms.{for_room}
 use Rattle.fluid_document.specs.Entry.{EntersBy}
 use Rattle.fluid_document.specs.declared.fault.EnterFault.{EnterFault}
@@ -164,7 +165,7 @@ has_left_same moment old mid new before here now has waits later reads =
     })
 
 -- the first of the joined clients, whose leave fits a log
-pub leaves_first : (moment : ℕ) (old new : Keeping) (before now : InMemory) (id : List ℕ) (result : Result (Unit {0}) EnterFault) → IsName id → moment ≤ most → slice_get (keys before.entries.state.sequencer.rows) 0 ≡ Some id → before.entries.entered < most
+pub leaves_first : (moment : ℕ) (old new : Keeping) (before now : InMemory) (id : List ℕ) (result : Result (Unit {0}) EnterFault) → IsName id → moment ≤ largest → slice_get (keys before.entries.state.sequencer.rows) 0 ≡ Some id → before.entries.entered < largest
     → EntersBy (Leave id moment) old new before now result → LeavesFirst moment old new before now result
 leaves_first moment old new before now id result name small first few enters =
     let ids = first_and_rest (keys before.entries.state.sequencer.rows) id first in

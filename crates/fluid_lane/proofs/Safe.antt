@@ -8,13 +8,14 @@ use Rattle.fluid_types.specs.declared.messages.Message.{Message}
 use Rattle.fluid_log.specs.Calls.{KeepsSame, with_record}
 use Rattle.fluid_log.specs.declared.keeper.TheConstants.{LONGEST_KEPT}
 use Rattle.fluid_deltas.specs.Flushes.{with_deltas}
-use Rattle.fluid_document.specs.Entries.{most, taken_up}
+use Rattle.fluid_types.specs.Forms.{largest}
+use Rattle.fluid_document.specs.Entries.{taken_up}
 use Rattle.fluid_lane.specs.Standing.{Standing, AreNamed, IsOwn, IsSafe, is_worn}
 use Rattle.fluid_lane.proofs.Named.{named_after, taken-entered}
 use Rattle.fluid_lane.proofs.Ids.{named_same}
 
 -- the entries stay
-safe_left : (s t : Standing) → s.keeping.records ≤ t.keeping.records → (t.owed ≡ false → (t.keeping.records ≡ s.keeping.records) × (s.owed ≡ false)) → t.messages.before ≤ t.keeping.deltas → t.entries ≡ s.entries → s.entries.entered + t.sides ≤ most → t.limits ≡ s.limits → IsSafe s → IsSafe t
+safe_left : (s t : Standing) → s.keeping.records ≤ t.keeping.records → (t.owed ≡ false → (t.keeping.records ≡ s.keeping.records) × (s.owed ≡ false)) → t.messages.before ≤ t.keeping.deltas → t.entries ≡ s.entries → s.entries.entered + t.sides ≤ largest → t.limits ≡ s.limits → IsSafe s → IsSafe t
 safe_left s t more level reached entries few limits safe = record {
   few = omega (arith, ap (λ e. e.entered) entries, few);
   logged = omega (arith, ap (λ e. e.entered) entries, more, safe.logged);
@@ -24,7 +25,7 @@ safe_left s t more level reached entries few limits safe = record {
   named = rw entries safe.named;
 }
 
-pub safe_beside : (s t : Standing) → t.keeping.records ≡ s.keeping.records → t.messages.before ≤ t.keeping.deltas → t.entries ≡ s.entries → t.owed ≡ s.owed → s.entries.entered + t.sides ≤ most → t.limits ≡ s.limits → IsSafe s → IsSafe t
+pub safe_beside : (s t : Standing) → t.keeping.records ≡ s.keeping.records → t.messages.before ≤ t.keeping.deltas → t.entries ≡ s.entries → t.owed ≡ s.owed → s.entries.entered + t.sides ≤ largest → t.limits ≡ s.limits → IsSafe s → IsSafe t
 safe_beside s t records reached entries owed few limits safe = safe_left s t (omega (arith, records)) (λ is. (records, sym owed ∙ is)) reached entries few limits safe
 
 -- a call of the keeper that changed nothing
@@ -32,8 +33,8 @@ pub safe_same : (s t : Standing) → KeepsSame s.keeping t.keeping → t.entries
 safe_same s t same entries messages owed sides limits safe =
     safe_beside s t same.records (omega (arith, ap (λ d. d.before) messages, same.deltas, safe.reached)) entries owed (omega (arith, sides, safe.few)) limits safe
 
-pub not_worn : (entered sides : ℕ) → nat_le most (entered + sides) ≡ false → entered + sides < most
-not_worn entered sides is = leb-false most (entered + sides) is
+pub not_worn : (entered sides : ℕ) → nat_le largest (entered + sides) ≡ false → entered + sides < largest
+not_worn entered sides is = leb-false largest (entered + sides) is
 
 -- an entry was entered, with its record
 pub safe_entered : (s t : Standing) (raw : Raw) (bytes : List ℕ) (ms : List Message) → KeepsSame (with_record bytes (with_deltas ms s.keeping)) t.keeping → t.messages.before ≤ t.keeping.deltas → t.entries ≡ taken_up s.entries raw → s.owed ≡ false
@@ -58,7 +59,7 @@ safe_torn s t bytes ms left reached entries owed sides limits safe =
 
 -- the state was built anew, with the same entries and ids
 pub safe_restarted : (s t : Standing) → t.keeping ≡ s.keeping → t.entries.entered ≡ s.entries.entered → t.messages.before ≤ s.keeping.deltas → keys s.entries.state.sequencer.rows ≡ keys t.entries.state.sequencer.rows → t.owed ≡ s.owed
-    → s.entries.entered + t.sides ≤ most → t.limits ≡ s.limits → IsSafe s → IsSafe t
+    → s.entries.entered + t.sides ≤ largest → t.limits ≡ s.limits → IsSafe s → IsSafe t
 safe_restarted s t keeping entered reached ids owed few limits safe = record {
   few = omega (arith, entered, few);
   logged = omega (arith, entered, ap (λ k. k.records) keeping, safe.logged);

@@ -31,7 +31,7 @@ use Rattle.fluid_core.specs.Entering.{State, StandsFor, verdict_in, after, state
 use Rattle.fluid_core.proofs.Entered.{verdict-stands, stands-sequencer, stands-acks}
 use Rattle.fluid_core.proofs.Jobs.{stands-job}
 use Rattle.fluid_deltas.proofs.Telling.{tells_from}
-use Rattle.fluid_document.specs.Entries.{most}
+use Rattle.fluid_types.specs.Forms.{largest}
 use Rattle.fluid_document.proofs.Foldings.{state-entries_of, entered-entries_of, counted-entries_of}
 use Rattle.fluid_lane.specs.declared.fault.LaneFault.TheVariants.{Full, TooManyClients}
 use Rattle.fluid_lane.specs.Steps.{ledger}
@@ -90,7 +90,7 @@ full_for s l raw counts =
 not_joined : (l : Ledger) (id : List ℕ) → get (tickets.state_of l).rows id ≡ None → is_joined l id ≡ false
 not_joined l id none = false_from_ne_true (is_joined l id) (λ is. none-some _ (sym none ∙ get-state_of l id ∙ ap (option_map rowed) (client-joined l id is)))
 
-too_many_for : (s : Standing) (l : Ledger) (scopes : Scopes) (detail : Tree) (moment : ℕ) → length l ≤ most → len s.entries.state.sequencer.rows ≡ length (joined l) → get s.entries.state.sequencer.rows (entry_name (length l)) ≡ None
+too_many_for : (s : Standing) (l : Ledger) (scopes : Scopes) (detail : Tree) (moment : ℕ) → length l ≤ largest → len s.entries.state.sequencer.rows ≡ length (joined l) → get s.entries.state.sequencer.rows (entry_name (length l)) ≡ None
     → get s.entries.state.sequencer.rows (entry_name (length l)) ≡ get (tickets.state_of l).rows (entry_name (length l))
     → has_too_many s ≡ (has_too_many_clients s.limits.clients l (Join (entry_name (length l)) scopes detail moment), TooManyClients)
 too_many_for s l scopes detail moment few count none same =

@@ -20,7 +20,8 @@ use Rattle.fluid_deltas.proofs.Telling.{tells_from, tells_both, tells_becomes}
 use Rattle.fluid_log.proofs.Sameness.{same_itself}
 use Rattle.fluid_core.specs.Entering.{verdict_in}
 use Rattle.fluid_core.proofs.Entered.{verdict-state_of}
-use Rattle.fluid_document.specs.Entries.{Entries, most, taken_up, entries_of}
+use Rattle.fluid_types.specs.Forms.{largest}
+use Rattle.fluid_document.specs.Entries.{Entries, taken_up, entries_of}
 use Rattle.fluid_document.specs.Entry.{PutsSome, IsTorn}
 use Rattle.fluid_document.specs.Kept.{IsLoggable, IsKept, IsPrinted}
 use Rattle.fluid_document.proofs.Keeps.{kept_whole, kept_owed, kept_cut, kept_torn, kept_entered, kept_more}
@@ -124,13 +125,13 @@ said_by : (e : Entries) (l : Ledger) (raw : Raw) → e ≡ entries_of l → IsLe
 said_by e l raw is legal = ap (λ f. verdict_in f.state raw) is ∙ ap (λ s. verdict_in s raw) (state-entries_of l) ∙ verdict-state_of l raw legal
 
 -- the keeper with the record is kept for the ledger with the entry
-pub kept_next : (e : Entries) (d : Pushed) (l : Ledger) (raw : Raw) (c : Content) → IsFor false e d l c → IsLoggable (raw, verdict_in e.state raw) → e.entered < most → IsKept false (l ++ (raw, verdict_in e.state raw) ∷ []) (add_record (raw_printed raw) c)
+pub kept_next : (e : Entries) (d : Pushed) (l : Ledger) (raw : Raw) (c : Content) → IsFor false e d l c → IsLoggable (raw, verdict_in e.state raw) → e.entered < largest → IsKept false (l ++ (raw, verdict_in e.state raw) ∷ []) (add_record (raw_printed raw) c)
 kept_next e d l raw c is loggable few =
     kept_entered l raw _ c is.kept (said_by e l raw is.entries is.kept.legal) loggable (omega (arith, few, ap (λ f. f.entered) is.entries, entered-entries_of l))
 
 -- what memory and keeper say of the ledger with the entry
 pub for_entered : (s t : Standing) (ms : List Message) (raw : Raw) (l : Ledger) → KeepsSame (with_record (raw_printed raw) (with_deltas ms s.keeping)) t.keeping → t.entries ≡ taken_up s.entries raw → s.owed ≡ false → t.owed ≡ false
-    → IsLoggable (raw, verdict_in s.entries.state raw) → s.entries.entered < most
+    → IsLoggable (raw, verdict_in s.entries.state raw) → s.entries.entered < largest
     → ((o : List Message) → Tells s.keeping.content (StandFor s.messages o) → Tells t.keeping.content (StandFor t.messages (o ++ messages_of (verdict_in s.entries.state raw))))
     → Tells s.keeping.content (IsFor s.owed s.entries s.messages l) → Tells t.keeping.content (IsFor t.owed t.entries t.messages (l ++ (raw, verdict_in s.entries.state raw) ∷ []))
 for_entered s t ms raw l same entries level owed loggable few stands is =
@@ -148,7 +149,7 @@ for_entered s t ms raw l same entries level owed loggable few stands is =
     is (stands (order l) (tells_from s.keeping.content _ _ (λ c one. one.messages) is))
 
 pub enters : (s t : Standing) (ms : List Message) (raw : Raw) → KeepsSame (with_record (raw_printed raw) (with_deltas ms s.keeping)) t.keeping → s.keeping.faults ≤ t.keeping.faults → t.entries ≡ taken_up s.entries raw → s.owed ≡ false → t.owed ≡ false
-    → IsLoggable (raw, verdict_in s.entries.state raw) → s.entries.entered < most → t.sides ≡ s.sides → t.last ≡ s.last → t.opened ≡ s.opened → t.limits ≡ s.limits
+    → IsLoggable (raw, verdict_in s.entries.state raw) → s.entries.entered < largest → t.sides ≡ s.sides → t.last ≡ s.last → t.opened ≡ s.opened → t.limits ≡ s.limits
     → ((o : List Message) → Tells s.keeping.content (StandFor s.messages o) → Tells t.keeping.content (StandFor t.messages (o ++ messages_of (verdict_in s.entries.state raw))))
     → Goes s t (Entered raw (verdict_in s.entries.state raw) ∷ [])
 enters s t ms raw same faults entries level owed loggable few sides last opened limits stands =
@@ -293,10 +294,10 @@ goes_restarted s r t number goes keeping entered owed sides last opened limits e
 
 -- ---- what the keeper is left as
 
-left_by : (s : Standing) (l : List Step) (c : Content) (owed : Bool) → s.entries.entered + s.sides ≤ most → LaneStands s l → IsTold s l c → s.owed ≡ owed → IsLeftFor owed (ledger l) c
+left_by : (s : Standing) (l : List Step) (c : Content) (owed : Bool) → s.entries.entered + s.sides ≤ largest → LaneStands s l → IsTold s l c → s.owed ≡ owed → IsLeftFor owed (ledger l) c
 left_by s l c false few stands told is = subst (λ o. IsKept o (ledger l) c) is told.stands.kept
 left_by s l c true few stands told is =
     kept_whole (ledger l) c (subst (λ o. IsKept o (ledger l) c) is told.stands.kept) (omega (arith, few, stands.owes is, ap (λ e. e.entered) told.stands.entries, entered-entries_of (ledger l)))
 
-pub left_for : (s : Standing) (l : List Step) → s.entries.entered + s.sides ≤ most → LaneStands s l → Tells s.keeping.content (IsLeftFor s.owed (ledger l))
+pub left_for : (s : Standing) (l : List Step) → s.entries.entered + s.sides ≤ largest → LaneStands s l → Tells s.keeping.content (IsLeftFor s.owed (ledger l))
 left_for s l few stands = tells_from s.keeping.content (IsTold s l) (IsLeftFor s.owed (ledger l)) (λ c told. left_by s l c s.owed few stands told refl) stands.told

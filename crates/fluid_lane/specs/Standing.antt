@@ -12,7 +12,8 @@ use Rattle.fluid_clients.specs.Table.{Rows}
 use Rattle.fluid_log.specs.Keeping.{Content, Keeping}
 use Rattle.fluid_log.specs.declared.keeper.TheConstants.{LONGEST_KEPT}
 use Rattle.fluid_deltas.specs.Pushed.{Pushed, StandFor}
-use Rattle.fluid_document.specs.Entries.{Entries, most, entries_of}
+use Rattle.fluid_types.specs.Forms.{largest}
+use Rattle.fluid_document.specs.Entries.{Entries, entries_of}
 use Rattle.fluid_document.specs.Kept.{IsKept}
 use Rattle.fluid_rules.specs.declared.limits.Limits.{Limits}
 use Rattle.fluid_lane.specs.declared.steps.Side.{Side}
@@ -50,7 +51,7 @@ IsLeaveOrSubmission other = ⊥
 
 -- what holds of every lane, whether its keeper tells its content or not
 pub record IsSafe (s : Standing) : Type 0 where
-  pub few : s.entries.entered + s.sides ≤ most
+  pub few : s.entries.entered + s.sides ≤ largest
   pub logged : s.entries.entered ≤ s.keeping.records
   pub level : s.owed ≡ false → s.keeping.records ≡ s.entries.entered
   pub reached : s.messages.before ≤ s.keeping.deltas
@@ -83,7 +84,7 @@ IsLeftFor true l content = IsKept false l content ⊎ ((raw : Raw) × IsKept fal
 
 -- as many entries and side steps as there can be
 abbrev pub is_worn : Standing → Bool
-is_worn s = nat_le most (s.entries.entered + s.sides)
+is_worn s = nat_le largest (s.entries.entered + s.sides)
 
 -- ---- what every call leaves
 

@@ -15,7 +15,8 @@ use Rattle.fluid_core.specs.Entering.{State, verdict_in, after, state_of}
 use Rattle.fluid_document.specs.declared.fault.EnterFault.{EnterFault}
 use Rattle.fluid_document.specs.declared.fault.EnterFault.TheVariants as entering
 use Rattle.fluid_document.specs.declared.fault.LoadFault.TheVariants as loading
-use Rattle.fluid_document.specs.Entries.{Entries, InMemory, most, taken_up}
+use Rattle.fluid_types.specs.Forms.{largest}
+use Rattle.fluid_document.specs.Entries.{Entries, InMemory, taken_up}
 use Rattle.fluid_document.specs.Entry.{EntersBy}
 use Rattle.fluid_document.specs.Loading.{loaded, newest, ReadsBehind}
 use Rattle.fluid_document.specs.Puts.{PutsFirst, PutsEarly, PutsFew}
@@ -58,7 +59,7 @@ pub record IsFirst (moment : ℕ) (before : InMemory) (id : List ℕ) : Type 0 w
   pub rest : List (List ℕ)
   pub first : keys before.entries.state.sequencer.rows ≡ id ∷ rest
   pub fits : Fits (Leave id moment)
-  pub few : before.entries.entered < most
+  pub few : before.entries.entered < largest
 
 -- the leave of the first client was given to the log, with this answer
 pub record LeavesFirst (moment : ℕ) (old new : Keeping) (before now : InMemory) (result : Result (Unit {0}) EnterFault) : Type 0 where
@@ -76,7 +77,7 @@ LeaveDoes moment old new before now (Ok done) = LeavesFirst moment old new befor
 LeaveDoes moment old new before now (Err (LogFailed note)) = LeavesFirst moment old new before now (Err (entering.LogFailed note))
 LeaveDoes moment old new before now (Err (DeltaFailed note)) = LeavesFirst moment old new before now (Err (entering.DeltaFailed note)) × (RESIDENT ≤ before.entries.entered)
 LeaveDoes moment old new before now (Err NoMemory) = Waits old new before now ⊎ LeavesFirst moment old new before now (Err entering.NoMemory)
-LeaveDoes moment old new before now (Err Worn) = Waits old new before now × (most ≤ before.entries.entered)
+LeaveDoes moment old new before now (Err Worn) = Waits old new before now × (largest ≤ before.entries.entered)
 LeaveDoes moment old new before now (Err other) = ⊥
 
 -- some of the joined clients have left, the first ones
@@ -85,7 +86,7 @@ pub record HasLeft (moment : ℕ) (old new : Keeping) (before now : InMemory) : 
   pub splits : run before.entries.state (leaves moment before.entries.state) ≡ done ++ run now.entries.state (leaves moment now.entries.state)
   pub folds : takes before.entries (leaves moment before.entries.state) ≡ takes now.entries (leaves moment now.entries.state)
   pub entered : now.entries.entered ≡ before.entries.entered + length done
-  pub few : before.entries.entered ≤ most → now.entries.entered ≤ most
+  pub few : before.entries.entered ≤ largest → now.entries.entered ≤ largest
   pub count : len now.entries.state.sequencer.rows + length done ≡ len before.entries.state.sequencer.rows
   pub grew : Grew (records done) old new
   pub later : old.faults ≤ new.faults
@@ -113,7 +114,7 @@ LeavesAll moment old new before now (Ok done) = HasLeft moment old new before no
 LeavesAll moment old new before now (Err (LogFailed note)) = HasStopped moment old new before now (entering.LogFailed note)
 LeavesAll moment old new before now (Err (DeltaFailed note)) = HasStopped moment old new before now (entering.DeltaFailed note) × (RESIDENT ≤ now.entries.entered)
 LeavesAll moment old new before now (Err NoMemory) = HasSomeLeft moment old new before now ⊎ HasStopped moment old new before now entering.NoMemory
-LeavesAll moment old new before now (Err Worn) = HasSomeLeft moment old new before now × (most ≤ now.entries.entered)
+LeavesAll moment old new before now (Err Worn) = HasSomeLeft moment old new before now × (largest ≤ now.entries.entered)
 LeavesAll moment old new before now (Err other) = ⊥
 
 -- ---- the start
@@ -164,7 +165,7 @@ pub record LeftSome (moment : ℕ) (l : Ledger) (content : Content) : Type 0 whe
 pub record HasNoRoom (from : Option ℕ) (content : Content) : Type 0 where
   pub entries : Entries
   pub is : loaded content from ≡ Ok entries
-  pub full : most < entries.entered + len entries.state.sequencer.rows
+  pub full : largest < entries.entered + len entries.state.sequencer.rows
 
 -- which fault a start has: a bad record or checkpoint is the one that is read, and it is worn where the numbers don't suffice for
 -- the records or for the leaves
@@ -185,7 +186,7 @@ IsFaultOfStart records (DeltaFailed note) = RESIDENT ≤ records
 IsFaultOfStart records NoMemory = ⊤
 IsFaultOfStart records (BadRecord place) = ⊤
 IsFaultOfStart records (BadCheckpoint number fault) = ⊤
-IsFaultOfStart records Worn = most ≤ records
+IsFaultOfStart records Worn = largest ≤ records
 IsFaultOfStart records other = ⊥
 
 -- these are the first leaves of those joined in what was read; all of them only where the log failed

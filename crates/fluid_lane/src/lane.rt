@@ -14,7 +14,8 @@ ghost use Rattle.fluid_core.specs.Entering.{verdict_in, job_of, IsUpTo};
 ghost use Rattle.fluid_deltas.specs.Pushed.{StandFor, slice};
 ghost use Rattle.fluid_deltas.specs.Ranges.{IsAnswer, IsHeldAnswer, IsSlice, AreHeld, Reads, held_between, range_of};
 ghost use Rattle.fluid_deltas.specs.Flushes.{PutsAll, AreAll};
-ghost use Rattle.fluid_document.specs.Entries.{most, taken_up};
+ghost use Rattle.fluid_types.specs.Forms.{largest};
+ghost use Rattle.fluid_document.specs.Entries.{taken_up};
 ghost use Rattle.fluid_document.specs.Kept.{IsKept, IsPrinted};
 ghost use Rattle.fluid_document.specs.Loading.{loaded, ReadsBehind, PutsDeltas};
 ghost use Rattle.fluid_document.specs.Puts.{PutsFirst, PutsFew};
@@ -35,11 +36,11 @@ use crate::steps::Side;
 use fluid_clients::Clients;
 use fluid_deltas::DeltaFault;
 use fluid_document::{
-    Document, EnterFault, FlushFault, LoadFault, MOST, bad_field, enter, kept_is_loaded, load,
+    Document, EnterFault, FlushFault, LoadFault, bad_field, enter, kept_is_loaded, load,
     note_of,
 };
 use fluid_io::FaultNote;
-use fluid_json::{Json, NoMemory};
+use fluid_json::{Json, LARGEST, NoMemory};
 use fluid_log::{Keeper, KeeperFault};
 use fluid_rules::{Limits, is_counted};
 use fluid_scribe::{Job, SummaryRef};
@@ -96,7 +97,7 @@ impl<K: Keeper> Lane<K> {
     pub fn seq(&self) -> u64
         ensures is { result ≡ self.now.entries.state.sequencer.sequence }
         ensures few { result ≤ self.now.entries.entered }
-        ensures bound { result ≤ most }
+        ensures bound { result ≤ largest }
     {
         // (read for its clause alone)
         let _entered = self.document.entered();
@@ -113,7 +114,7 @@ impl<K: Keeper> Lane<K> {
     /// How many raw entries are entered. Takes no memory.
     pub fn entered(&self) -> u64
         ensures is { result ≡ self.now.entries.entered }
-        ensures few { result ≤ most }
+        ensures few { result ≤ largest }
         ensures named { AreNamed self.now.entries.entered self.now.entries.state.sequencer.rows }
         ensures own { get self.now.entries.state.sequencer.rows (entry_name self.now.entries.entered) ≡ None }
     {
@@ -123,7 +124,7 @@ impl<K: Keeper> Lane<K> {
     /// How many entries are entered and side steps were taken, together. Takes no memory.
     pub fn number(&self) -> u64
         ensures is { result ≡ self.now.entries.entered + self.now.sides }
-        ensures few { result ≤ most }
+        ensures few { result ≤ largest }
     {
         self.document.entered() + self.sides
     }
@@ -131,7 +132,7 @@ impl<K: Keeper> Lane<K> {
     /// How many side steps were taken. Takes no memory.
     pub fn sides(&self) -> u64
         ensures is { result ≡ self.now.sides }
-        ensures few { result ≤ most }
+        ensures few { result ≤ largest }
     {
         self.sides
     }
@@ -183,7 +184,7 @@ impl<K: Keeper> Lane<K> {
     pub fn job(&mut self, alloc: Global) -> Result<Option<Job>, NoMemory>
         ensures same { self.new ≡ self.old }
         ensures job { IfOk result (λ given. given ≡ job_of self.old.entries.state) }
-        ensures number { IfOk result (λ given. IfSome given (λ job. IsUpTo most job.summary)) }
+        ensures number { IfOk result (λ given. IfSome given (λ job. IsUpTo largest job.summary)) }
         ensures reference { IfOk result (λ given. IfSome given (λ job. job.reference ≤ job.summary)) }
     {
         self.document.job(alloc)
@@ -302,7 +303,7 @@ impl<K: Keeper> Lane<K> {
         moment: u64,
         silence: u64,
     ) -> Result<Option<(Raw, Message)>, LaneFault>
-        requires moment { moment ≤ most }
+        requires moment { moment ≤ largest }
         ensures goes { Goes self.old self.new (steps_of swept_by result) }
         ensures sweeps { SweepsBy moment (first_silent moment silence self.old.entries.state.sequencer.rows) self.old self.new result }
     {
@@ -435,7 +436,7 @@ impl<K: Keeper> Lane<K> {
     fn is_worn(&self) -> bool
         ensures { result ≡ is_worn self.now }
     {
-        self.document.entered() + self.sides >= MOST
+        self.document.entered() + self.sides >= LARGEST
     }
 
     // Counts a failed call of the keeper, and keeps its note.

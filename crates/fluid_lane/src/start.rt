@@ -3,15 +3,16 @@ ghost use Rattle.std.specs.Prelude.{◌≡◌, ℕ, ◌<◌, ◌≤◌, slice_ge
 ghost use Rattle.std.specs.FinMap.{keys, len};
 ghost use Rattle.fluid_types.specs.Names.{IsName};
 ghost use Rattle.fluid_log.specs.declared.keeper.TheConstants.{LONGEST_KEPT};
-ghost use Rattle.fluid_document.specs.Entries.{most, IsLevelled};
+ghost use Rattle.fluid_types.specs.Forms.{largest};
+ghost use Rattle.fluid_document.specs.Entries.{IsLevelled};
 ghost use Rattle.fluid_document.specs.Loading.{newest};
 ghost use Rattle.fluid_lane.specs.Faults.{IsCausedBy};
 ghost use Rattle.fluid_lane.specs.Starting.{LeaveDoes, LeavesAll, Starts, StartsPartly};
 
 use crate::LaneFault;
 use crate::lane::Lane;
-use fluid_document::{Document, MOST, kept_is_loaded, load, take_in};
-use fluid_json::NoMemory;
+use fluid_document::{Document, kept_is_loaded, load, take_in};
+use fluid_json::{LARGEST, NoMemory};
 use fluid_log::Keeper;
 use fluid_rules::Limits;
 use fluid_types::{ClientId, Raw};
@@ -28,7 +29,7 @@ impl<K: Keeper> Lane<K> {
         moment: u64,
     ) -> Result<Lane<K>, (K, LaneFault)>
         requires small { limits.bytes ≤ LONGEST_KEPT }
-        requires moment { moment ≤ most }
+        requires moment { moment ≤ largest }
         ensures ok { IfOk result (Starts (K.seen keeper) limits moment) }
         ensures err { IfErr result (λ back. StartsPartly (K.seen keeper) (K.seen back.0) moment back.1) }
     {
@@ -63,7 +64,7 @@ fn dismiss_all<K: Keeper>(
     document: &mut Document,
     moment: u64,
 ) -> Result<(), LaneFault>
-    requires moment { moment ≤ most }
+    requires moment { moment ≤ largest }
     requires reached { document.old.messages.before ≤ (K.seen keeper.old).deltas }
     ensures later { (K.seen keeper.old).faults ≤ (K.seen keeper.new).faults }
     ensures cause { IfErr result (IsCausedBy (K.seen keeper.old).faults (K.seen keeper.new).faults) }
@@ -71,7 +72,7 @@ fn dismiss_all<K: Keeper>(
     ensures does { LeavesAll moment (K.seen keeper.old) (K.seen keeper.new) document.old document.new result }
 {
     let entered = document.entered();
-    prove!(entered <= MOST);
+    prove!(entered <= LARGEST);
     let count = document.clients().count();
     for _ in 0..count {
         match dismiss_first(alloc, keeper, document, moment) {
@@ -89,7 +90,7 @@ fn dismiss_first<K: Keeper>(
     document: &mut Document,
     moment: u64,
 ) -> Result<(), LaneFault>
-    requires moment { moment ≤ most }
+    requires moment { moment ≤ largest }
     requires some { 0 < len document.old.entries.state.sequencer.rows }
     requires reached { document.old.messages.before ≤ (K.seen keeper.old).deltas }
     ensures later { (K.seen keeper.old).faults ≤ (K.seen keeper.new).faults }
@@ -97,7 +98,7 @@ fn dismiss_first<K: Keeper>(
     ensures reads { (K.seen keeper.new).reads ≡ (K.seen keeper.old).reads }
     ensures does { LeaveDoes moment (K.seen keeper.old) (K.seen keeper.new) document.old document.new result }
 {
-    if document.entered() >= MOST {
+    if document.entered() >= LARGEST {
         return Err(LaneFault::Worn);
     }
     let id = joined_id(alloc, document, 0)?;

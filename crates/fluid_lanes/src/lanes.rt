@@ -3,7 +3,7 @@ ghost use Rattle.std.specs.Prelude.{◌≡◌, ◌≤◌, is_some, IsSome, IfOk,
 ghost use Rattle.std.specs.FinMap.{get, keys, len};
 ghost use Rattle.fluid_log.specs.declared.keeper.TheConstants.{LONGEST_KEPT};
 ghost use Rattle.fluid_log.specs.Shelving.{AreWhole};
-ghost use Rattle.fluid_document.specs.Entries.{most};
+ghost use Rattle.fluid_types.specs.Forms.{largest};
 ghost use Rattle.fluid_opening.specs.Opening.{IsRisen};
 ghost use Rattle.fluid_lanes.specs.Opened.{nothing_open, with_lane};
 ghost use Rattle.fluid_lanes.specs.Using.{Uses, Ends, Reopens, Finds, LentBy, LeftBy, StandsAgain, StandsAgainPerhapsWith};
@@ -104,7 +104,7 @@ where
     /// Opens a document that isn't open yet: its keeper is taken from its shelf, and its lane is started at this moment, in
     /// milliseconds. After a fault the document is closed, and its keeper on its shelf.
     pub fn open(&mut self, alloc: Global, name: &DocName, moment: u64) -> Result<(), DoorFault>
-        requires moment { moment ≤ most }
+        requires moment { moment ≤ largest }
         ensures does { Uses name.now moment self.old self.new result }
         ensures later { self.old.shelving.faults ≤ self.new.shelving.faults }
     {
@@ -143,7 +143,7 @@ where
         name: &DocName,
         moment: u64,
     ) -> Result<&mut Lane<B::K>, DoorFault>
-        requires moment { moment ≤ most }
+        requires moment { moment ≤ largest }
         ensures* lends { sem 𝓛 (LendsSoOk (the_row B.row B.K.row B.Shelves B.K.Keeper) (lane.the_row B.K.row B.K.Keeper) self.entry result (LentBy name.now moment self.old) (LeftBy name.now moment self.old result)) }
         ensures value { IfOk result (λ lane. Finds name.now moment self.old lane.now) }
     {
@@ -154,7 +154,7 @@ where
     /// Closes a document and opens it as a new process does. After a fault it is closed, its keeper on its shelf, and the next use
     /// opens it.
     pub fn reopen(&mut self, alloc: Global, name: &DocName, moment: u64) -> Result<(), DoorFault>
-        requires moment { moment ≤ most }
+        requires moment { moment ≤ largest }
         ensures does { Reopens name.now moment self.old self.new result }
         ensures later { self.old.shelving.faults ≤ self.new.shelving.faults }
         ensures cause { IfErr result (IsRisen self.old.shelving.faults self.new.shelving.faults) }

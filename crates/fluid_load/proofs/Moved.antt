@@ -3,7 +3,6 @@ use Rattle.std.proofs.Common.{◌≡◌, ◌⊎◌, inl, inr, ℕ, ◌≤◌, �
 use Rattle.std.specs.Prelude.{if◌then◌else◌, is_some}
 use Rattle.fluid_types.specs.Forms.{largest}
 use Rattle.fluid_rules.specs.declared.limits.Limits.{Limits}
-use Rattle.fluid_document.specs.Entries.{most}
 use Rattle.fluid_loader.specs.declared.link.Pick.TheVariants.{Empty}
 use Rattle.fluid_steps.specs.declared.steps.Step.{Step}
 use Rattle.fluid_steps.specs.declared.steps.Step.TheVariants.{Load}
@@ -120,7 +119,7 @@ module _ (step : Step) (old new : AtWork) where
 abbrev pub Figured : Figures → AtWork → Type 0
 Figured f s = (w : World) → DeskStands s.lanes w → is_open w work ≡ true → AreFigures f (document w work)
 
-pub submitting_works : (step : Step) (old mid : AtWork) (f g : Figures) → IsOwnStep step → Submits step → ActsOn 1 old mid (Ok tt) → Passing step old mid (Ok tt) → Figured f old → Figured g mid → g.entries ≤ most
+pub submitting_works : (step : Step) (old mid : AtWork) (f g : Figures) → IsOwnStep step → Submits step → ActsOn 1 old mid (Ok tt) → Passing step old mid (Ok tt) → Figured f old → Figured g mid → g.entries ≤ largest
     → Works 1 (step_done step) old (record mid { tally = with_nacked f g mid.tally }) (Ok tt)
 submitting_works step old mid f g own submits on passes before after few = record {
   on = record { limits = on.limits; good = on.good; counts = on.counts; runs = on.runs; numbers = on.numbers };
@@ -139,7 +138,7 @@ submitting_works step old mid f g own submits on passes before after few = recor
 
 -- the same between calls that leave it as it is
 pub submitted_so : (step : Step) (old zero mid one new : AtWork) (f g : Figures) → zero ≡ old → one ≡ mid → new ≡ record one { tally = with_nacked f g one.tally } → IsOwnStep step → Submits step → ActsOn 1 zero mid (Ok tt) → Passing step zero mid (Ok tt)
-    → Figured f old → Figured g mid → g.entries ≤ most → Works 1 (step_done step) old new (Ok tt)
+    → Figured f old → Figured g mid → g.entries ≤ largest → Works 1 (step_done step) old new (Ok tt)
 submitted_so step old zero mid one new f g zero_is one_is new_is own submits on passes before after few =
     subst (λ s. Works 1 (step_done step) old s (Ok tt)) (sym new_is)
     (subst (λ (s : AtWork). Works 1 (step_done step) old (record s { tally = with_nacked f g s.tally }) (Ok tt)) (sym one_is)

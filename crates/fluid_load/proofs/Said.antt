@@ -12,7 +12,7 @@ use Rattle.fluid_types.specs.declared.entries.Submission.{Submission}
 use Rattle.fluid_types.specs.declared.verdicts.Verdict.{Verdict}
 use Rattle.fluid_rules.specs.Rules.{verdict, ledger}
 use Rattle.fluid_rules.specs.declared.limits.Limits.{Limits}
-use Rattle.fluid_document.specs.Entries.{most}
+use Rattle.fluid_types.specs.Forms.{largest}
 use Rattle.fluid_log.specs.Keeping.{Keeping}
 use Rattle.fluid_log.specs.Shelving.{keeper_under}
 use Rattle.fluid_lane.specs.Standing.{Standing}
@@ -182,12 +182,12 @@ enters_says document writer saying s a b d r same gives enters = by (subst (λ c
 
 -- ---- an entry
 
-few_entries : (limits : Limits) (lane : Option Standing) (k : Keeping) (x : Bool) (d : Document) → x ≡ true → IsDocument limits lane k x d → length (ledger_of d) ≤ most
+few_entries : (limits : Limits) (lane : Option Standing) (k : Keeping) (x : Bool) (d : Document) → x ≡ true → IsDocument limits lane k x d → length (ledger_of d) ≤ largest
 few_entries limits None k true d opened is = absurd is
 few_entries limits (Some lane) k true d opened of = omega (arith, (is_told limits lane d of).stands.kept.few, ap length of.entries)
 few_entries limits lane k false d opened is = absurd (cc)
 
-few_now : (o : Opened) (w : World) → DeskStands o w → is_open w work ≡ true → length (ledger_in w work) ≤ most
+few_now : (o : Opened) (w : World) → DeskStands o w → is_open w work ≡ true → length (ledger_in w work) ≤ largest
 few_now o w desk opened = few_entries o.limits (get o.lanes work) (keeper_under desk.held work) (is_open w work) (document w work) opened (desk.documents work)
 
 module _ (limits : Limits) (w : World) (client : ℕ) (raw : Raw) where

@@ -6,7 +6,7 @@ use Rattle.std.proofs.lemmas.List.Sums.{sum_by-append}
 use Rattle.fluid_types.specs.Ledger.{Ledger, seq}
 use Rattle.fluid_types.specs.declared.verdicts.Verdict.{Verdict}
 use Rattle.fluid_rules.specs.declared.limits.Limits.{Limits}
-use Rattle.fluid_document.specs.Entries.{most}
+use Rattle.fluid_types.specs.Forms.{largest}
 use Rattle.fluid_steps.specs.declared.steps.Step.{Step}
 use Rattle.fluid_transcript.specs.World.{Document, document, ledger_of}
 use Rattle.fluid_transcript.proofs.Fitting.{length_ledger}
@@ -48,7 +48,7 @@ least n h =
     let low : n ≤ min n (2 ^ 64 - 1) = omega (arith, h) in
     omega (arith, low, min-le_left n (2 ^ 64 - 1))
 
-submitted_tally : EntriesAreCounted → (old new : Ledger) (t : Tally) (before after : ℕ) → GoesSubmitting old new → IsTally old t → before ≡ length old - seq old → after ≡ length new - seq new → after ≤ most
+submitted_tally : EntriesAreCounted → (old new : Ledger) (t : Tally) (before after : ℕ) → GoesSubmitting old new → IsTally old t → before ≡ length old - seq old → after ≡ length new - seq new → after ≤ largest
     → IsTally new (record t { nacked = min (t.nacked + (after - before)) (2 ^ 64 - 1) })
 submitted_tally counted old new t before after goes is was now few =
     let a = counted old in
@@ -67,7 +67,7 @@ unsequenced_is d f are = omega (arith, are.entries, are.sequence, length_ledger 
 
 -- behind a step by which a container submits
 pub submitted_works : EntriesAreCounted → (limits : Limits) (step : Step) (w : Workload) (old mid : AtWork) (f g : Figures) → Submits step → WorkStands old w → HasPassed (stepped limits w step) old mid
-    → AreFigures f (document w.world work) → AreFigures g (document (behind_step limits w.world step) work) → g.entries ≤ most
+    → AreFigures f (document w.world work) → AreFigures g (document (behind_step limits w.world step) work) → g.entries ≤ largest
     → WorkStands (record mid { tally = with_nacked f g mid.tally }) (stepped limits w step)
 submitted_works counted limits step w old mid f g submits is passed was now few =
     let before = document w.world work in

@@ -3,7 +3,7 @@ use Rattle.std.specs.Prelude.{◌≡◌, ◌≤◌, ◌+◌, ◌*◌, ℕ, List,
 use Rattle.fluid_io.specs.Streams.{Writing, Appends, AppendsFront}
 use Rattle.fluid_log.specs.Shelving.{Shelving}
 use Rattle.fluid_store.specs.Storing.{Storing}
-use Rattle.fluid_document.specs.Entries.{most}
+use Rattle.fluid_types.specs.Forms.{largest}
 use Rattle.fluid_lane.specs.declared.fault.LaneFault.TheVariants.{Worn}
 use Rattle.fluid_rules.specs.declared.limits.Limits.{Limits}
 use Rattle.fluid_transcript.specs.World.{World, document}
@@ -40,7 +40,7 @@ most_added clients ops = 30 * (1 + clients + ops)
 
 -- a document of a desk's world has so many entries before a workload that these would bring it to the end of all numbers
 abbrev pub IsNearlyFull : World → (clients ops : ℕ) → Type 0
-IsNearlyFull w clients ops = (name : List ℕ) × (most ≤ length (document w name).raws + most_added clients ops)
+IsNearlyFull w clients ops = (name : List ℕ) × (largest ≤ length (document w name).raws + most_added clients ops)
 
 -- nothing is written before the summary, and of that a beginning where the sink failed
 abbrev pub WritesSummary : Limits → World → (number clients ops : ℕ) → (before now : Outside) → ScriptEnd → Type 0

@@ -3,7 +3,7 @@ ghost use Rattle.std.specs.Prelude.{◌≡◌, ◌≤◌, ◌+◌, ◌-◌, ℕ,
 ghost use Rattle.std.specs.FinMap.{empty, get, insert};
 ghost use Rattle.fluid_log.specs.declared.keeper.TheConstants.{LONGEST_KEPT};
 ghost use Rattle.fluid_log.specs.Shelving.{AreWhole};
-ghost use Rattle.fluid_document.specs.Entries.{most};
+ghost use Rattle.fluid_types.specs.Forms.{largest};
 ghost use Rattle.fluid_lanes.specs.Opened.{nothing_open};
 ghost use Rattle.fluid_types.specs.Fits.{Fits};
 ghost use Rattle.fluid_world.specs.Naming.{IsShortStep};
@@ -155,7 +155,7 @@ where
     pub(crate) fn figures(&mut self, document: &DocName) -> Figures
         ensures same { self.new ≡ self.old }
         ensures are { (w : World) → DeskStands self.old.lanes w → document.now ≡ the_work → is_open w the_work ≡ true → AreFigures result (the_document w the_work) }
-        ensures few { result.entries ≤ most }
+        ensures few { result.entries ≤ largest }
     {
         figures_of(&mut self.lanes, document)
     }

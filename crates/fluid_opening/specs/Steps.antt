@@ -4,7 +4,7 @@ use Rattle.std.specs.List.{list_any}
 use Rattle.std.specs.Option.{option_or}
 use Rattle.fluid_io.specs.Causes.{Rose}
 use Rattle.fluid_json.specs.Unless.{IsUnless}
-use Rattle.fluid_document.specs.Entries.{most}
+use Rattle.fluid_types.specs.Forms.{largest}
 use Rattle.fluid_lane.specs.declared.fault.LaneFault.{LaneFault}
 use Rattle.fluid_lane.specs.declared.fault.LaneFault.TheVariants as lane
 use Rattle.fluid_opening.specs.declared.opening.TheConstants.{MOST_DOCUMENTS}
@@ -48,7 +48,7 @@ HasFault (Failed name fault) = ⊤
 
 -- there are as many steps as there can be
 abbrev pub is_worn : List ShelfStep → Bool
-is_worn l = nat_le most (length l)
+is_worn l = nat_le largest (length l)
 
 -- as many documents are open as may be
 abbrev pub is_full : List ShelfStep → Bool

@@ -2,7 +2,7 @@
 ghost use Rattle.std.specs.Prelude.{◌≡◌, ◌≤◌, IfOk, IfErr, OnErr};
 ghost use Rattle.fluid_log.specs.declared.keeper.TheConstants.{LONGEST_KEPT};
 ghost use Rattle.fluid_log.specs.Shelving.{IsIn, IsOut};
-ghost use Rattle.fluid_document.specs.Entries.{most};
+ghost use Rattle.fluid_types.specs.Forms.{largest};
 ghost use Rattle.fluid_opening.specs.Opening.{StartDoes, OpenDoes, OpensOver, IsRisen};
 
 use crate::DoorFault;
@@ -27,7 +27,7 @@ pub fn start_lane<B: Shelves>(
 ) -> Result<Lane<B::K>, DoorFault>
     requires closed { IsIn (B.seen shelves.old) name.now }
     requires small { limits.bytes ≤ LONGEST_KEPT }
-    requires moment { moment ≤ most }
+    requires moment { moment ≤ largest }
     ensures does { OpenDoes limits name.now moment (B.seen shelves.old) (B.seen shelves.new) result }
     ensures given { IfOk result (λ lane. (keeper : B.K) × OpensOver limits name.now moment (B.seen shelves.old) (B.seen shelves.new) (B.K.seen keeper) lane) }
     ensures back { OnErr result ((B.seen shelves.new).out ≡ (B.seen shelves.old).out) }
@@ -55,7 +55,7 @@ fn start_over<B: Shelves>(
     moment: u64,
 ) -> Result<Lane<B::K>, DoorFault>
     requires small { limits.bytes ≤ LONGEST_KEPT }
-    requires moment { moment ≤ most }
+    requires moment { moment ≤ largest }
     requires out { IsOut (B.seen shelves.old) name.now }
     ensures later { (B.seen shelves.old).faults ≤ (B.seen shelves.new).faults }
     ensures does { StartDoes limits name.now moment (B.K.seen keeper) (B.seen shelves.old) (B.seen shelves.new) result }

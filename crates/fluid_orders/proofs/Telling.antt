@@ -18,7 +18,6 @@ use Rattle.fluid_rules.proofs.Verdicts.{verdict-is_message}
 use Rattle.fluid_scribe.proofs.Sequenced.{sequenced-numbered, legal-sequenced}
 use Rattle.fluid_readback.specs.Quorums.{IsReadAsItself}
 use Rattle.fluid_readback.proofs.Messages.{sequenced_are_read_back}
-use Rattle.fluid_document.specs.Entries.{most}
 use Rattle.fluid_document.specs.Kept.{IsLoggable}
 use Rattle.fluid_orders.specs.Laws.{OrdersAreTold}
 use Rattle.fluid_orders.proofs.Referring.{refers_back}
@@ -51,7 +50,7 @@ module _ (reads : TextsAreRead) (prints : TextsArePrinted) (writes : TextsAreWri
       }
 
   abbrev AreTold : Ledger → Type 0
-  AreTold l = length l ≤ most → All IsLoggable l → All IsTold (order l)
+  AreTold l = length l ≤ largest → All IsLoggable l → All IsTold (order l)
 
   all_told : (l : Ledger) → IsLegal l → AreTold l
   all_told =

@@ -1,6 +1,6 @@
 //! A roamer sends what waits.
 ghost use Rattle.std.specs.Prelude.{◌≡◌, ◌≤◌, IfOk, List, false};
-ghost use Rattle.fluid_document.specs.Entries.{most};
+ghost use Rattle.fluid_types.specs.Forms.{largest};
 ghost use Rattle.fluid_edits.specs.declared.edit.Edit.{Edit as AnEdit};
 ghost use Rattle.fluid_rules.specs.declared.limits.Limits.{Limits as ALimits};
 ghost use Rattle.fluid_transcript.specs.World.{World, Document, Roamer as ARoamerOf, ledger_of};
@@ -43,7 +43,7 @@ pub(crate) fn send<K: Keeper, O: Objects>(
     roamer: &mut Roamer,
     moment: u64,
 ) -> Result<Sent, Stop>
-    requires moment { moment ≤ most }
+    requires moment { moment ≤ largest }
     requires kept { IsSendable roamer.old.outbox }
     ensures does { (limits : ALimits) (w : World) (d : Document) (k : ARoamerOf) (rest : List AnEdit) → IsLaneOf limits lane.old d → w.moment ≡ moment → Stands (ledger_of d) k.client →
         k.is_lost ≡ false → IsRoaming (ledger_of d) roamer.old k rest → SendsOne limits w d k rest lane.new roamer.new result }
@@ -85,7 +85,7 @@ pub(crate) fn send_all<K: Keeper, O: Objects>(
     roamer: &mut Roamer,
     moment: u64,
 ) -> Result<Option<NackRule>, Stop>
-    requires moment { moment ≤ most }
+    requires moment { moment ≤ largest }
     requires kept { IsSendable roamer.old.outbox }
     ensures does { (limits : ALimits) (w : World) (d : Document) (k : ARoamerOf) (rest : List AnEdit) → IsLaneOf limits lane.old d → w.moment ≡ moment → Stands (ledger_of d) k.client →
         k.is_lost ≡ false → IsRoaming (ledger_of d) roamer.old k rest → SendsAll limits w d k rest lane.new roamer.new result }

@@ -1,7 +1,7 @@
 //! The steps of a roamer.
 ghost use Rattle.std.specs.Prelude.{◌≡◌, ◌≤◌, ◌+◌, ◌∷◌, [], ℕ, length, Some, None, Ok, IfOk, OnOk, true, false};
 ghost use Rattle.std.specs.FinMap.{get};
-ghost use Rattle.fluid_document.specs.Entries.{most};
+ghost use Rattle.fluid_types.specs.Forms.{largest};
 ghost use Rattle.fluid_edits.specs.declared.edit.Edit.{Edit as AnEdit};
 ghost use Rattle.fluid_edits.specs.Forms.{contents_of};
 ghost use Rattle.fluid_edits.specs.Replay.{replay_edits};
@@ -62,7 +62,7 @@ pub fn roam<B: Shelves, O: Objects>(
 ) -> Result<(Text, Option<Roamer>), Stop>
 where
     B::K: Drop,
-    requires moment { moment ≤ most }
+    requires moment { moment ≤ largest }
     ensures does { (w : World) → DeskStands lanes.old w → IsSound w → w.moment ≡ moment → get w.names name.now ≡ None →
         RoamDoes (done lanes.old.limits w (step.Roam name.now document.now)) name.now lanes.new result }
     ensures store { objects.new ≡ objects.old }
@@ -92,7 +92,7 @@ fn roam_lane<K: Keeper, O: Objects>(
     document: &DocName,
     moment: u64,
 ) -> Result<(Text, Option<Roamer>), Stop>
-    requires moment { moment ≤ most }
+    requires moment { moment ≤ largest }
     ensures does { (limits : ALimits) (w : World) (d : ADocument) → IsLaneOf limits lane.old d → w.moment ≡ moment →
         LaneRoams limits (steps.roamed limits w d name.now document.now) d name.now document.now lane.new result }
     ensures store { objects.new ≡ objects.old }
@@ -157,7 +157,7 @@ pub fn say<B: Shelves, O: Objects>(
 ) -> Result<Text, Stop>
 where
     B::K: Drop,
-    requires moment { moment ≤ most }
+    requires moment { moment ≤ largest }
     requires short { IsShort edit }
     requires kept { IsSendable roamer.old.outbox }
     ensures does { (w : World) (k : ARoamerOf) → DeskStands lanes.old w → IsSound w → w.moment ≡ moment → get w.names name.now ≡ Some (a_roamer k) → IsRoamerOf w roamer.old k →
@@ -192,7 +192,7 @@ fn say_lane<K: Keeper, O: Objects>(
     edit: Edit,
     moment: u64,
 ) -> Result<Text, Stop>
-    requires moment { moment ≤ most }
+    requires moment { moment ≤ largest }
     requires short { IsShort edit }
     requires kept { IsSendable roamer.old.outbox }
     ensures does { (limits : ALimits) (w : World) (d : ADocument) (k : ARoamerOf) → IsLaneOf limits lane.old d → w.moment ≡ moment → Stands (ledger_of d) k.client →
@@ -230,7 +230,7 @@ fn send_said<K: Keeper, O: Objects>(
     number: u64,
     moment: u64,
 ) -> Result<Text, Stop>
-    requires moment { moment ≤ most }
+    requires moment { moment ≤ largest }
     requires kept { IsSendable roamer.old.outbox }
     ensures does { (limits : ALimits) (w : World) (d : ADocument) (k : ARoamerOf) (edit : AnEdit) → IsLaneOf limits lane.old d → w.moment ≡ moment → Stands (ledger_of d) k.client →
         IsRoaming (ledger_of d) roamer.old (steps.with_edit k edit) (edit ∷ []) → number ≡ steps.edits k →
@@ -262,7 +262,7 @@ pub fn lose<B: Shelves>(
 ) -> Result<Text, Stop>
 where
     B::K: Drop,
-    requires moment { moment ≤ most }
+    requires moment { moment ≤ largest }
     ensures does { (w : World) (k : ARoamerOf) → DeskStands lanes.old w → IsSound w → w.moment ≡ moment → get w.names name.now ≡ Some (a_roamer k) → IsRoamerOf w roamer.old k →
         StepDoes (done lanes.old.limits w (step.Lose name.now)) name.now lanes.new roamer.new result }
     ensures runs { (first steps : ℕ) → HasRun first steps lanes.old → RunsReading first (steps + 1) lanes.new result }
@@ -299,7 +299,7 @@ pub fn back<B: Shelves, O: Objects>(
 ) -> Result<Text, Stop>
 where
     B::K: Drop,
-    requires moment { moment ≤ most }
+    requires moment { moment ≤ largest }
     requires kept { IsSendable roamer.old.outbox }
     ensures does { (w : World) (k : ARoamerOf) → DeskStands lanes.old w → IsSound w → w.moment ≡ moment → get w.names name.now ≡ Some (a_roamer k) → k.is_lost ≡ true → IsRoamerOf w roamer.old k →
         StepDoes (done lanes.old.limits w (step.Back name.now)) name.now lanes.new roamer.new result }
@@ -324,7 +324,7 @@ fn back_lane<K: Keeper, O: Objects>(
     name: &ScriptName,
     moment: u64,
 ) -> Result<Text, Stop>
-    requires moment { moment ≤ most }
+    requires moment { moment ≤ largest }
     requires kept { IsSendable roamer.old.outbox }
     ensures does { (limits : ALimits) (w : World) (d : ADocument) (k : ARoamerOf) → IsLaneOf limits lane.old d → w.moment ≡ moment → Stands (ledger_of d) k.client → k.is_lost ≡ true →
         IsRoamerIn (ledger_of d) roamer.old k → LaneSteps limits (steps.came_back limits w d name.now k) d k name.now lane.new roamer.new result }
@@ -357,7 +357,7 @@ fn back_as<K: Keeper, O: Objects>(
     client: ClientId,
     moment: u64,
 ) -> Result<Text, Stop>
-    requires moment { moment ≤ most }
+    requires moment { moment ≤ largest }
     requires kept { IsSendable roamer.old.outbox }
     ensures does { (limits : ALimits) (w : World) (d : ADocument) (k : ARoamerOf) → HasJoined limits w d client → IsLaneOf limits lane.old (joined_to limits w d) → w.moment ≡ moment →
         IsBehindLeave (ledger_of d) (length d.raws) roamer.old k → ComesBack limits w d k name.now lane.new roamer.new result }
@@ -392,7 +392,7 @@ pub fn acked<B: Shelves>(
 ) -> Result<Text, Stop>
 where
     B::K: Drop,
-    requires moment { moment ≤ most }
+    requires moment { moment ≤ largest }
     requires kept { IsSendable roamer.old.outbox }
     ensures does { (w : World) (k : ARoamerOf) → DeskStands lanes.old w → IsSound w → w.moment ≡ moment → get w.names name.now ≡ Some (a_roamer k) → IsRoamerOf w roamer.old k →
         StepDoes (done lanes.old.limits w (step.Acked name.now)) name.now lanes.new roamer.new result }
@@ -435,7 +435,7 @@ pub fn show<B: Shelves>(
 ) -> Result<Text, Stop>
 where
     B::K: Drop,
-    requires moment { moment ≤ most }
+    requires moment { moment ≤ largest }
     ensures does { (w : World) (k : ARoamerOf) → DeskStands lanes.old w → IsSound w → w.moment ≡ moment → get w.names name.now ≡ Some (a_roamer k) → IsRoamerOf w roamer.now k →
         DeskDoes (done lanes.old.limits w (step.Show name.now)) lanes.new result }
     ensures runs { (first steps : ℕ) → HasRun first steps lanes.old → RunsReading first (steps + 1) lanes.new result }

@@ -1,8 +1,8 @@
 // Clocks, and the place of a reader in an order.
 use crate::words::{number_of, split};
 use fluid_cast::Cursor;
-use fluid_io::{Clock, FixedClock, LAST_MOMENT, StdClock};
-use fluid_json::{NoMemory, Text};
+use fluid_io::{Clock, FixedClock, StdClock};
+use fluid_json::{LARGEST, NoMemory, Text};
 use std::alloc::Global;
 use std::io::ErrorKind;
 use std::time::Duration;
@@ -33,7 +33,7 @@ pub(crate) fn told(alloc: Global, text: &str) -> Result<Text, NoMemory> {
         Some(number_of(text))
     };
     let now = StdClock::new(ClockAt(shown)).now();
-    let still = FixedClock::new(now.min(LAST_MOMENT)).now();
+    let still = FixedClock::new(now.min(LARGEST)).now();
     Ok(Text::new(format!(in alloc; "{now} {still}")?))
 }
 

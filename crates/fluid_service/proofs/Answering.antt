@@ -1,6 +1,6 @@
 -- An opening that failed, and was counted or not.
 use Rattle.std.proofs.Common.{◌≡◌, ℕ, ◌+◌, ◌<◌, List, [], length, Err, sym, subst}
-use Rattle.fluid_document.specs.Entries.{most}
+use Rattle.fluid_types.specs.Forms.{largest}
 use Rattle.fluid_opening.specs.Opening.{OpenDoes}
 use Rattle.fluid_opening.specs.declared.fault.DoorFault.{DoorFault}
 use Rattle.fluid_service.specs.Shelved.{Shelved, with_failure, Continues}

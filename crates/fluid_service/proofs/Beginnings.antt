@@ -20,7 +20,8 @@ use Rattle.fluid_deltas.proofs.Telling.{tells_each}
 use Rattle.fluid_core.specs.Entering.{state_of, verdict_in, after}
 use Rattle.fluid_core.proofs.Entered.{verdict-state_of, state_of-push}
 use Rattle.fluid_document.specs.declared.fault.LoadFault.TheVariants as loading
-use Rattle.fluid_document.specs.Entries.{Entries, most, taken_up, entries_of}
+use Rattle.fluid_types.specs.Forms.{largest}
+use Rattle.fluid_document.specs.Entries.{Entries, taken_up, entries_of}
 use Rattle.fluid_document.specs.Loading.{loaded, newest}
 use Rattle.fluid_document.specs.Kept.{records, IsKept}
 use Rattle.fluid_document.specs.Laws.{CheckpointIsLoaded}
@@ -96,7 +97,7 @@ takes-entered e [] = omega arith
 takes-entered e (raw ∷ raws) = let rest = takes-entered (taken_up e raw) raws in let one = taken-entered e raw in omega (arith, rest, one)
 
 -- so over its keeper nothing else was wrong
-pub started_quiet : (k : Keeping) (c : Content) (limits : Limits) (moment : ℕ) (lane : Standing) (fault : LaneFault) → k.content ≡ Some c → Starts k limits moment lane → lane.entries.entered ≤ most
+pub started_quiet : (k : Keeping) (c : Content) (limits : Limits) (moment : ℕ) (lane : Standing) (fault : LaneFault) → k.content ≡ Some c → Starts k limits moment lane → lane.entries.entered ≤ largest
     → StartsBad (newest k.checkpoints) c fault → IsQuiet fault
 started_quiet k c limits moment lane fault tells starts few bad = by (loads_bad (newest k.checkpoints) c starts.loads.entries fault loads bad)
   where
@@ -114,7 +115,7 @@ started_quiet k c limits moment lane fault tells starts few bad = by (loads_bad 
     by (inl quiet) = quiet
     by (inr none) =
         let same = same_ok none.1.entries starts.loads.entries (loaded c (newest k.checkpoints)) none.1.is loads in
-        let full = subst (λ (e : Entries). most < e.entered + len e.state.sequencer.rows) same none.1.full in
+        let full = subst (λ (e : Entries). largest < e.entered + len e.state.sequencer.rows) same none.1.full in
         absurd (omega (arith, full, number, few))
 
 -- ---- a start that failed
@@ -215,7 +216,7 @@ module _ (law : CheckpointIsLoaded) (k left : Keeping) (moment : ℕ) (fault : L
   full_still : HasNoRoom (newest k.checkpoints) c → HasNoRoom (newest left.checkpoints) now
   full_still none =
       let same = same_ok none.entries (entries_of l) (loaded c (newest k.checkpoints)) none.is loads in
-      let full = subst (λ (e : Entries). most < e.entered + len e.state.sequencer.rows) same none.full in
+      let full = subst (λ (e : Entries). largest < e.entered + len e.state.sequencer.rows) same none.full in
       let entered = entered-entries_of l in let entered_now = entered-entries_of (l ++ some.done) in
       let rows = ap (λ s. len s.sequencer.rows) (state-entries_of l) in let rows_now = ap (λ s. len s.sequencer.rows) (state-entries_of (l ++ some.done)) in
       let all = length-append l some.done in

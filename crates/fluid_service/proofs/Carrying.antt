@@ -11,7 +11,7 @@ use Rattle.fluid_rules.proofs.Ids.{own_id, same_id}
 use Rattle.fluid_table.proofs.Places.{get_inserted, get_removed}
 use Rattle.fluid_log.specs.Keeping.{Content, Keeping, HasLengths}
 use Rattle.fluid_log.specs.Shelving.{Shelving, byte_order, fresh, keeper_under, GivesKeeper, PutsBack}
-use Rattle.fluid_document.specs.Entries.{most}
+use Rattle.fluid_types.specs.Forms.{largest}
 use Rattle.fluid_document.specs.Kept.{IsKept}
 use Rattle.fluid_document.specs.Laws.{CheckpointIsLoaded}
 use Rattle.fluid_lane.specs.declared.steps.Step.{Step}
@@ -140,7 +140,7 @@ own_put held name k = ap (λ o. unwrap_or o fresh) (get_inserted held name k nam
 
 module _ (law : CheckpointIsLoaded) (fresh_kept : NewIsKept) (name : List ℕ) (moment : ℕ) (old mid : Shelving) (k : Keeping) (kept : AreKept old) (gives : GivesKeeper name old mid k) where
   -- a lane was started over the keeper, so nothing was wrong with it
-  module _ (limits : Limits) (lane : Standing) (starts : Starts k limits moment lane) (few : lane.entries.entered ≤ most) where
+  module _ (limits : Limits) (lane : Standing) (starts : Starts k limits moment lane) (few : lane.entries.entered ≤ largest) where
     none_wrong : (held : Keepers) → old.held ≡ Some held → (fault : LaneFault) → IsOfStart (keeper_under held name) fault → IsQuiet fault
     none_wrong held was fault is =
         let same = told_at old.held held (λ h. k ≡ keeper_under h name) was gives.is in

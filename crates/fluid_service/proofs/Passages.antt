@@ -4,7 +4,7 @@ use Rattle.fluid_json.specs.declared.memory.NoMemory.{NoMemory as Refused}
 use Rattle.fluid_turn.specs.declared.view.Numbered.{Numbered}
 use Rattle.fluid_turn.specs.Entries.{IsPrefix, entries}
 use Rattle.fluid_turn.specs.Seats.{seeing}
-use Rattle.fluid_document.specs.Entries.{most}
+use Rattle.fluid_types.specs.Forms.{largest}
 use Rattle.fluid_opening.specs.declared.fault.DoorFault.{DoorFault}
 use Rattle.fluid_opening.specs.declared.fault.DoorFault.TheVariants.{NoMemory}
 use Rattle.fluid_opening.specs.declared.shelf.ShelfStep.{ShelfStep}
@@ -17,7 +17,7 @@ pub adding_none : (k : AKey) → k ≡ adding [] k
 adding_none k = ap (λ l. record k { seen = l }) (sym (append-nil k.seen)) ∙ ap (λ m. record k { seen = k.seen ++ []; mine = m }) (sym (append-nil k.mine))
 
 pub passes_by : (k m seat : AKey) (list : List (Numbered ShelfStep)) (added : List ShelfStep → List ShelfStep) (holds : List ShelfStep → Type 0) → seat ≡ seeing list k → m ≡ adding (added (entries list)) seat
-    → length m.seen ≤ most → IsPrefix k.seen list → holds (entries list) → Passes k m added holds
+    → length m.seen ≤ largest → IsPrefix k.seen list → holds (entries list) → Passes k m added holds
 passes_by k m seat list added holds saw is few begins says =
     let same : m ≡ adding (added (entries list)) (seeing list k) = is ∙ ap (adding (added (entries list))) saw in record {
       turn = ap (λ x. x.turn) same;
@@ -32,7 +32,7 @@ passes_by k m seat list added holds saw is few begins says =
 
 -- ---- a call for a document
 
-module _ (terms : ShelfTerms) (name : List ℕ) (k m seat : AKey) (list : List (Numbered ShelfStep)) (saw : seat ≡ seeing list k) (few : length m.seen ≤ most) (begins : IsPrefix k.seen list) where
+module _ (terms : ShelfTerms) (name : List ℕ) (k m seat : AKey) (list : List (Numbered ShelfStep)) (saw : seat ≡ seeing list k) (few : length m.seen ≤ largest) (begins : IsPrefix k.seen list) where
   -- it is open
   pub reaches_open : (result : Result Visiting DoorFault) → is_opened name (entries list) ≡ true → m ≡ seat → IfErr result (λ fault. fault ≡ NoMemory) → IfOk result (IsVisitOf terms name)
       → Passes k m (visit_steps name result) (Reaches terms name result)
@@ -90,9 +90,9 @@ entries_length : (l : List (Numbered ShelfStep)) → length (entries l) ≡ leng
 entries_length [] = refl
 entries_length (x ∷ xs) = ap suc (entries_length xs)
 
-pub few_seen : (seen list : List (Numbered ShelfStep)) (number : ℕ) → seen ≡ list → number ≡ length (entries list) → number ≤ most → length seen ≤ most
+pub few_seen : (seen list : List (Numbered ShelfStep)) (number : ℕ) → seen ≡ list → number ≡ length (entries list) → number ≤ largest → length seen ≤ largest
 few_seen seen list number same is few = let n = entries_length list in let s = ap length same in omega (arith, n, s, is, few)
 
-pub few_seen_more : (seen list : List (Numbered ShelfStep)) (step : Numbered ShelfStep) (number : ℕ) → seen ≡ list ++ step ∷ [] → number ≡ length (entries list ++ step.entry ∷ []) → number ≤ most → length seen ≤ most
+pub few_seen_more : (seen list : List (Numbered ShelfStep)) (step : Numbered ShelfStep) (number : ℕ) → seen ≡ list ++ step ∷ [] → number ≡ length (entries list ++ step.entry ∷ []) → number ≤ largest → length seen ≤ largest
 few_seen_more seen list step number same is few =
     let n = entries_length list in let s = ap length same in let a = length-append list (step ∷ []) in let b = length-append (entries list) (step.entry ∷ []) in omega (arith, n, s, a, b, is, few)

@@ -12,7 +12,7 @@ use Rattle.fluid_turn.specs.Entries.{of_nobody}
 use Rattle.fluid_rules.specs.declared.limits.Limits.{Limits}
 use Rattle.fluid_log.specs.declared.keeper.TheConstants.{LONGEST_KEPT}
 use Rattle.fluid_log.specs.Shelving.{Shelving, AreWhole, IsIn, StaysPut}
-use Rattle.fluid_document.specs.Entries.{most}
+use Rattle.fluid_types.specs.Forms.{largest}
 use Rattle.fluid_document.specs.Laws.{CheckpointIsLoaded}
 use Rattle.fluid_lane.specs.declared.fault.LaneFault.{LaneFault}
 use Rattle.fluid_lane.specs.declared.fault.LaneFault.TheVariants as lane
@@ -61,16 +61,16 @@ refusal_none false true none = absurd (some_none none)
 refusal_none false false none = (refl, refl)
 
 -- with no refusal there is room for one document and for one step
-pub has_room : (s : Shelved) (l : List ShelfStep) → ShelfStands s l → refusal l ≡ None → (length s.visits < MOST_DOCUMENTS) × (s.failed + length s.visits < most)
+pub has_room : (s : Shelved) (l : List ShelfStep) → ShelfStands s l → refusal l ≡ None → (length s.visits < MOST_DOCUMENTS) × (s.failed + length s.visits < largest)
 has_room s l stands none =
     let both = refusal_none (is_worn l) (is_full l) none in
-    let worn = leb-false most (length l) both.0 in let full = leb-false MOST_DOCUMENTS (length (opened l)) both.1 in
+    let worn = leb-false largest (length l) both.0 in let full = leb-false MOST_DOCUMENTS (length (opened l)) both.1 in
     let count = opened_is s l stands in let number = number_is s l stands in
     (omega (arith, full, count), omega (arith, worn, number))
 
-pub refusal-none : (l : List ShelfStep) → length l < most → length (opened l) < MOST_DOCUMENTS → refusal l ≡ None
+pub refusal-none : (l : List ShelfStep) → length l < largest → length (opened l) < MOST_DOCUMENTS → refusal l ≡ None
 refusal-none l few room =
-    ap (λ b. refusal_by b (is_full l)) (lt-leb most (length l) few) ∙ ap (refusal_by false) (lt-leb MOST_DOCUMENTS (length (opened l)) room)
+    ap (λ b. refusal_by b (is_full l)) (lt-leb largest (length l) few) ∙ ap (refusal_by false) (lt-leb MOST_DOCUMENTS (length (opened l)) room)
 
 -- no document is open: no step was taken
 pub nothing_stands : (shelving : Shelving) (limits : Limits) → ShelfStands (nothing_open shelving limits) []
@@ -165,7 +165,7 @@ put_or false a None = refl
 put_or false a (Some o) = refl
 
 -- one document more is open
-pub more_shelf : (s : Shelved) (new : Shelving) (visit : Visiting) (given : ℕ) → IsShelf s → is_open (name_of visit) s ≡ false → length s.visits < MOST_DOCUMENTS → s.failed + length s.visits < most
+pub more_shelf : (s : Shelved) (new : Shelving) (visit : Visiting) (given : ℕ) → IsShelf s → is_open (name_of visit) s ≡ false → length s.visits < MOST_DOCUMENTS → s.failed + length s.visits < largest
     → new.out ≡ insert s.shelving.out (name_of visit) given → AreKept new → GoesOn s.shelving new → IsServed (terms_of s) visit.door → IsShelf (enrolled s new visit)
 more_shelf s new visit given shelf closed room few out kept on served = record {
   out = λ name.

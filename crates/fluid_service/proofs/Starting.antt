@@ -7,7 +7,7 @@ use Rattle.fluid_rules.proofs.Ids.{same_id}
 use Rattle.fluid_rules.specs.declared.limits.Limits.{Limits}
 use Rattle.fluid_log.specs.Keeping.{Keeping, HasLengths}
 use Rattle.fluid_log.specs.Shelving.{Shelving, GivesKeeper, PutsBack}
-use Rattle.fluid_document.specs.Entries.{most}
+use Rattle.fluid_types.specs.Forms.{largest}
 use Rattle.fluid_document.specs.Laws.{CheckpointIsLoaded}
 use Rattle.fluid_lane.specs.declared.steps.Step.{Step}
 use Rattle.fluid_lane.specs.Steps.{ledger, steps}
@@ -38,7 +38,7 @@ lane_stands fresh seen limits name moment old new keeper lane kept give gives st
     let some = starts.some (may_start fresh seen name old new keeper kept give gives) in (steps some.0, some.1)
 
 module _ (law : CheckpointIsLoaded) (fresh : NewIsKept) (name : List ℕ) (moment : ℕ) (s : Shelved) (mid : Shelving) (lane : Standing) (shelf : IsShelf s) (closed : is_open name s ≡ false) (opens : Opens s.limits name moment s.shelving mid lane)
-    (few : lane.entries.entered ≤ most) (later : s.shelving.faults ≤ mid.faults) where
+    (few : lane.entries.entered ≤ largest) (later : s.shelving.faults ≤ mid.faults) where
   pub on_given : GoesOn s.shelving mid
   on_given = goes_given law fresh name moment s.shelving mid opens.keeper shelf.kept opens.gives s.limits lane opens.starts few later
 
@@ -53,7 +53,7 @@ module _ (law : CheckpointIsLoaded) (fresh : NewIsKept) (name : List ℕ) (momen
       becomes = refl;
     }
 
-    pub shelf_first : length s.visits < MOST_DOCUMENTS → s.failed + length s.visits < most → IsShelf (enrolled s mid first)
+    pub shelf_first : length s.visits < MOST_DOCUMENTS → s.failed + length s.visits < largest → IsShelf (enrolled s mid first)
     shelf_first room numbered =
         more_shelf s mid first opens.keeper.faults shelf (ap (λ n. is_open n s) are.0.name_is ∙ closed) room numbered (opens.gives.out ∙ ap (λ n. insert s.shelving.out n opens.keeper.faults) (sym are.0.name_is))
         (kept_given name s.shelving mid opens.keeper shelf.kept opens.gives) on_given (lane_served fresh s.limits name moment s.shelving mid lane first shelf.kept opens are.0)

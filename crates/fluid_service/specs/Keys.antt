@@ -3,7 +3,7 @@ use Rattle.std.specs.Prelude.{◌≡◌, ◌≤◌, ℕ, List, [], false, ◌++�
 use Rattle.fluid_turn.specs.declared.view.Numbered.{Numbered}
 use Rattle.fluid_turn.specs.Entries.{IsPrefix, by_seat, entries}
 use Rattle.fluid_turn.specs.Seats.{Turning, Known}
-use Rattle.fluid_document.specs.Entries.{most}
+use Rattle.fluid_types.specs.Forms.{largest}
 use Rattle.fluid_opening.specs.declared.fault.DoorFault.{DoorFault}
 use Rattle.fluid_opening.specs.declared.shelf.ShelfStep.{ShelfStep}
 use Rattle.fluid_service.specs.declared.terms.ShelfTerms.{ShelfTerms}
@@ -31,7 +31,7 @@ pub record Passes (k m : AKey) (added : List ShelfStep → List ShelfStep) (hold
   pub begins : IsPrefix k.seen before
   pub seen : m.seen ≡ before ++ map (by_seat k.number) (added (entries before))
   pub mine : m.mine ≡ k.mine ++ added (entries before)
-  pub few : length m.seen ≤ most
+  pub few : length m.seen ≤ largest
   pub says : holds (entries before)
 
 -- the visit is one of this document, by a new pass

@@ -6,7 +6,7 @@ use Rattle.fluid_types.specs.Ledger.{Ledger}
 use Rattle.fluid_log.specs.declared.keeper.TheConstants.{LONGEST_KEPT}
 use Rattle.fluid_log.specs.Keeping.{Content, Keeping, HasLengths}
 use Rattle.fluid_log.specs.Shelving.{Shelving, keeper_under}
-use Rattle.fluid_document.specs.Entries.{most}
+use Rattle.fluid_types.specs.Forms.{largest}
 use Rattle.fluid_document.specs.Kept.{IsKept}
 use Rattle.fluid_document.specs.Loading.{newest}
 use Rattle.fluid_rules.specs.declared.limits.Limits.{Limits}
@@ -97,7 +97,7 @@ pub record IsShelf (s : Shelved) : Type 0 where
   pub served : AllServed (terms_of s) s.visits
   pub kept : AreKept s.shelving
   pub few : length s.visits ≤ MOST_DOCUMENTS
-  pub numbered : s.failed + length s.visits ≤ most
+  pub numbered : s.failed + length s.visits ≤ largest
   pub small : s.limits.bytes ≤ LONGEST_KEPT
 
 -- ---- the list of steps for which it stands

@@ -2,7 +2,7 @@
 ghost use Rattle.std.specs.Prelude.{◌≡◌, ◌≤◌, ◌++◌, ◌∷◌, [], ℕ, List, false, length};
 ghost use Rattle.fluid_turn.specs.Entries.{entries};
 ghost use Rattle.fluid_turn.specs.Seats.{HasNoted, entering};
-ghost use Rattle.fluid_document.specs.Entries.{most};
+ghost use Rattle.fluid_types.specs.Forms.{largest};
 ghost use Rattle.fluid_opening.specs.declared.fault.DoorFault.{DoorFault as ADoorFault};
 ghost use Rattle.fluid_opening.specs.declared.shelf.ShelfStep.{ShelfStep as AShelfStep};
 ghost use Rattle.fluid_opening.specs.Steps.{opening_steps, visit_steps_by, refusal, HasFault};
@@ -25,7 +25,7 @@ fn close_with<B: Shelves>(held: Held<'_, Shelf<B>>, step: &ShelfStep) -> Key<B>
     requires stands { ShelfStands held.value (entries held.place.list ++ step.now ∷ []) }
     requires fixed { terms_of held.value ≡ held.place.seat.turn.fixed }
     ensures key { result ≡ entering step.now held.entry.place.seat }
-    ensures few { length result.seen ≤ most }
+    ensures few { length result.seen ≤ largest }
 {
     let mut held = held;
     // (read for its clause alone)
@@ -40,7 +40,7 @@ pub(crate) fn close<B: Shelves>(held: Held<'_, Shelf<B>>) -> Key<B>
     requires stands { ShelfStands held.value (entries held.place.list) }
     requires fixed { terms_of held.value ≡ held.place.seat.turn.fixed }
     ensures key { result ≡ held.entry.place.seat }
-    ensures few { length result.seen ≤ most }
+    ensures few { length result.seen ≤ largest }
 {
     // (read for its clause alone)
     let _number = held.value.number();
@@ -61,9 +61,9 @@ where
     requires stands { ShelfStands held.value (entries held.place.list) }
     requires fixed { terms_of held.value ≡ held.place.seat.turn.fixed }
     requires closed { is_open name.now held.value ≡ false }
-    requires moment { moment ≤ most }
+    requires moment { moment ≤ largest }
     ensures key { result.0 ≡ adding (visit_steps_by false (refusal (entries held.entry.place.list)) name.now result.1) held.entry.place.seat }
-    ensures few { length result.0.seen ≤ most }
+    ensures few { length result.0.seen ≤ largest }
     ensures answer { OpensNew (terms_of held.entry.value) name.now (refusal (entries held.entry.place.list)) result.1 }
 {
     let mut held = held;
@@ -90,7 +90,7 @@ fn close_opened<B: Shelves>(
     requires fixed { terms_of held.value ≡ held.place.seat.turn.fixed }
     ensures same { result.1 ≡ answer }
     ensures key { result.0 ≡ adding (opening_steps name answer) held.entry.place.seat }
-    ensures few { length result.0.seen ≤ most }
+    ensures few { length result.0.seen ≤ largest }
 {
     match answer {
         Ok(visit) => (close_with(held, &ShelfStep::Opened(name)), Ok(visit)),

@@ -6,7 +6,7 @@ ghost use Rattle.fluid_log.specs.Places.{shelves_seen};
 ghost use Rattle.fluid_log.specs.Shelving.{AreWhole};
 ghost use Rattle.fluid_turn.specs.Entries.{made_by, entries};
 ghost use Rattle.fluid_opening.specs.Steps.{opened};
-ghost use Rattle.fluid_opening.specs.declared.opening.TheConstants.{MOST_DOCUMENTS as MOST};
+ghost use Rattle.fluid_opening.specs.declared.opening.TheConstants.{MOST_DOCUMENTS};
 ghost use Rattle.fluid_service.specs.Shelved.{AreKept, GiveKept};
 
 use crate::service::Key;
@@ -26,7 +26,7 @@ pub fn new_shelves_are_kept(shelves: &MemoryShelves)
 /// than may be open.
 pub fn know_key<B: Shelves>(key: &Key<B>)
     ensures own { key.now.mine ≡ made_by key.now.number key.now.seen }
-    ensures few { length (opened (entries key.now.seen)) ≤ MOST }
+    ensures few { length (opened (entries key.now.seen)) ≤ MOST_DOCUMENTS }
 {
     key.know();
 }

@@ -2,7 +2,7 @@
 ghost use Rattle.std.specs.Prelude.{◌≡◌, ◌≤◌, List, [], IfOk, IfErr};
 ghost use Rattle.fluid_log.specs.declared.keeper.TheConstants.{LONGEST_KEPT};
 ghost use Rattle.fluid_log.specs.Shelving.{AreWhole};
-ghost use Rattle.fluid_document.specs.Entries.{most};
+ghost use Rattle.fluid_types.specs.Forms.{largest};
 ghost use Rattle.fluid_opening.specs.Steps.{opened, visit_steps};
 ghost use Rattle.fluid_service.specs.Shelved.{AreKept, GiveKept, shelf_terms};
 ghost use Rattle.fluid_service.specs.Keys.{Passes, Reaches};
@@ -97,7 +97,7 @@ where
         moment: u64,
     ) -> (Key<B>, Result<Visit<B::K>, DoorFault>)
         requires key { key.turn ≡ self.now }
-        requires moment { moment ≤ most }
+        requires moment { moment ≤ largest }
         ensures { Passes key result.0 (visit_steps name.now result.1) (Reaches self.now.fixed name.now result.1) }
     {
         let mut held = self.turn.take_noted(rt, key);

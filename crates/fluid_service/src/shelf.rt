@@ -3,7 +3,7 @@ ghost use Rattle.std.specs.Prelude.{◌≡◌, ◌+◌, ◌<◌, ◌≤◌, List
 ghost use Rattle.std.specs.String.{string_bytes};
 ghost use Rattle.fluid_log.specs.declared.keeper.TheConstants.{LONGEST_KEPT};
 ghost use Rattle.fluid_log.specs.Shelving.{AreWhole};
-ghost use Rattle.fluid_document.specs.Entries.{most};
+ghost use Rattle.fluid_types.specs.Forms.{largest};
 ghost use Rattle.fluid_opening.specs.declared.opening.TheConstants.{MOST_DOCUMENTS};
 ghost use Rattle.fluid_opening.specs.declared.shelf.ShelfStep.{ShelfStep as AShelfStep};
 ghost use Rattle.fluid_service.specs.Visiting.{find_visit, FindsVisit, IsFound};
@@ -18,9 +18,9 @@ use crate::opening::open_door;
 use crate::roll::Roll;
 use crate::terms::ShelfTerms;
 use crate::visit::Visit;
-use fluid_document::{MOST, kept_is_loaded};
+use fluid_document::kept_is_loaded;
 use fluid_doors::new_keepers_are_kept;
-use fluid_json::NoMemory;
+use fluid_json::{LARGEST, NoMemory};
 use fluid_lane::{LaneFault, Limits};
 use fluid_log::Shelves;
 use fluid_opening::{DoorFault, MOST_DOCUMENTS, ShelfStep, start_lane};
@@ -90,7 +90,7 @@ impl<B: Shelves> Shelf<B> {
     /// How many steps were taken.
     pub fn number(&self) -> u64
         ensures steps { (l : List AShelfStep) → ShelfStands self.now l → result ≡ length l }
-        ensures few { result ≤ most }
+        ensures few { result ≤ largest }
     {
         self.visits.len() + self.failed
     }
@@ -109,7 +109,7 @@ impl<B: Shelves> Shelf<B> {
     pub fn refusal(&self) -> Option<DoorFault>
         ensures { (l : List AShelfStep) → ShelfStands self.now l → result ≡ refusal l }
     {
-        if self.number() >= MOST {
+        if self.number() >= LARGEST {
             return Some(DoorFault::Lane(LaneFault::Worn));
         }
         if self.visits.len() >= MOST_DOCUMENTS {
@@ -141,8 +141,8 @@ where
     ) -> Result<Visit<B::K>, DoorFault>
         requires closed { is_open name.now self.old ≡ false }
         requires room { length self.old.visits < MOST_DOCUMENTS }
-        requires few { self.old.failed + length self.old.visits < most }
-        requires moment { moment ≤ most }
+        requires few { self.old.failed + length self.old.visits < largest }
+        requires moment { moment ≤ largest }
         ensures goes { Continues self.old self.new (opening_steps name.now result) }
         ensures does { OpensBy name.now moment self.old self.new result }
         ensures visit { IfOk result (IsVisitOf (terms_of self.old) name.now) }
@@ -175,8 +175,8 @@ where
     ) -> Result<Visit<B::K>, DoorFault>
         requires closed { is_open name.now self.old ≡ false }
         requires room { length self.old.visits < MOST_DOCUMENTS }
-        requires few { self.old.failed + length self.old.visits < most }
-        requires moment { moment ≤ most }
+        requires few { self.old.failed + length self.old.visits < largest }
+        requires moment { moment ≤ largest }
         ensures goes { GoesOn self.old.shelving self.new.shelving }
         ensures starts { StartsVisit name.now moment self.old self.new result }
     {
@@ -204,7 +204,7 @@ where
 
     // Counts an opening that failed, and keeps why.
     fn keep(&mut self, alloc: Global, name: &DocName, fault: &DoorFault) -> Result<(), NoMemory>
-        requires few { self.old.failed + length self.old.visits < most }
+        requires few { self.old.failed + length self.old.visits < largest }
         ensures kept { OnOk result (self.new ≡ with_failure name.now fault.now self.old) }
         ensures same { OnErr result (self.new ≡ self.old) }
     {

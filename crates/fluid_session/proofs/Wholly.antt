@@ -6,7 +6,7 @@ use Rattle.fluid_turn.specs.Entries.{IsPrefix, made_by}
 use Rattle.fluid_turn.proofs.Lists.{prefix_refl, prefix_trans}
 use Rattle.fluid_types.specs.declared.entries.Raw.TheVariants.{Leave}
 use Rattle.fluid_types.specs.declared.verdicts.Verdict.{Verdict}
-use Rattle.fluid_document.specs.Entries.{most}
+use Rattle.fluid_types.specs.Forms.{largest}
 use Rattle.fluid_deltas.specs.Pushed.{slice}
 use Rattle.fluid_store.specs.Storing.{Storing}
 use Rattle.fluid_lane.specs.declared.steps.Step.{Step}
@@ -101,7 +101,7 @@ absorbed_of : IsCountOf is_absorbed (λ t. t.absorbed)
 absorbed_of = record { is = λ r is. is.hears_it.absorbed }
 
 -- a number that is summed is the sum, where this is no more than there are steps
-exact_by : (f : Tally → ℕ) → IsSummed f → (events : List Event) (number sum : ℕ) → f nothing ≡ 0 → number ≡ f (counted_behind nothing events) → sum_in f events ≡ sum → sum ≤ most → number ≡ sum
+exact_by : (f : Tally → ℕ) → IsSummed f → (events : List Event) (number sum : ℕ) → f nothing ≡ 0 → number ≡ f (counted_behind nothing events) → sum_in f events ≡ sum → sum ≤ largest → number ≡ sum
 exact_by f summed events number sum zero is sums few =
     let above = sum_most f summed events nothing in
     let below : f (counted_behind nothing events) < 2 ^ 64 - 1 = omega (arith, above, sums, few, zero) in
@@ -116,7 +116,7 @@ unread_by events number tally counted is few =
     is ∙ same ∙ exact ∙ zero-add (sum_in (λ t. t.unread) events) ∙ unread_sum events
 
 -- the numbers of these events, of which only the steps of some are verdicts
-has_counts : (report : Report) (tally : Tally) (events : List Event) (steps : List Step) → HasNumbers report tally → tally ≡ counted_behind nothing events → tally.unread ≤ most_unread → length steps ≤ most
+has_counts : (report : Report) (tally : Tally) (events : List Event) (steps : List Step) → HasNumbers report tally → tally ≡ counted_behind nothing events → tally.unread ≤ most_unread → length steps ≤ largest
     → ((kind : Verdict → Bool) (f : Tally → ℕ) → IsCountOf kind f → sum_in f events ≡ count_steps kind steps) → HasCounts report steps events
 has_counts report tally events steps numbers counted few short sums = record {
   sequenced = exact_by (λ t. t.sequenced) sequenced_sum events report.sequenced _ refl (numbers.sequenced ∙ ap (λ (t : Tally). t.sequenced) counted) (sums is_sequenced (λ t. t.sequenced) sequenced_of) (fewer is_sequenced);
@@ -126,7 +126,7 @@ has_counts report tally events steps numbers counted few short sums = record {
   unread = unread_by events report.unread tally counted numbers.unread few;
 }
   where
-    fewer : (kind : Verdict → Bool) → count_steps kind steps ≤ most
+    fewer : (kind : Verdict → Bool) → count_steps kind steps ≤ largest
     fewer kind = let one = count_few kind steps in omega (arith, one, short)
 
 -- of a session that was connected: the steps of the texts behind the connect
@@ -204,7 +204,7 @@ joins s u t moment report tally events end j may closes numbers counted few clos
         ∙ sym (slice-grows (order_of t.talk.pass.seen) more.0 (next_number j.connect.to.voice) (next_number t.talk.voice) (first.first joined) stretch.later (sound.next on.still told))
         ∙ ap (λ o. slice o (next_number j.connect.to.voice) (next_number t.talk.voice)) (sym more.1)
 
-    steps_few : GoesOn j.connect.to t.talk j.later → IsSound t.talk → t.talk.pass.mine ≡ steps_of_round j.connect ++ steps_of j.later → length (steps_of j.later) ≤ most
+    steps_few : GoesOn j.connect.to t.talk j.later → IsSound t.talk → t.talk.pass.mine ≡ steps_of_round j.connect ++ steps_of j.later → length (steps_of j.later) ≤ largest
     steps_few on sound mine =
         let own : length t.talk.pass.mine ≡ length (made_by t.talk.pass.number t.talk.pass.seen) = ap length sound.own in
         let made = made_few t.talk.pass.number t.talk.pass.seen in

@@ -13,7 +13,7 @@ use Rattle.fluid_types.specs.declared.verdicts.Verdict.TheVariants.{Sequenced}
 use Rattle.fluid_types.specs.declared.verdicts.Verdict.TheVariants as verdict
 use Rattle.fluid_rules.specs.Rules.{joined}
 use Rattle.fluid_rules.specs.Counted.{counted}
-use Rattle.fluid_document.specs.Entries.{most}
+use Rattle.fluid_types.specs.Forms.{largest}
 use Rattle.fluid_deltas.specs.Pushed.{slice}
 use Rattle.fluid_lane.specs.declared.steps.Side.TheVariants.{Failed}
 use Rattle.fluid_lane.specs.declared.steps.Step.{Step}
@@ -205,7 +205,7 @@ HasNote (step ∷ steps) = HasNote steps
 
 -- why a leave isn't entered: a keeper failed, the document has as many steps as it may have, or memory was wanting
 abbrev pub MissesLeave : Knowing → SessionEnd → Type 0
-MissesLeave p end = HasNote p.mine ⊎ ((length p.seen ≡ most) ⊎ (end ≡ NoMemory))
+MissesLeave p end = HasNote p.mine ⊎ ((length p.seen ≡ largest) ⊎ (end ≡ NoMemory))
 
 abbrev pub HasLeft : Option Raw → List Raw → Knowing → SessionEnd → Type 0
 HasLeft None left p end = left ≡ []

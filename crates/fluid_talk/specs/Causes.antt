@@ -1,7 +1,7 @@
 -- Why a call of a connection fails.
 use Rattle.std.specs.Prelude.{◌≡◌, ⊤, true, false, List, [], ◌∷◌, length}
 use Rattle.fluid_io.specs.Causes.{Rose}
-use Rattle.fluid_document.specs.Entries.{most}
+use Rattle.fluid_types.specs.Forms.{largest}
 use Rattle.fluid_deltas.specs.declared.fault.DeltaFault.{DeltaFault}
 use Rattle.fluid_deltas.specs.declared.fault.DeltaFault.TheVariants as delta
 use Rattle.fluid_store.specs.Storing.{Storing}
@@ -20,14 +20,14 @@ use Rattle.fluid_talk.specs.Talking.{Knowing}
 abbrev pub IsLaneCause : Knowing → LaneFault → Type 0
 IsLaneCause q (lane.LogFailed note) = Rose note.before note.after
 IsLaneCause q (lane.DeltaFailed note) = Rose note.before note.after
-IsLaneCause q lane.Worn = length q.seen ≡ most
+IsLaneCause q lane.Worn = length q.seen ≡ largest
 IsLaneCause q fault = ⊥
 
 -- the same of messages that are read; what a keeper that tells its content kept is never bad
 abbrev pub IsDeltaCause : Knowing → DeltaFault → Type 0
 IsDeltaCause q (delta.DeltaFailed note) = Rose note.before note.after
 IsDeltaCause q (delta.BadDelta number) = q.told ≡ false
-IsDeltaCause q delta.Worn = length q.seen ≡ most
+IsDeltaCause q delta.Worn = length q.seen ≡ largest
 IsDeltaCause q delta.NoMemory = ⊥
 
 -- that too many documents are open is a reply, and no fault; which others there are the key tells

@@ -2,7 +2,7 @@
 use Rattle.std.specs.Prelude.{◌≡◌, ◌⊎◌, ◌≤◌, ℕ, List, ◌++◌, length, map, Some, Result, Ok, Err}
 use Rattle.fluid_turn.specs.declared.view.Numbered.{Numbered}
 use Rattle.fluid_turn.specs.Entries.{IsPrefix, by_seat, entries}
-use Rattle.fluid_document.specs.Entries.{most}
+use Rattle.fluid_types.specs.Forms.{largest}
 use Rattle.fluid_opening.specs.declared.fault.DoorFault.{DoorFault}
 use Rattle.fluid_opening.specs.declared.shelf.ShelfStep.{ShelfStep}
 use Rattle.fluid_opening.specs.Steps.{visit_steps, IsAnswer}
@@ -23,7 +23,7 @@ pub record AsksFor (name : List ℕ) (answer : Result (Unit {0}) DoorFault) (k m
   pub begins : IsPrefix k.seen before
   pub seen : m.seen ≡ before ++ map (by_seat k.number) (visit_steps name answer (entries before))
   pub mine : m.mine ≡ k.mine ++ visit_steps name answer (entries before)
-  pub few : length m.seen ≤ most
+  pub few : length m.seen ≤ largest
   pub is : IsAnswer k.told name answer (entries before)
 
 -- a door of the document was given, or none

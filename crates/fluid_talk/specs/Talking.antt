@@ -6,7 +6,7 @@ use Rattle.fluid_types.specs.Ledger.{Ledger, order}
 use Rattle.fluid_types.specs.declared.messages.Message.{Message}
 use Rattle.fluid_rules.specs.declared.limits.Limits.{Limits}
 use Rattle.fluid_rules.specs.Rules.{IsLegal}
-use Rattle.fluid_document.specs.Entries.{most}
+use Rattle.fluid_types.specs.Forms.{largest}
 use Rattle.fluid_lane.specs.declared.steps.Step.{Step}
 use Rattle.fluid_lane.specs.Steps.{ledger}
 use Rattle.fluid_voice.specs.declared.states.VoiceState.{VoiceState}
@@ -83,7 +83,7 @@ pub record IsSound (t : Talking) : Type 0 where
   pub named : is_connected t.voice ≡ true → t.pass.name ≡ document_name t.voice
   pub first : is_connected t.voice ≡ true → 0 < next_number t.voice
   pub next : is_connected t.voice ≡ true → t.pass.told ≡ true → next_number t.voice ≤ number_behind_last t.pass.seen
-  pub few : is_connected t.voice ≡ true → length t.pass.seen ≤ most
+  pub few : is_connected t.voice ≡ true → length t.pass.seen ≤ largest
   pub own : t.pass.mine ≡ made_by t.pass.number t.pass.seen
   pub legal : t.pass.told ≡ true → IsLegal (ledger_of t.pass.seen)
   pub key_own : t.key.mine ≡ made_by t.key.number t.key.seen

@@ -1,7 +1,7 @@
 //! The numbers of the document.
 ghost use Rattle.std.specs.Prelude.{◌≡◌, ◌-◌, ◌≤◌, true};
 ghost use Rattle.std.specs.FinMap.{get};
-ghost use Rattle.fluid_document.specs.Entries.{most};
+ghost use Rattle.fluid_types.specs.Forms.{largest};
 ghost use Rattle.fluid_transcript.specs.World.{World, document, is_open};
 ghost use Rattle.fluid_transcript.specs.Sound.{ledger_in};
 ghost use Rattle.fluid_desk.specs.Stands.{DeskStands};
@@ -37,7 +37,7 @@ where
     B::K: Drop,
     ensures same { lanes.new ≡ lanes.old }
     ensures are { (w : World) → DeskStands lanes.old w → is_open w name.now ≡ true → AreFigures result (document w name.now) }
-    ensures few { result.entries ≤ most }
+    ensures few { result.entries ≤ largest }
 {
     if !lanes.is_open(name) {
         return Figures {
@@ -52,7 +52,7 @@ where
 
 fn figures_on<K: Keeper>(lane: &Lane<K>) -> Figures
     ensures reads { ReadsOff lane.now result }
-    ensures few { result.entries ≤ most }
+    ensures few { result.entries ≤ largest }
 {
     Figures {
         entries: lane.entered(),

@@ -1,6 +1,6 @@
 //! What is done for one document at a hint.
 ghost use Rattle.std.specs.Prelude.{◌≡◌, ◌≤◌};
-ghost use Rattle.fluid_document.specs.Entries.{most};
+ghost use Rattle.fluid_types.specs.Forms.{largest};
 ghost use Rattle.fluid_worker.specs.Tending.{is_concluded, is_swept, Renews, Sweeps, SweepsBy, Tends};
 
 use fluid_doors::{Door, Pass, ScribeEnd, ScribeFault};
@@ -25,7 +25,7 @@ pub fn tend<R: Wait, K: Keeper, O: Objects>(
     objects: &mut O,
     moment: u64,
 ) -> Visit<K>
-    requires { moment ≤ most }
+    requires { moment ≤ largest }
     ensures door { result.door ≡ visit.door }
     ensures does { Tends visit.door.turn.fixed visit.pass result.pass moment (O.seen objects.old) (O.seen objects.new) }
 {
@@ -75,7 +75,7 @@ fn sweep<R: Wait, K: Keeper>(
     moment: u64,
 ) -> Pass<K>
     requires pass { pass.turn ≡ door.now.turn }
-    requires moment { moment ≤ most }
+    requires moment { moment ≤ largest }
     ensures turn { result.turn ≡ door.now.turn }
     ensures does { Sweeps door.now.turn.fixed pass result moment }
 {
@@ -99,7 +99,7 @@ fn sweep_one<R: Wait, K: Keeper>(
     moment: u64,
 ) -> (Pass<K>, bool)
     requires pass { pass.turn ≡ door.now.turn }
-    requires moment { moment ≤ most }
+    requires moment { moment ≤ largest }
     ensures turn { result.0.turn ≡ door.now.turn }
     ensures does { SweepsBy door.now.turn.fixed pass result.0 moment result.1 }
 {

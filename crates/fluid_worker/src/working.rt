@@ -1,6 +1,6 @@
 //! From hint to hint, over all documents.
 ghost use Rattle.std.specs.Prelude.{◌≡◌, ◌≤◌};
-ghost use Rattle.fluid_document.specs.Entries.{most};
+ghost use Rattle.fluid_types.specs.Forms.{largest};
 
 use crate::tending::tend;
 use crossbeam_channel::Receiver;
@@ -55,7 +55,7 @@ fn visit_new<R: Wait, B: Shelves>(
 )
 where
     B::K: Drop,
-    requires { moment ≤ most }
+    requires { moment ≤ largest }
 {
     let (_key, names) = service.names(rt, alloc, service.key());
     let Ok(names) = names else {

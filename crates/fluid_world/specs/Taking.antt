@@ -8,7 +8,7 @@ use Rattle.fluid_pipe.specs.Output.{FailedAt}
 use Rattle.fluid_pipe.specs.declared.taker.Untaken.{Untaken}
 use Rattle.fluid_pipe.specs.declared.taker.Untaken.TheVariants.{Refused, Failed}
 use Rattle.fluid_store.specs.Storing.{Storing}
-use Rattle.fluid_document.specs.Entries.{most}
+use Rattle.fluid_types.specs.Forms.{largest}
 use Rattle.fluid_lane.specs.declared.fault.LaneFault.TheVariants.{Worn}
 use Rattle.fluid_lanes.specs.Opened.{Opened, opened_code}
 use Rattle.fluid_door_link.specs.Codes.{storing_code}
@@ -68,7 +68,7 @@ pub record ScriptStands (s : Scripting) (w : World) : Type 0 where
 -- a document of a world has so many raw entries that with the lines so far, no more than an input may have, and one entry more they
 -- come to the end of all numbers
 abbrev pub IsLong : World → Type 0
-IsLong w = (w.moment ≤ MOST_LINES + 2) × ((name : List ℕ) × (most ≤ length (document w name).raws + w.moment + 1))
+IsLong w = (w.moment ≤ MOST_LINES + 2) × ((name : List ℕ) × (largest ≤ length (document w name).raws + w.moment + 1))
 
 -- why a step may end a script that stands for a world: nothing that is stored is refused, but that a document is long in the world
 -- behind the step

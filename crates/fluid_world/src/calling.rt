@@ -1,7 +1,7 @@
 //! The steps of connections, by the names that they have.
 ghost use Rattle.std.specs.Prelude.{◌≡◌, ◌≤◌, ◌<◌, ◌+◌, ℕ, None, OnOk, length};
 ghost use Rattle.std.specs.FinMap.{get};
-ghost use Rattle.fluid_document.specs.Entries.{most};
+ghost use Rattle.fluid_types.specs.Forms.{largest};
 ghost use Rattle.fluid_readback.specs.Laws.{longest_text};
 ghost use Rattle.fluid_steps.specs.declared.steps.Step.TheVariants as step;
 ghost use Rattle.fluid_transcript.specs.World.{World};
@@ -39,7 +39,7 @@ pub(crate) fn send_as<B: Shelves, O: Objects>(
 ) -> Result<Written, Stop>
 where
     B::K: Drop,
-    requires moment { moment ≤ most }
+    requires moment { moment ≤ largest }
     requires short { length text.now ≤ longest_text }
     requires accepted { sender_refusal (get names.old.table.values name) ≡ None }
     ensures does { (w : World) → WorldStands lanes.old objects.old names.old.table.values w → w.moment ≡ moment →
@@ -68,7 +68,7 @@ fn send_first<B: Shelves, O: Objects>(
 ) -> Result<Written, Stop>
 where
     B::K: Drop,
-    requires moment { moment ≤ most }
+    requires moment { moment ≤ largest }
     requires short { length text.now ≤ longest_text }
     requires new { get names.old.table.values name ≡ None }
     requires room { 0 < names.old.table.spare }
@@ -101,7 +101,7 @@ fn send_again<B: Shelves, O: Objects>(
 ) -> Result<Written, Stop>
 where
     B::K: Drop,
-    requires moment { moment ≤ most }
+    requires moment { moment ≤ largest }
     requires short { length text.now ≤ longest_text }
     requires accepted { connection_refusal (get names.old.table.values name.now) ≡ None }
     ensures does { (w : World) → WorldStands lanes.old objects.old names.old.table.values w → w.moment ≡ moment →
@@ -131,7 +131,7 @@ pub(crate) fn collect_as<B: Shelves, O: Objects>(
 ) -> Result<Written, Stop>
 where
     B::K: Drop,
-    requires moment { moment ≤ most }
+    requires moment { moment ≤ largest }
     requires accepted { connection_refusal (get names.old.table.values name.now) ≡ None }
     ensures does { (w : World) → WorldStands lanes.old _objects.now names.old.table.values w → w.moment ≡ moment →
         StepTakes (done lanes.old.limits w (step.Collect name.now)) lanes.new _objects.now names.new.table.values result }
@@ -159,7 +159,7 @@ pub(crate) fn close_as<B: Shelves, O: Objects>(
 ) -> Result<Written, Stop>
 where
     B::K: Drop,
-    requires moment { moment ≤ most }
+    requires moment { moment ≤ largest }
     requires accepted { connection_refusal (get names.old.table.values name.now) ≡ None }
     ensures does { (w : World) → WorldStands lanes.old _objects.now names.old.table.values w → w.moment ≡ moment →
         StepTakes (done lanes.old.limits w (step.Close name.now)) lanes.new _objects.now names.new.table.values result }

@@ -1,6 +1,5 @@
 //! A step, by its form.
 ghost use Rattle.std.specs.Prelude.{◌≡◌, ◌≤◌, ◌<◌, ◌+◌, ℕ, Bool, true, None, OnOk};
-ghost use Rattle.fluid_document.specs.Entries.{most};
 ghost use Rattle.fluid_types.specs.Forms.{largest};
 ghost use Rattle.fluid_transcript.specs.World.{World};
 ghost use Rattle.fluid_transcript.specs.Steps as steps;
@@ -86,7 +85,7 @@ pub fn take_step<B: Shelves, O: Objects>(
 where
     B::K: Drop,
     ghost good: { Bool }
-    requires moment { moment ≤ most }
+    requires moment { moment ≤ largest }
     requires stands { MayStand good lanes.old }
     requires accepted { refusal_by names.old.table.values step ≡ None }
     requires short { IsShortStep step }

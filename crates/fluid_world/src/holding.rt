@@ -1,7 +1,6 @@
 //! The steps of containers, by the names that they have.
 ghost use Rattle.std.specs.Prelude.{◌≡◌, ◌≤◌, ◌<◌, ◌+◌, ℕ, Bool, true, None, OnOk, Ok};
 ghost use Rattle.std.specs.FinMap.{get};
-ghost use Rattle.fluid_document.specs.Entries.{most};
 ghost use Rattle.fluid_types.specs.Forms.{largest};
 ghost use Rattle.fluid_steps.specs.declared.steps.Step.TheVariants as step;
 ghost use Rattle.fluid_transcript.specs.World.{World};
@@ -44,7 +43,7 @@ pub(crate) fn load_as<B: Shelves, O: Objects>(
 where
     B::K: Drop,
     ghost good: { Bool }
-    requires moment { moment ≤ most }
+    requires moment { moment ≤ largest }
     requires stands { MayStand good lanes.old }
     requires accepted { new_refusal (get names.old.table.values name) ≡ None }
     ensures does { (w : World) → good ≡ true → WorldStands lanes.old objects.old names.old.table.values w → w.moment ≡ moment →
@@ -88,7 +87,7 @@ pub(crate) fn pump_as<B: Shelves, O: Objects>(
 where
     B::K: Drop,
     ghost good: { Bool }
-    requires moment { moment ≤ most }
+    requires moment { moment ≤ largest }
     requires stands { MayStand good lanes.old }
     requires accepted { container_refusal (get names.old.table.values name.now) ≡ None }
     ensures does { (w : World) → good ≡ true → WorldStands lanes.old objects.old names.old.table.values w → w.moment ≡ moment →
@@ -120,7 +119,7 @@ pub(crate) fn edit_as<B: Shelves, O: Objects>(
 where
     B::K: Drop,
     ghost good: { Bool }
-    requires moment { moment ≤ most }
+    requires moment { moment ≤ largest }
     requires stands { MayStand good lanes.old }
     requires accepted { container_refusal (get names.old.table.values name.now) ≡ None }
     requires short { IsShort op }
@@ -153,7 +152,7 @@ pub(crate) fn beat_as<B: Shelves, O: Objects>(
 where
     B::K: Drop,
     ghost good: { Bool }
-    requires moment { moment ≤ most }
+    requires moment { moment ≤ largest }
     requires stands { MayStand good lanes.old }
     requires accepted { container_refusal (get names.old.table.values name.now) ≡ None }
     requires few { (n : ℕ) × (AreBounded n names.old.table.values × (n < largest)) }
@@ -185,7 +184,7 @@ pub(crate) fn summarize_as<B: Shelves, O: Objects>(
 where
     B::K: Drop,
     ghost good: { Bool }
-    requires moment { moment ≤ most }
+    requires moment { moment ≤ largest }
     requires stands { MayStand good lanes.old }
     requires accepted { container_refusal (get names.old.table.values name.now) ≡ None }
     requires few { (n : ℕ) × (AreBounded n names.old.table.values × (n < largest)) }
@@ -216,7 +215,7 @@ pub(crate) fn show_as<B: Shelves, O: Objects>(
 ) -> Result<Written, Stop>
 where
     B::K: Drop,
-    requires moment { moment ≤ most }
+    requires moment { moment ≤ largest }
     requires accepted { container_refusal (get names.now.table.values name.now) ≡ None }
     ensures does { (w : World) → WorldStands lanes.old _objects.now names.now.table.values w → w.moment ≡ moment →
         StepTakes (done lanes.old.limits w (step.Show name.now)) lanes.new _objects.now names.now.table.values result }

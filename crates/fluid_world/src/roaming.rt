@@ -1,7 +1,6 @@
 //! The steps of roamers, by the names that they have.
 ghost use Rattle.std.specs.Prelude.{◌≡◌, ◌≤◌, ◌<◌, ◌+◌, ℕ, false, true, None, OnOk, Ok};
 ghost use Rattle.std.specs.FinMap.{get};
-ghost use Rattle.fluid_document.specs.Entries.{most};
 ghost use Rattle.fluid_types.specs.Forms.{largest};
 ghost use Rattle.fluid_steps.specs.declared.steps.Step.TheVariants as step;
 ghost use Rattle.fluid_transcript.specs.Steps.{refusal_of_edit};
@@ -44,7 +43,7 @@ pub(crate) fn roam_as<B: Shelves, O: Objects>(
 ) -> Result<Written, Stop>
 where
     B::K: Drop,
-    requires moment { moment ≤ most }
+    requires moment { moment ≤ largest }
     requires accepted { new_refusal (get names.old.table.values name) ≡ None }
     ensures does { (w : World) → WorldStands lanes.old objects.old names.old.table.values w → w.moment ≡ moment →
         StepTakes (done lanes.old.limits w (step.Roam name document.now)) lanes.new objects.new names.new.table.values result }
@@ -85,7 +84,7 @@ pub(crate) fn say_as<B: Shelves, O: Objects>(
 ) -> Result<Written, Stop>
 where
     B::K: Drop,
-    requires moment { moment ≤ most }
+    requires moment { moment ≤ largest }
     requires accepted { refusal_of_edit op (roamer_refusal (get names.old.table.values name.now)) ≡ None }
     requires few { (n : ℕ) × (AreBounded n names.old.table.values × (n < largest)) }
     requires short { IsShortStep (step.Say name.now op) }
@@ -114,7 +113,7 @@ fn say_edit<B: Shelves, O: Objects>(
 ) -> Result<Written, Stop>
 where
     B::K: Drop,
-    requires moment { moment ≤ most }
+    requires moment { moment ≤ largest }
     requires accepted { roamer_refusal (get names.old.table.values name.now) ≡ None }
     requires few { (n : ℕ) × (AreBounded n names.old.table.values × (n < largest)) }
     requires short { IsShort op }
@@ -146,7 +145,7 @@ pub(crate) fn lose_as<B: Shelves, O: Objects>(
 ) -> Result<Written, Stop>
 where
     B::K: Drop,
-    requires moment { moment ≤ most }
+    requires moment { moment ≤ largest }
     requires accepted { lost_refusal false (get names.old.table.values name.now) ≡ None }
     ensures does { (w : World) → WorldStands lanes.old _objects.now names.old.table.values w → w.moment ≡ moment →
         StepTakes (done lanes.old.limits w (step.Lose name.now)) lanes.new _objects.now names.new.table.values result }
@@ -175,7 +174,7 @@ pub(crate) fn back_as<B: Shelves, O: Objects>(
 ) -> Result<Written, Stop>
 where
     B::K: Drop,
-    requires moment { moment ≤ most }
+    requires moment { moment ≤ largest }
     requires accepted { lost_refusal true (get names.old.table.values name.now) ≡ None }
     requires few { (n : ℕ) × (AreBounded n names.old.table.values × (n < largest)) }
     ensures does { (w : World) → WorldStands lanes.old objects.old names.old.table.values w → w.moment ≡ moment →
@@ -206,7 +205,7 @@ pub(crate) fn acked_as<B: Shelves, O: Objects>(
 ) -> Result<Written, Stop>
 where
     B::K: Drop,
-    requires moment { moment ≤ most }
+    requires moment { moment ≤ largest }
     requires accepted { roamer_refusal (get names.old.table.values name.now) ≡ None }
     requires few { (n : ℕ) × (AreBounded n names.old.table.values × (n < largest)) }
     ensures does { (w : World) → WorldStands lanes.old _objects.now names.old.table.values w → w.moment ≡ moment →
@@ -236,7 +235,7 @@ fn show_roamer<B: Shelves, O: Objects>(
 ) -> Result<Written, Stop>
 where
     B::K: Drop,
-    requires moment { moment ≤ most }
+    requires moment { moment ≤ largest }
     requires accepted { roamer_refusal (get names.now.table.values name.now) ≡ None }
     ensures does { (w : World) → WorldStands lanes.old _objects.now names.now.table.values w → w.moment ≡ moment →
         StepTakes (done lanes.old.limits w (step.Show name.now)) lanes.new _objects.now names.now.table.values result }
@@ -262,7 +261,7 @@ pub(crate) fn show_named<B: Shelves, O: Objects>(
 ) -> Result<Written, Stop>
 where
     B::K: Drop,
-    requires moment { moment ≤ most }
+    requires moment { moment ≤ largest }
     requires accepted { shown_refusal (get names.now.table.values name.now) ≡ None }
     ensures does { (w : World) → WorldStands lanes.old objects.now names.now.table.values w → w.moment ≡ moment →
         StepTakes (done lanes.old.limits w (step.Show name.now)) lanes.new objects.now names.now.table.values result }

@@ -10,8 +10,7 @@ use crate::files::{has, opened};
 use fluid_codec::{Event, read_event, read_raw};
 use fluid_disk::MemoryDisk;
 use fluid_disk_keeper::{DiskKeeper, Disks};
-use fluid_io::LAST_MOMENT;
-use fluid_json::Json;
+use fluid_json::{Json, LARGEST};
 use fluid_lane::{Lane, Limits};
 use fluid_readback::read_entries_fit;
 use fluid_types::{Raw, Scopes};
@@ -109,10 +108,10 @@ fn join(rt: &impl Abort, alloc: Global, lane: &mut OnDisks, connect: &str, momen
     requires { length connect.now ≤ longest_text }
 {
     let number = lane.entered();
-    if number > LAST_MOMENT {
+    if number > LARGEST {
         panic!(rt; "no number of an entry");
     }
-    if moment > LAST_MOMENT {
+    if moment > LARGEST {
         panic!(rt; "no moment");
     }
     let (scopes, detail) = client(rt, alloc, connect);

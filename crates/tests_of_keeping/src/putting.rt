@@ -4,8 +4,8 @@ ghost use Rattle.fluid_deltas.specs.Pushed.{IsKeepable};
 
 use fluid_codec::{print_message, printed_is_read_back};
 use fluid_deltas::{DeltaFault, Deltas, RESIDENT};
-use fluid_io::{FaultNote, LAST_MOMENT};
-use fluid_json::Json;
+use fluid_io::FaultNote;
+use fluid_json::{Json, LARGEST};
 use fluid_log::{Keeper, LONGEST_KEPT, MemoryKeeper};
 use fluid_types::{Kind, Message};
 use std::alloc::Global;
@@ -43,14 +43,14 @@ fn message(rt: &impl Abort, alloc: Global, number: u64) -> Message
     };
     let printed = print_message(alloc, &message).expect(rt, "memory");
     let printed = printed.as_str();
-    assert!(rt; number <= LAST_MOMENT && printed.len() <= LONGEST_KEPT);
+    assert!(rt; number <= LARGEST && printed.len() <= LONGEST_KEPT);
     message
 }
 
 fn push(rt: &impl Abort, alloc: Global, deltas: &mut Deltas) {
     let last = deltas.len();
     let resident = deltas.resident();
-    assert!(rt; last < LAST_MOMENT && resident < RESIDENT as u64);
+    assert!(rt; last < LARGEST && resident < RESIDENT as u64);
     deltas.reserve(alloc).expect(rt, "memory");
     deltas.push(message(rt, alloc, last + 1));
 }

@@ -8,8 +8,8 @@ ghost use Rattle.fluid_lane.specs.Standing.{IsLeaveOrSubmission};
 
 use fluid_checkpoint::CheckpointFault;
 use fluid_codec::{Event, read_event, read_raw};
-use fluid_io::{FaultNote, LAST_MOMENT};
-use fluid_json::Json;
+use fluid_io::FaultNote;
+use fluid_json::{Json, LARGEST};
 use fluid_lane::{Lane, LaneFault, Side};
 use fluid_log::MemoryKeeper;
 use fluid_readback::{leaves_and_reports_fit, read_entries_fit};
@@ -245,10 +245,10 @@ fn join(
     requires { length connect.now ≤ longest_text }
 {
     let number = lane.entered();
-    if number > LAST_MOMENT {
+    if number > LARGEST {
         panic!(rt; "no number of an entry");
     }
-    if moment > LAST_MOMENT {
+    if moment > LARGEST {
         panic!(rt; "no moment");
     }
     let (scopes, detail) = client(rt, alloc, connect);
@@ -269,7 +269,7 @@ fn report(
     found: bool,
 ) -> String {
     leaves_and_reports_fit();
-    assert!(rt; 0 < summary && summary <= LAST_MOMENT);
+    assert!(rt; 0 < summary && summary <= LARGEST);
     let answer = lane.conclude(alloc, summary, found, 6);
     let told = verdict_said(rt, alloc, &answer, lane.last_side());
     drop(answer);
@@ -293,7 +293,7 @@ fn sweep(
     moment: u64,
     silence: u64,
 ) -> String {
-    assert!(rt; moment <= LAST_MOMENT);
+    assert!(rt; moment <= LARGEST);
     let answer = lane.sweep(alloc, moment, silence);
     let told = match &answer {
         Ok(Some((raw, message))) => swept(rt, alloc, raw, message),

@@ -11,15 +11,15 @@ loop-place-init g c =
 pub loop-place-preserved : goal.loop-place-preserved
 loop-place-preserved g c =
     let took = c.in_ok-take_next.ensures in
-    has_folded_more _ (g.K.Keeper.seen c.loop-place.keeper) _ _ _ c.loop-place.invariant _ _ (omega (arith, c.if-place-ge-MOST.false)) (omega (arith, c.loop-place-test.true, c.len-end.ensures)) (g.K.Keeper.sized c.loop-place.keeper)
+    has_folded_more _ (g.K.Keeper.seen c.loop-place.keeper) _ _ _ c.loop-place.invariant _ _ (omega (arith, c.if-place-ge-LARGEST.false)) (omega (arith, c.loop-place-test.true, c.len-end.ensures)) (g.K.Keeper.sized c.loop-place.keeper)
     took.later took.reads took.puts took.reached took.early took.lacked took.takes
 
-pub returns-then-place-ge-MOST-clause-loaded : goal.returns-then-place-ge-MOST-clause-loaded
-returns-then-place-ge-MOST-clause-loaded g c =
-    has_folded_worn _ (g.K.Keeper.seen c.loop-place.keeper) _ _ _ c.loop-place.invariant (omega (arith, c.if-place-ge-MOST.true)) (omega (arith, c.loop-place-test.true, c.len-end.ensures)) (g.K.Keeper.sized c.args.keeper.now)
+pub returns-then-place-ge-LARGEST-clause-loaded : goal.returns-then-place-ge-LARGEST-clause-loaded
+returns-then-place-ge-LARGEST-clause-loaded g c =
+    has_folded_worn _ (g.K.Keeper.seen c.loop-place.keeper) _ _ _ c.loop-place.invariant (omega (arith, c.if-place-ge-LARGEST.true)) (omega (arith, c.loop-place-test.true, c.len-end.ensures)) (g.K.Keeper.sized c.args.keeper.now)
 
-pub returns-then-place-ge-MOST-clause-kept : goal.returns-then-place-ge-MOST-clause-kept
-returns-then-place-ge-MOST-clause-kept g c = λ l stands. kept_at l _ _ _ (c.loop-place.invariant.stands l stands)
+pub returns-then-place-ge-LARGEST-clause-kept : goal.returns-then-place-ge-LARGEST-clause-kept
+returns-then-place-ge-LARGEST-clause-kept g c = λ l stands. kept_at l _ _ _ (c.loop-place.invariant.stands l stands)
 
 pub returns-in_err-take_next-clause-cause : goal.returns-in_err-take_next-clause-cause
 returns-in_err-take_next-clause-cause g c =
@@ -31,7 +31,7 @@ returns-in_err-take_next-clause-puts g c = puts_both _ (g.K.Keeper.seen c.loop-p
 
 pub returns-in_err-take_next-clause-loaded : goal.returns-in_err-take_next-clause-loaded
 returns-in_err-take_next-clause-loaded g c =
-    rw (handed_on c.from_residual.result _ c.from_residual.ensures.1) (has_folded_bad _ (g.K.Keeper.seen c.loop-place.keeper) _ _ _ c.loop-place.invariant c.in_err-take_next.field-0.0 (omega (arith, c.if-place-ge-MOST.false)) c.in_err-take_next.ensures.takes.0)
+    rw (handed_on c.from_residual.result _ c.from_residual.ensures.1) (has_folded_bad _ (g.K.Keeper.seen c.loop-place.keeper) _ _ _ c.loop-place.invariant c.in_err-take_next.field-0.0 (omega (arith, c.if-place-ge-LARGEST.false)) c.in_err-take_next.ensures.takes.0)
 
 pub returns-in_err-take_next-clause-kept : goal.returns-in_err-take_next-clause-kept
 returns-in_err-take_next-clause-kept g c =
@@ -54,8 +54,8 @@ returns-in_err-take_next-clause-lacked g c =
     let has = c.loop-place.invariant in
     omega (arith, has.early, has.lacked, c.in_err-take_next.ensures.lacked, c.loop-place-test.true, c.len-end.ensures)
 
-pub returns-then-place-ge-MOST-clause-lacked : goal.returns-then-place-ge-MOST-clause-lacked
-returns-then-place-ge-MOST-clause-lacked g c = omega (arith, c.loop-place.invariant.lacked, c.loop-place-test.true, c.len-end.ensures)
+pub returns-then-place-ge-LARGEST-clause-lacked : goal.returns-then-place-ge-LARGEST-clause-lacked
+returns-then-place-ge-LARGEST-clause-lacked g c = omega (arith, c.loop-place.invariant.lacked, c.loop-place-test.true, c.len-end.ensures)
 
 pub returns-clause-lacked : goal.returns-clause-lacked
 returns-clause-lacked g c = omega (arith, c.loop-place.invariant.lacked, c.loop-place.auto.place-end, c.len-end.ensures)

@@ -1,7 +1,7 @@
 use Rattle.std.proofs.Common.{◌≡◌, ◌≤◌, subst, arith}
 use Rattle.std.specs.Prelude.{IfErr}
 use Rattle.std.proofs.lemmas.Result.{err_from_is_err_and}
-use Rattle.fluid_document.specs.Entries.{most}
+use Rattle.fluid_types.specs.Forms.{largest}
 use Rattle.fluid_deltas.specs.Pushed.{slice}
 use Rattle.fluid_deltas.specs.Ranges.{AreNumbersOf}
 use Rattle.fluid_types.specs.Ledger.{order}
@@ -19,7 +19,7 @@ pub returns-in_err-messages-clause-reads : goal.returns-in_err-messages-clause-r
 returns-in_err-messages-clause-reads g c = λ l lane was.
     let e = err_from_is_err_and c.from_residual.result c.from_residual.ensures.1 in
     let some = c.requires.some in let last = c.requires.last in let low = c.requires.first in let first = was.first in
-    let bound = subst (λ n. n ≤ most) c.seq-last.ensures.is c.seq-last.ensures.bound in
+    let bound = subst (λ n. n ≤ largest) c.seq-last.ensures.is c.seq-last.ensures.bound in
     let high = begun_high _ _ _ c.begin.ensures in let end = c.end-end.ensures.is in
     rw (e.1, e.2) (record {
       tail = begun c.args.lane.now c.args.tail.now c.begin.new.tail c.args.from l c.lanes_say_their_ledgers.ensures.says lane bound (omega (arith, low, first)) (omega (arith, some, last)) c.begin.ensures was;
@@ -31,7 +31,7 @@ returns-in_err-messages-clause-reads g c = λ l lane was.
 pub returns-in-Ok-clause-reads : goal.returns-in-Ok-clause-reads
 returns-in-Ok-clause-reads g c = λ l lane was.
     let some = c.requires.some in let last = c.requires.last in let low = c.requires.first in let first = was.first in
-    let bound = subst (λ n. n ≤ most) c.seq-last.ensures.is c.seq-last.ensures.bound in
+    let bound = subst (λ n. n ≤ largest) c.seq-last.ensures.is c.seq-last.ensures.bound in
     let items = c.in_ok-messages.messages.items in
     let end = c.end-end.ensures.is in
     record {

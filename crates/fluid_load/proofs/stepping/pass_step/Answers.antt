@@ -1,6 +1,5 @@
 use Rattle.std.proofs.Common.{rules, ◌≡◌, ◌≤◌, ◌<◌, ℕ, ◌∙◌, None, sym, arith}
 use Rattle.fluid_types.specs.Forms.{largest}
-use Rattle.fluid_document.specs.Entries.{most}
 use Rattle.fluid_containers.specs.Stepping.{MayStand}
 use Rattle.fluid_world.specs.Naming.{AreBounded, IsShortStep, refusal_by}
 use Rattle.fluid_world.proofs.Stepped.{same_counted}
@@ -10,7 +9,7 @@ use Rattle.fluid_load.proofs.stepping.pass_step.Goals as goal
 
 pub take_step-requires : goal.take_step-requires
 take_step-requires g c =
-    let moment : 0 ≤ most = omega arith in
+    let moment : 0 ≤ largest = omega arith in
     let stands : MayStand g.good c.args.lanes.now = c.requires.1.1.1.0 in
     let accepted : refusal_by c.args.names.now.table.values c.args.step ≡ None = sym c.refusal.ensures ∙ c.in-None.is in
     let short : IsShortStep c.args.step = c.requires.1.1.1.1.0 in

@@ -6,4 +6,4 @@ use Rattle.tests_of_lanes.proofs.calls.join.Goals as goal
 pub join-answer-requires : goal.join-answer-requires
 join-answer-requires g c =
     let id = c.args.lane.now.entries.entered in
-    record { fits = c.client-detail.ensures (entry_name id) c.args.moment (entry_name-is_name id (omega (arith, c.entered-number.ensures, c.if-number-gt-LAST_MOMENT.false))) (omega (arith, c.if-moment-gt-LAST_MOMENT.false)) }
+    record { fits = c.client-detail.ensures (entry_name id) c.args.moment (entry_name-is_name id (omega (arith, c.entered-number.ensures, c.if-number-gt-LARGEST.false))) (omega (arith, c.if-moment-gt-LARGEST.false)) }

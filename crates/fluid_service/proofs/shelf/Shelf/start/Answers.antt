@@ -1,7 +1,7 @@
 use Rattle.std.proofs.Common.{◌≡◌, ◌+◌, ◌<◌, ◌≤◌, false, List, length, sym, ap, subst, ◌∙◌, refl, arith}
 use Rattle.std.proofs.lemmas.Result.{err_from_is_err_and}
 use Rattle.fluid_log.proofs.Lending.{given_out}
-use Rattle.fluid_document.specs.Entries.{most}
+use Rattle.fluid_types.specs.Forms.{largest}
 use Rattle.fluid_opening.specs.declared.opening.TheConstants.{MOST_DOCUMENTS}
 use Rattle.fluid_service.specs.Visiting.{Visiting}
 use Rattle.fluid_service.specs.Shelved.{Shelved, is_open}
@@ -41,10 +41,10 @@ invariant_of-self-in-Ok g c =
     let s : Shelved = record { shelving = g.B.Shelves.seen c.self.inside.shelves; visits = c.self.inside.visits.visits; limits = c.self.inside.limits; failed = c.self.inside.failed; last = c.self.inside.last } in
     let closed = subst (λ (t : Shelved). is_open c.args.name.now t ≡ false) (sym c.self.view_is) c.requires.closed in
     let number = c.number-number.ensures.is in let bound = c.number-number.ensures.few in
-    let few : c.in_ok-lane.lane.entries.entered ≤ most = omega (arith, number, bound) in
+    let few : c.in_ok-lane.lane.entries.entered ≤ largest = omega (arith, number, bound) in
     let are = rw c.in_ok-named.ensures at c.in-Ok.ensures.visits in
     let room : length s.visits < MOST_DOCUMENTS = subst (λ (t : Shelved). length t.visits < MOST_DOCUMENTS) (sym c.self.view_is) c.requires.room in
-    let numbered : s.failed + length s.visits < most = subst (λ (t : Shelved). t.failed + length t.visits < most) (sym c.self.view_is) c.requires.few in
+    let numbered : s.failed + length s.visits < largest = subst (λ (t : Shelved). t.failed + length t.visits < largest) (sym c.self.view_is) c.requires.few in
     let on = on_given c.kept_is_loaded.ensures.checkpoints c.new_keepers_are_kept.ensures c.args.name.now c.args.moment s (g.B.Shelves.seen c.start_lane.new.shelves) c.in_ok-lane.lane c.self.invariant.0 closed c.in_ok-lane.ensures.does few c.in_ok-lane.ensures.later in
     rw (c.push.ensures, c.in_ok-reserve.ensures.same) (shelf_first c.kept_is_loaded.ensures.checkpoints c.new_keepers_are_kept.ensures c.args.name.now c.args.moment s (g.B.Shelves.seen c.start_lane.new.shelves) c.in_ok-lane.lane c.self.invariant.0 closed c.in_ok-lane.ensures.does few c.in_ok-lane.ensures.later c.in-Ok.first c.in-Ok.second are room numbered, λ untold keeper. c.self.invariant.1 (sym on.told ∙ untold) keeper)
 
@@ -53,7 +53,7 @@ invariant_of-self-in-Err-1 g c =
     let s : Shelved = record { shelving = g.B.Shelves.seen c.self.inside.shelves; visits = c.self.inside.visits.visits; limits = c.self.inside.limits; failed = c.self.inside.failed; last = c.self.inside.last } in
     let closed = subst (λ (t : Shelved). is_open c.args.name.now t ≡ false) (sym c.self.view_is) c.requires.closed in
     let number = c.number-number.ensures.is in let bound = c.number-number.ensures.few in
-    let few : c.in_ok-lane.lane.entries.entered ≤ most = omega (arith, number, bound) in
+    let few : c.in_ok-lane.lane.entries.entered ≤ largest = omega (arith, number, bound) in
     let kept = back_kept c.kept_is_loaded.ensures.checkpoints c.new_keepers_are_kept.ensures c.args.name.now c.args.moment s (g.B.Shelves.seen c.start_lane.new.shelves) c.in_ok-lane.lane c.self.invariant.0 closed c.in_ok-lane.ensures.does few c.in_ok-lane.ensures.later c.in-Err.lane c.in-Err.ensures.back.0.0 (g.B.K.Keeper.seen c.close.result) c.in-Err.ensures.back.1 c.close.ensures.keeper (c.close.ensures.left c.in-Err.ensures.back.0.0 c.in-Err.ensures.back.0.1) c.close.ensures.sized in
     let on = on_back c.kept_is_loaded.ensures.checkpoints c.new_keepers_are_kept.ensures c.args.name.now c.args.moment s (g.B.Shelves.seen c.start_lane.new.shelves) c.in_ok-lane.lane c.self.invariant.0 closed c.in_ok-lane.ensures.does few c.in_ok-lane.ensures.later (g.B.Shelves.seen c.put_back.new.self) (g.B.K.Keeper.seen c.close.result) c.put_back.ensures.does in
     rw c.in_ok-reserve.ensures.same (shelf_back c.kept_is_loaded.ensures.checkpoints c.new_keepers_are_kept.ensures c.args.name.now c.args.moment s (g.B.Shelves.seen c.start_lane.new.shelves) c.in_ok-lane.lane c.self.invariant.0 closed c.in_ok-lane.ensures.does few c.in_ok-lane.ensures.later (g.B.Shelves.seen c.put_back.new.self) (g.B.K.Keeper.seen c.close.result) c.put_back.ensures.does kept, λ untold keeper. c.self.invariant.1 (sym on.told ∙ untold) keeper)
@@ -63,7 +63,7 @@ returns-in-Ok-clause-goes g c =
     let s : Shelved = record { shelving = g.B.Shelves.seen c.self.inside.shelves; visits = c.self.inside.visits.visits; limits = c.self.inside.limits; failed = c.self.inside.failed; last = c.self.inside.last } in
     let closed = subst (λ (t : Shelved). is_open c.args.name.now t ≡ false) (sym c.self.view_is) c.requires.closed in
     let number = c.number-number.ensures.is in let bound = c.number-number.ensures.few in
-    let few : c.in_ok-lane.lane.entries.entered ≤ most = omega (arith, number, bound) in
+    let few : c.in_ok-lane.lane.entries.entered ≤ largest = omega (arith, number, bound) in
     subst (λ (t : Shelved). GoesOn t.shelving (g.B.Shelves.seen c.start_lane.new.shelves)) c.self.view_is (on_given c.kept_is_loaded.ensures.checkpoints c.new_keepers_are_kept.ensures c.args.name.now c.args.moment s (g.B.Shelves.seen c.start_lane.new.shelves) c.in_ok-lane.lane c.self.invariant.0 closed c.in_ok-lane.ensures.does few c.in_ok-lane.ensures.later)
 
 pub returns-in-Ok-clause-starts : goal.returns-in-Ok-clause-starts
@@ -71,7 +71,7 @@ returns-in-Ok-clause-starts g c =
     let s : Shelved = record { shelving = g.B.Shelves.seen c.self.inside.shelves; visits = c.self.inside.visits.visits; limits = c.self.inside.limits; failed = c.self.inside.failed; last = c.self.inside.last } in
     let closed = subst (λ (t : Shelved). is_open c.args.name.now t ≡ false) (sym c.self.view_is) c.requires.closed in
     let number = c.number-number.ensures.is in let bound = c.number-number.ensures.few in
-    let few : c.in_ok-lane.lane.entries.entered ≤ most = omega (arith, number, bound) in
+    let few : c.in_ok-lane.lane.entries.entered ≤ largest = omega (arith, number, bound) in
     let are = rw c.in_ok-named.ensures at c.in-Ok.ensures.visits in
     subst (λ (o : Shelved). KeepsVisit c.args.name.now c.args.moment o (record { shelving = (g.B.Shelves.seen c.start_lane.new.shelves); visits = c.push.new.self.visits; limits = c.self.inside.limits; failed = c.self.inside.failed; last = c.self.inside.last }) c.in-Ok.second) c.self.view_is
     (rw (c.push.ensures, c.in_ok-reserve.ensures.same) (keeps_first c.kept_is_loaded.ensures.checkpoints c.new_keepers_are_kept.ensures c.args.name.now c.args.moment s (g.B.Shelves.seen c.start_lane.new.shelves) c.in_ok-lane.lane c.self.invariant.0 closed c.in_ok-lane.ensures.does few c.in_ok-lane.ensures.later c.in-Ok.first c.in-Ok.second are))
@@ -81,6 +81,6 @@ returns-in-Err-clause-goes g c =
     let s : Shelved = record { shelving = g.B.Shelves.seen c.self.inside.shelves; visits = c.self.inside.visits.visits; limits = c.self.inside.limits; failed = c.self.inside.failed; last = c.self.inside.last } in
     let closed = subst (λ (t : Shelved). is_open c.args.name.now t ≡ false) (sym c.self.view_is) c.requires.closed in
     let number = c.number-number.ensures.is in let bound = c.number-number.ensures.few in
-    let few : c.in_ok-lane.lane.entries.entered ≤ most = omega (arith, number, bound) in
+    let few : c.in_ok-lane.lane.entries.entered ≤ largest = omega (arith, number, bound) in
     subst (λ (t : Shelved). GoesOn t.shelving (g.B.Shelves.seen c.put_back.new.self)) c.self.view_is
     (on_back c.kept_is_loaded.ensures.checkpoints c.new_keepers_are_kept.ensures c.args.name.now c.args.moment s (g.B.Shelves.seen c.start_lane.new.shelves) c.in_ok-lane.lane c.self.invariant.0 closed c.in_ok-lane.ensures.does few c.in_ok-lane.ensures.later (g.B.Shelves.seen c.put_back.new.self) (g.B.K.Keeper.seen c.close.result) c.put_back.ensures.does)

@@ -1,6 +1,6 @@
 use Rattle.std.proofs.Common.{◌≡◌, ◌≤◌, ◌+◌, ◌∙◌, refl, sym, ap, subst, None, arith, rules}
 use Rattle.std.proofs.lemmas.Result.{err_from_is_err_and}
-use Rattle.fluid_document.specs.Entries.{most}
+use Rattle.fluid_types.specs.Forms.{largest}
 use Rattle.fluid_io.specs.declared.lines.TheConstants.{MOST_LINES}
 use Rattle.fluid_transcript.specs.Transcript.{at_line, done}
 use Rattle.fluid_desk.specs.declared.stop.Stop.TheVariants.{NoMemory}
@@ -14,7 +14,7 @@ use Rattle.fluid_world.proofs.taking.Script.write_step.Goals as goal
 pub take_step-requires : goal.take_step-requires
 take_step-requires g c =
     let within = subst (IsWithin MOST_LINES) (sym c.self.view_is) c.requires.within in
-    let moment : c.args.moment ≤ most = omega (arith, c.requires.moment, c.requires.within.lines) in
+    let moment : c.args.moment ≤ largest = omega (arith, c.requires.moment, c.requires.within.lines) in
     let stands : MayShow c.self.inside.may.value c.self.inside.lanes = may_step _ within.stands in
     let accepted : refusal_by c.self.inside.names.table.values c.args.step ≡ None = ap (λ (s : Scripting). refusal_by s.names c.args.step) c.self.view_is ∙ c.requires.accepted in
     let few = few_steps _ within in
