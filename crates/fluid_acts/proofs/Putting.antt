@@ -80,20 +80,20 @@ module _ (bytes : List ℕ) where
   no_more : {A : Type 0} (x y : A) (xs ys : List A) → (x ∷ []) ≡ (y ∷ ys) → (x ≡ y) × (ys ≡ [])
   no_more x y xs ys same = (cc, cc)
 
-  front_added : (old new : Option Held) → (front behind : List StoredObject) → object ∷ [] ≡ front ++ behind → Adds front old new
+  prefix_added : (old new : Option Held) → (prefix behind : List StoredObject) → object ∷ [] ≡ prefix ++ behind → Adds prefix old new
       → (new ≡ old) ⊎ (new ≡ option_map (λ held. held_behind held (act.PutObject bytes)) old)
-  front_added old new [] rest splits adds = inl (adds.content ∙ same_content old)
-  front_added old new (o ∷ []) rest splits adds = inr (added old new (subst (λ x. Adds (x ∷ []) old new) (sym (first_is o rest splits)) adds))
+  prefix_added old new [] rest splits adds = inl (adds.content ∙ same_content old)
+  prefix_added old new (o ∷ []) rest splits adds = inr (added old new (subst (λ x. Adds (x ∷ []) old new) (sym (first_is o rest splits)) adds))
     where
       first_is : (o : StoredObject) (rest : List StoredObject) → object ∷ [] ≡ o ∷ rest → object ≡ o
       first_is o rest same = cc
-  front_added old new (o ∷ p ∷ more) rest splits adds = absurd (too_long (ap length splits))
+  prefix_added old new (o ∷ p ∷ more) rest splits adds = absurd (too_long (ap length splits))
     where
       too_long : length (object ∷ []) ≡ length (o ∷ p ∷ (more ++ rest)) → ⊥
       too_long same = omega (arith, same)
 
   -- other bytes are held under its id, and nothing was put
-  clash_at : (old new : Option Held) (id kept new_bytes : List ℕ) (front behind : List StoredObject) → object ∷ [] ≡ front ++ (record { id = id; bytes = new_bytes } ∷ behind) → Adds front old new
+  clash_at : (old new : Option Held) (id kept new_bytes : List ℕ) (prefix behind : List StoredObject) → object ∷ [] ≡ prefix ++ (record { id = id; bytes = new_bytes } ∷ behind) → Adds prefix old new
       → (new ≡ old) × ((id ≡ sha1 bytes) × (new_bytes ≡ bytes))
   clash_at old new id kept new_bytes [] rest splits adds = (adds.content ∙ same_content old, (ids (first_is splits), texts (first_is splits)))
     where
@@ -105,11 +105,11 @@ module _ (bytes : List ℕ) where
 
       texts : ◌≡◌ {A = StoredObject} object (record { id = id; bytes = new_bytes }) → new_bytes ≡ bytes
       texts same = sym (ap (λ (o : StoredObject). o.bytes) same)
-  clash_at old new id kept new_bytes (o ∷ front) rest splits adds = absurd (too_long front (ap length splits))
+  clash_at old new id kept new_bytes (o ∷ prefix) rest splits adds = absurd (too_long prefix (ap length splits))
     where
-      too_long : (front : List StoredObject) → length (object ∷ []) ≡ length (o ∷ (front ++ (record { id = id; bytes = new_bytes } ∷ rest))) → ⊥
+      too_long : (prefix : List StoredObject) → length (object ∷ []) ≡ length (o ∷ (prefix ++ (record { id = id; bytes = new_bytes } ∷ rest))) → ⊥
       too_long [] same = omega (arith, same)
-      too_long (p ∷ front) same = omega (arith, same)
+      too_long (p ∷ prefix) same = omega (arith, same)
 
   clashed_by : (held : Held) (kept : List ℕ) → get held (sha1 bytes) ≡ Some kept → kept ≢ bytes → put_under (sha1 bytes) bytes (get held (sha1 bytes)) ≡ clashes (sha1 bytes) kept bytes
   clashed_by held kept there differ = ap (put_under (sha1 bytes) bytes) there ∙ unequal (bytes_eq kept bytes) refl
@@ -124,7 +124,7 @@ module _ (bytes : List ℕ) where
   put_clash : (old new : Storing) (id kept new_bytes : List ℕ) → Counts old new → Clashes (object ∷ []) old.content new.content id kept new_bytes
       → DoesOnStore (act.PutObject bytes) old new (Err (Store (store.Clash id kept new_bytes)))
   put_clash old new id kept new_bytes counts clash =
-      let at = clash_at old.content new.content id kept new_bytes clash.front clash.behind clash.splits clash.adds in
+      let at = clash_at old.content new.content id kept new_bytes clash.prefix clash.behind clash.splits clash.adds in
       let was : Tells old.content (λ held. get held id ≡ Some kept) = subst (λ o. Tells o (λ held. get held id ≡ Some kept)) at.0 clash.was in
       record {
         store = record { holds = at.0; later = counts.faults; untouched = λ asked. absurd (true_is asked) };
@@ -139,7 +139,7 @@ module _ (bytes : List ℕ) where
   pub put_err : (fault : StoreFault) (old new : Storing) → Counts old new → StoresObject {A = List ℕ} object old new (Err fault) → DoesOnStore (act.PutObject bytes) old new (Err (of_store fault))
   put_err (store.StoreFailed note) old new counts does = record {
     store = record {
-      holds = front_added old.content new.content does.stores.1.front does.stores.1.behind does.stores.1.splits does.stores.1.adds;
+      holds = prefix_added old.content new.content does.stores.1.prefix does.stores.1.behind does.stores.1.splits does.stores.1.adds;
       later = counts.faults;
       untouched = λ asked. absurd (true_is asked);
     };

@@ -24,7 +24,7 @@ pub record HasRoom (limits : Limits) (clients ops : ℕ) : Type 0 where
 
 -- bytes that end so
 abbrev pub EndsWith : (last bytes : List ℕ) → Type 0
-EndsWith last bytes = (front : List ℕ) × (bytes ≡ front ++ last)
+EndsWith last bytes = (prefix : List ℕ) × (bytes ≡ prefix ++ last)
 
 -- both containers have the same state, and the last line that is written is `loaded same`
 pub record EndsSame (limits : Limits) (w : World) (number clients ops : ℕ) : Type 0 where

@@ -21,26 +21,26 @@ batched_same (suc a) (suc b) (m ∷ ms) x y =
     ap (λ rest. take most_in_event (m ∷ ms) ∷ rest)
     (batched_same a b (drop most_in_event (m ∷ ms)) (omega (arith, x, length-drop 63 ms)) (omega (arith, y, length-drop 63 ms)))
 
-take_front : (n : ℕ) (front behind : List Message) → length front ≡ n → take n (front ++ behind) ≡ front
-take_front zero [] behind is = refl
-take_front zero (m ∷ front) behind is = absurd (omega (arith, is))
-take_front (suc n) [] behind is = absurd (omega (arith, is))
-take_front (suc n) (m ∷ front) behind is = ap (λ rest. m ∷ rest) (take_front n front behind (omega (arith, is)))
+take_prefix : (n : ℕ) (prefix behind : List Message) → length prefix ≡ n → take n (prefix ++ behind) ≡ prefix
+take_prefix zero [] behind is = refl
+take_prefix zero (m ∷ prefix) behind is = absurd (omega (arith, is))
+take_prefix (suc n) [] behind is = absurd (omega (arith, is))
+take_prefix (suc n) (m ∷ prefix) behind is = ap (λ rest. m ∷ rest) (take_prefix n prefix behind (omega (arith, is)))
 
-drop_front : (n : ℕ) (front behind : List Message) → length front ≡ n → drop n (front ++ behind) ≡ behind
-drop_front zero [] behind is = refl
-drop_front zero (m ∷ front) behind is = absurd (omega (arith, is))
-drop_front (suc n) [] behind is = absurd (omega (arith, is))
-drop_front (suc n) (m ∷ front) behind is = drop_front n front behind (omega (arith, is))
+drop_prefix : (n : ℕ) (prefix behind : List Message) → length prefix ≡ n → drop n (prefix ++ behind) ≡ behind
+drop_prefix zero [] behind is = refl
+drop_prefix zero (m ∷ prefix) behind is = absurd (omega (arith, is))
+drop_prefix (suc n) [] behind is = absurd (omega (arith, is))
+drop_prefix (suc n) (m ∷ prefix) behind is = drop_prefix n prefix behind (omega (arith, is))
 
 -- as many messages as one event has, and others behind them
-full_batch : (front behind : List Message) → length front ≡ most_in_event → batches (front ++ behind) ≡ front ∷ batches behind
+full_batch : (prefix behind : List Message) → length prefix ≡ most_in_event → batches (prefix ++ behind) ≡ prefix ∷ batches behind
 unfolding batches
 full_batch [] behind is = absurd (omega (arith, is))
-full_batch (m ∷ front) behind is =
-    ap (λ first. first ∷ batched (length (front ++ behind)) (drop most_in_event (m ∷ (front ++ behind)))) (take_front most_in_event (m ∷ front) behind is)
-    ∙ ap (λ rest. (m ∷ front) ∷ batched (length (front ++ behind)) rest) (drop_front most_in_event (m ∷ front) behind is)
-    ∙ ap (λ rest. (m ∷ front) ∷ rest) (batched_same (length (front ++ behind)) (length behind) behind (omega (arith, length-append front behind)) (omega arith))
+full_batch (m ∷ prefix) behind is =
+    ap (λ first. first ∷ batched (length (prefix ++ behind)) (drop most_in_event (m ∷ (prefix ++ behind)))) (take_prefix most_in_event (m ∷ prefix) behind is)
+    ∙ ap (λ rest. (m ∷ prefix) ∷ batched (length (prefix ++ behind)) rest) (drop_prefix most_in_event (m ∷ prefix) behind is)
+    ∙ ap (λ rest. (m ∷ prefix) ∷ rest) (batched_same (length (prefix ++ behind)) (length behind) behind (omega (arith, length-append prefix behind)) (omega arith))
 
 none_batched : (n : ℕ) → batched n [] ≡ []
 none_batched zero = refl
@@ -59,12 +59,12 @@ drop_few zero (m ∷ ms) le = absurd (omega (arith, le))
 drop_few (suc n) (m ∷ ms) le = drop_few n ms (omega (arith, le))
 
 -- fewer than may be are one event
-last_batch : (m : Message) (front : List Message) → length (m ∷ front) ≤ most_in_event → batches (m ∷ front) ≡ (m ∷ front) ∷ []
+last_batch : (m : Message) (prefix : List Message) → length (m ∷ prefix) ≤ most_in_event → batches (m ∷ prefix) ≡ (m ∷ prefix) ∷ []
 unfolding batches
-last_batch m front few =
-    ap (λ first. first ∷ batched (length front) (drop most_in_event (m ∷ front))) (take_few most_in_event (m ∷ front) few)
-    ∙ ap (λ rest. (m ∷ front) ∷ batched (length front) rest) (drop_few most_in_event (m ∷ front) few)
-    ∙ ap (λ rest. (m ∷ front) ∷ rest) (none_batched (length front))
+last_batch m prefix few =
+    ap (λ first. first ∷ batched (length prefix) (drop most_in_event (m ∷ prefix))) (take_few most_in_event (m ∷ prefix) few)
+    ∙ ap (λ rest. (m ∷ prefix) ∷ batched (length prefix) rest) (drop_few most_in_event (m ∷ prefix) few)
+    ∙ ap (λ rest. (m ∷ prefix) ∷ rest) (none_batched (length prefix))
 
 -- ---- lines of events
 
@@ -97,12 +97,12 @@ module _ (c document : List ℕ) where
   pub event_last : (old mid new : List ℕ) (event all : List Message) → mid ++ event_lines c document (event ++ []) ≡ old ++ event_lines c document all → 0 < length event → length event ≤ most_in_event
       → new ≡ mid ++ written (reply_line c (Ops document event) ∷ []) → new ≡ old ++ event_lines c document all
   event_last old mid new [] all whole some few new_is = absurd (omega (arith, some))
-  event_last old mid new (m ∷ front) all whole some few new_is =
+  event_last old mid new (m ∷ prefix) all whole some few new_is =
       new_is
-      ∙ ap (λ bs. mid ++ written (map (reply_line c) (map (Ops document) bs))) (sym (last_batch m front few) ∙ ap batches (sym (append-nil (m ∷ front))))
+      ∙ ap (λ bs. mid ++ written (map (reply_line c) (map (Ops document) bs))) (sym (last_batch m prefix few) ∙ ap batches (sym (append-nil (m ∷ prefix))))
       ∙ whole
 
   -- no event is left
   pub event_none : (old mid : List ℕ) (event all : List Message) → mid ++ event_lines c document (event ++ []) ≡ old ++ event_lines c document all → length event ≡ 0 → mid ≡ old ++ event_lines c document all
   event_none old mid [] all whole none = sym (append-nil mid) ∙ ap (λ more. mid ++ more) (sym (no_lines c document)) ∙ whole
-  event_none old mid (m ∷ front) all whole none = absurd (omega (arith, none))
+  event_none old mid (m ∷ prefix) all whole none = absurd (omega (arith, none))

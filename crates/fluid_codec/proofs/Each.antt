@@ -8,9 +8,9 @@ use Rattle.fluid_types.specs.declared.fault.CodecFault.TheVariants.{NoMemory}
 use Rattle.fluid_codec.specs.Behind.{behind}
 use Rattle.fluid_codec.specs.Events.{each}
 
-joined : {A : Type 0} (xs : List A) (r q : Read (List A)) → behind xs (r >>= λ front. q >>= λ rest. Ok (front ++ rest)) ≡ (behind xs r >>= λ ys. behind ys q)
-joined xs (Ok front) (Ok rest) = ap Ok (sym (append_assoc xs front rest))
-joined xs (Ok front) (Err e) = refl
+joined : {A : Type 0} (xs : List A) (r q : Read (List A)) → behind xs (r >>= λ prefix. q >>= λ rest. Ok (prefix ++ rest)) ≡ (behind xs r >>= λ ys. behind ys q)
+joined xs (Ok prefix) (Ok rest) = ap Ok (sym (append_assoc xs prefix rest))
+joined xs (Ok prefix) (Err e) = refl
 joined xs (Err e) q = refl
 
 -- an item that was read

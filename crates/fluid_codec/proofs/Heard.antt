@@ -127,10 +127,10 @@ list_spelled : (f : Field) (ts : Trees) (ss : List Submission) → each (alone f
 unfolding each
 list_spelled f no_trees ss h = let same : [] ≡ ss = cc in subst (λ us. SpellEach SpellsSubmission us no_trees) same tt
 list_spelled f (tree t ts) ss h =
-    let front = bind_ok (alone f t) _ _ h in
-    let rest = bind_ok (each (alone f) ts) _ _ front.2 in
-    let one = alone_spelled f t front.0 front.1 in
-    let same : front.0 ++ rest.0 ≡ ss = cc in
+    let prefix = bind_ok (alone f t) _ _ h in
+    let rest = bind_ok (each (alone f) ts) _ _ prefix.2 in
+    let one = alone_spelled f t prefix.0 prefix.1 in
+    let same : prefix.0 ++ rest.0 ≡ ss = cc in
     subst (λ us. SpellEach SpellsSubmission us (tree t ts)) (ap (λ p. p ++ rest.0) (sym one.part_is) ∙ same) (one.spelled, list_spelled f ts rest.0 rest.1)
 
 list_read : (f : Field) (ts : Trees) (ss : List Submission) → SpellEach SpellsSubmission ss ts → each (alone f) ts ≡ Ok ss
@@ -169,14 +169,14 @@ parts_spelled : (f : Field) (ts : Trees) (ss : List Submission) → each (batch 
 unfolding each
 parts_spelled f no_trees ss h = let same : [] ≡ ss = cc in record { parts = []; each = tt; in_order = sym same }
 parts_spelled f (tree t ts) ss h =
-    let front = bind_ok (batch f t) _ _ h in
-    let rest = bind_ok (each (batch f) ts) _ _ front.2 in
+    let prefix = bind_ok (batch f t) _ _ h in
+    let rest = bind_ok (each (batch f) ts) _ _ prefix.2 in
     let more = parts_spelled f ts rest.0 rest.1 in
-    let same : front.0 ++ rest.0 ≡ ss = cc in
+    let same : prefix.0 ++ rest.0 ≡ ss = cc in
     record {
-      parts = front.0 ∷ more.parts;
-      each = (part_spelled f t front.0 front.1, more.each);
-      in_order = sym same ∙ ap (λ r. front.0 ++ r) more.in_order;
+      parts = prefix.0 ∷ more.parts;
+      each = (part_spelled f t prefix.0 prefix.1, more.each);
+      in_order = sym same ∙ ap (λ r. prefix.0 ++ r) more.in_order;
     }
 
 parts_read : (f : Field) (ts : Trees) (parts : List (List Submission)) → SpellEach SpellsPart parts ts → each (batch f) ts ≡ Ok (joined parts)

@@ -59,9 +59,9 @@ asked f t = do
 unfoldable pub each : {A : Type 0} → (Tree → Read (List A)) → Trees → Read (List A)
 each read no_trees = Ok []
 each read (tree t ts) = do
-  front ← read t
+  prefix ← read t
   rest ← each read ts
-  Ok (front ++ rest)
+  Ok (prefix ++ rest)
 
 abbrev pub alone : Form (List Submission)
 alone f t = do

@@ -99,11 +99,11 @@ module _ (name : List ℕ) (p m q : Knowing) (from next : ℕ) (old new : List R
       let grown = order-prefix m.seen q.seen takes.goes.seen in
       let was = brings.told told in
       let now = batched told in
-      let front : fed old ≡ slice (order_of q.seen) from next =
+      let prefix : fed old ≡ slice (order_of q.seen) from next =
       was.is ∙ sym (slice-grows (order_of m.seen) grown.0 from next first ordered was.within) ∙ ap (λ o. slice o from next) (sym grown.1) in
       let to : s.next ≡ next + length takes.messages = takes.puts.next in
       record {
-        is = fed_is ∙ ap (λ ms. ms ++ takes.messages) front ∙ ap (λ ms. slice (order_of q.seen) from next ++ ms) now.stretch
+        is = fed_is ∙ ap (λ ms. ms ++ takes.messages) prefix ∙ ap (λ ms. slice (order_of q.seen) from next ++ ms) now.stretch
             ∙ slice-joins (order_of q.seen) from next (next + length takes.messages) first ordered (omega arith) ∙ ap (λ n. slice (order_of q.seen) from n) (sym to);
         within = subst (λ n. n ≤ number_behind_last q.seen) (sym to) now.within;
       }

@@ -52,14 +52,14 @@ false_true same = cc
 -- ---- orders that go on
 
 order_longer : (a b : List (Numbered Step)) → IsPrefix a b → length (order_of a) ≤ length (order_of b)
-order_longer a b front =
-    let same : order_of b ≡ order_of a ++ order (ledger (entries front.0)) =
-    ap order_of front.1 ∙ ap (λ l. order (ledger l)) (entries-append a front.0)
-    ∙ ap order (ledger-append (entries a) (entries front.0)) ∙ order-append (ledger (entries a)) (ledger (entries front.0)) in
-    omega (arith, ap length same ∙ length-append (order_of a) (order (ledger (entries front.0))))
+order_longer a b prefix =
+    let same : order_of b ≡ order_of a ++ order (ledger (entries prefix.0)) =
+    ap order_of prefix.1 ∙ ap (λ l. order (ledger l)) (entries-append a prefix.0)
+    ∙ ap order (ledger-append (entries a) (entries prefix.0)) ∙ order-append (ledger (entries a)) (ledger (entries prefix.0)) in
+    omega (arith, ap length same ∙ length-append (order_of a) (order (ledger (entries prefix.0))))
 
 pub behind_later : (a b : List (Numbered Step)) → IsPrefix a b → number_behind_last a ≤ number_behind_last b
-behind_later a b front = omega (arith, order_longer a b front)
+behind_later a b prefix = omega (arith, order_longer a b prefix)
 
 -- a connected one with a later visit of its document
 pub talk_goes : (t u : Talked) (added : List Step) → IsTalk t → u.voice ≡ t.voice → Goes (pass_of t.visit) (pass_of u.visit) added

@@ -159,9 +159,9 @@ memory_cause q before now (a ∷ acts) = tt
 
 -- what is said to an entry that was done found no memory
 pub enters_lost : (s : VoiceState) (full : Bool) (p m : Knowing) (raw : Raw) (end : ActEnd) (one : DoesOne p m (act.Enter raw) end) → (full ≡ true → end ≡ FullNow)
-    → (front : List Reply) → IsPrefix front (entry_replies (document_name s) end) → (acts : List Act)
-    → EntersAll s full p m (act.Enter raw ∷ acts) (did_of (act.Enter raw) end one.found one.added ∷ []) front (Some NoMemory)
-enters_lost s full p m raw end one was front begins acts = record {
+    → (prefix : List Reply) → IsPrefix prefix (entry_replies (document_name s) end) → (acts : List Act)
+    → EntersAll s full p m (act.Enter raw ∷ acts) (did_of (act.Enter raw) end one.found one.added ∷ []) prefix (Some NoMemory)
+enters_lost s full p m raw end one was prefix begins acts = record {
   rest = acts;
   asked = refl;
   whole = λ none. absurd (some_none none);
@@ -171,7 +171,7 @@ enters_lost s full p m raw end one was front begins acts = record {
   goes = subst (λ added. Goes p m added) (sym (append-nil (one.added ++ []) ∙ append-nil one.added)) one.goes;
   found = (one.begins, ([], one.seen ∙ sym (append-nil (seen_behind p.number (did_of (act.Enter raw) end one.found one.added)))));
   answered = λ store. (one.answered store, tt);
-  told = subst (λ all. IsPrefix front all) (sym (append-nil (entry_replies (document_name s) end))) begins;
+  told = subst (λ all. IsPrefix prefix all) (sym (append-nil (entry_replies (document_name s) end))) begins;
 }
   where
     some_none : ◌≡◌ {A = Option TalkFault} (Some NoMemory) None → ⊥

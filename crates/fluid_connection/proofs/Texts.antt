@@ -21,7 +21,7 @@ use Rattle.fluid_talk.specs.Doing.{Did, ended}
 use Rattle.fluid_connection.specs.declared.telling.Counts.{Counts}
 use Rattle.fluid_connection.specs.declared.telling.Answered.{Answered as ATold}
 use Rattle.fluid_connection.specs.Entering.{IsFullAt, LimitBy, did_of, DoesOne, FailsOne}
-use Rattle.fluid_connection.specs.Telling.{HasRoom, no_counts, with_end, with_ends, full_behind, TellsFront}
+use Rattle.fluid_connection.specs.Telling.{HasRoom, no_counts, with_end, with_ends, full_behind, TellsPrefix}
 use Rattle.fluid_connection.specs.Running.{EntersAll, EntersText, IsSubmit, AreSubmissions, NextEntered, NextStops, NextDoes, lost}
 use Rattle.fluid_connection.proofs.Running.{goes_nowhere, enters_more, enters_none, enters_fails, enters_lost}
 
@@ -105,8 +105,8 @@ counts_more c a end done = same_counts _ _ _ _ _ _ _ _ (omega arith) (omega arit
 module _ (s : VoiceState) (old new : ATold) (p m : Knowing) (raw : Raw) (is : IsSubmit raw) where
   pub next_told : (end : ActEnd) (one : DoesOne p m (act.Enter raw) end) → (old.full ≡ true → end ≡ FullNow) → new.counts ≡ with_end old.counts end → new.full ≡ full_behind old.full end
       → (result : Result (Unit {0}) NoMemory) → IfOk result (λ _. new.replies.items ≡ old.replies.items ++ entry_replies (document_name s) end)
-      → IfErr result (λ _. TellsFront (entry_replies (document_name s) end) old.replies.items new.replies.items) → NextDoes s old new p m (act.Enter raw) (lost result)
-  next_told end one was counts full (Ok done) said front = record {
+      → IfErr result (λ _. TellsPrefix (entry_replies (document_name s) end) old.replies.items new.replies.items) → NextDoes s old new p m (act.Enter raw) (lost result)
+  next_told end one was counts full (Ok done) said prefix = record {
     did = did_of (act.Enter raw) end one.found one.added;
     more = entry_replies (document_name s) end;
     leads = λ q acts done replies fault h. enters_more s old.full p m q raw end one was (submit_stays s raw end is) acts done replies fault (subst (λ b. EntersAll s b m q acts done replies fault) full h);
@@ -114,11 +114,11 @@ module _ (s : VoiceState) (old new : ATold) (p m : Knowing) (raw : Raw) (is : Is
     counts = counts;
     full = λ now_full. subst (λ e. LimitBy e m) (full_now old.full end was (sym full ∙ now_full)) one.limit;
   }
-  next_told end one was counts full (Err refused) said front = record {
+  next_told end one was counts full (Err refused) said prefix = record {
     done = did_of (act.Enter raw) end one.found one.added ∷ [];
-    more = front.front;
-    stops = enters_lost s old.full p m raw end one was front.front front.begins;
-    said = front.said;
+    more = prefix.prefix;
+    stops = enters_lost s old.full p m raw end one was prefix.prefix prefix.begins;
+    said = prefix.said;
     counts = counts ∙ counts_one old.counts (act.Enter raw) end;
   }
 

@@ -55,11 +55,11 @@ full_behind false end = is_full_end end
 
 -- ---- replies
 
--- a front of these was said behind others
-pub record TellsFront (all old new : List Reply) : Type 0 where
-  pub front : List Reply
-  pub begins : IsPrefix front all
-  pub said : new ≡ old ++ front
+-- a prefix of these was said behind others
+pub record TellsPrefix (all old new : List Reply) : Type 0 where
+  pub prefix : List Reply
+  pub begins : IsPrefix prefix all
+  pub said : new ≡ old ++ prefix
 
 -- what was said to one act alone, of which nothing is counted: all of it, or nothing for want of memory
 abbrev pub SaysOne : Result (List Reply) NoMemory → Answered → Option TalkFault → Type 0

@@ -2,7 +2,7 @@
 ghost use Rattle.std.specs.Prelude.{◌≡◌, ◌∷◌, [], ◌++◌, false, IfOk, IfErr};
 ghost use Rattle.fluid_voice.specs.States.{document_name};
 ghost use Rattle.fluid_voice.specs.Replies.{entry_replies};
-ghost use Rattle.fluid_connection.specs.Telling.{HasRoom, no_counts, with_end, full_behind, TellsFront, SaysOne};
+ghost use Rattle.fluid_connection.specs.Telling.{HasRoom, no_counts, with_end, full_behind, TellsPrefix, SaysOne};
 
 use fluid_ends::TalkFault;
 use fluid_json::NoMemory;
@@ -63,13 +63,13 @@ impl Answered {
         }
     }
 
-    /// Notes how an entry ended, and says what is to be said to it. For want of memory a front of that is said.
+    /// Notes how an entry ended, and says what is to be said to it. For want of memory a prefix of that is said.
     pub(crate) fn say(&mut self, alloc: Global, voice: &Voice, end: ActEnd) -> Result<(), NoMemory>
         requires { HasRoom self.old.counts }
         ensures counts { self.new.counts ≡ with_end self.old.counts end }
         ensures full { self.new.full ≡ full_behind self.old.full end }
         ensures said { IfOk result (λ _. self.new.replies.items ≡ self.old.replies.items ++ entry_replies (document_name voice.now) end) }
-        ensures front { IfErr result (λ _. TellsFront (entry_replies (document_name voice.now) end) self.old.replies.items self.new.replies.items) }
+        ensures prefix { IfErr result (λ _. TellsPrefix (entry_replies (document_name voice.now) end) self.old.replies.items self.new.replies.items) }
     {
         self.counts = with_end(self.counts, &end);
         self.full = full_behind(self.full, &end);
@@ -93,7 +93,7 @@ pub(crate) fn say_one(
 
 fn add(replies: &mut Vec<Reply>, more: Replies) -> Result<(), NoMemory>
     ensures said { IfOk result (λ _. replies.new.items ≡ replies.old.items ++ more) }
-    ensures front { IfErr result (λ _. TellsFront more replies.old.items replies.new.items) }
+    ensures prefix { IfErr result (λ _. TellsPrefix more replies.old.items replies.new.items) }
 {
     for reply in more.into_vec() {
         push(replies, reply)?;

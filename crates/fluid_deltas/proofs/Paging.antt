@@ -20,8 +20,8 @@ joined_length (page ∷ pages) each =
     let first : length page ≡ 256 = each 0 page (omega arith) in
     omega (arith, length-append page (joined pages), first, joined_length pages (whole_behind page pages each))
 
-front_page : (page rest : List Message) → length page ≡ 256 → take 256 (page ++ rest) ≡ page
-front_page page rest count = ap (λ n. take n (page ++ rest)) (sym count) ∙ take-append_seam page rest
+prefix_page : (page rest : List Message) → length page ≡ 256 → take 256 (page ++ rest) ≡ page
+prefix_page page rest count = ap (λ n. take n (page ++ rest)) (sym count) ∙ take-append_seam page rest
 
 behind_page : (page rest : List Message) (k : ℕ) → length page ≡ 256 → drop (256 * suc k) (page ++ rest) ≡ drop (256 * k) rest
 behind_page page rest k count =
@@ -33,7 +33,7 @@ pub full_page : (full : List (List Message)) (last : List Message) (k : ℕ) (pa
 full_page [] last k page each lt is = absurd (omega arith)
 full_page (first ∷ pages) last zero page each lt is =
     let rest = joined pages ++ last in
-    is ∙ sym (front_page first rest (each 0 first (omega arith))) ∙ ap (take 256) (sym (append_assoc first (joined pages) last))
+    is ∙ sym (prefix_page first rest (each 0 first (omega arith))) ∙ ap (take 256) (sym (append_assoc first (joined pages) last))
 full_page (first ∷ pages) last (suc k) page each lt is =
     let rest = joined pages ++ last in
     full_page pages last k page (whole_behind first pages each) (omega arith) is

@@ -16,28 +16,28 @@ use Rattle.fluid_types.proofs.Numbers.{numbered_same, numbered_take, numbered_dr
 use Rattle.fluid_deltas.specs.Pushed.{Pushed, pushed, IsKeepable, IsFull, DropsPage, AreInOrder, AreDeltasOf, ArePartOf, StandIn, StandFor, slice}
 use Rattle.fluid_deltas.specs.Stored.{delta_message, in_front, then_others, delta_messages}
 use Rattle.fluid_deltas.specs.Ranges.{AreNumbersOf, IsAnswer, IsSlice, held_between, deltas_between, followed_by, range_of}
-use Rattle.fluid_deltas.specs.Flushes.{lacking, lacking_up_to, put_behind, Puts, PutsFront, PutsAll, AreAll}
+use Rattle.fluid_deltas.specs.Flushes.{lacking, lacking_up_to, put_behind, Puts, PutsPrefix, PutsAll, AreAll}
 use Rattle.fluid_deltas.proofs.Paging.{take_shorter}
 use Rattle.fluid_deltas.proofs.Reading.{drop_at}
 use Rattle.fluid_deltas.proofs.Telling.{tells_from, tells_both, tells_along, tells_becomes}
 
 -- ---- lists
 
--- a list is its front and the rest, at an end that is above the place
+-- a list is its prefix and the rest, at an end that is above the place
 join : (order : List Message) (s e b : ℕ) → s ≤ e → take (min e b - s) (drop s order) ++ take (e - max s b) (drop (max s b) order) ≡ take (e - s) (drop s order)
 join order s e b le =
-    let front = min e b - s in
+    let prefix = min e b - s in
     let behind = e - max s b in
-    let all : front + behind ≡ e - s = omega arith in
-    let parts : take (e - s) (drop s order) ≡ take front (drop s order) ++ take behind (drop (s + front) order) =
-    ap (λ n. take n (drop s order)) (sym all) ∙ take-add front behind (drop s order) ∙ ap (λ rest. take front (drop s order) ++ take behind rest) (drop-drop front s order) in
+    let all : prefix + behind ≡ e - s = omega arith in
+    let parts : take (e - s) (drop s order) ≡ take prefix (drop s order) ++ take behind (drop (s + prefix) order) =
+    ap (λ n. take n (drop s order)) (sym all) ∙ take-add prefix behind (drop s order) ∙ ap (λ rest. take prefix (drop s order) ++ take behind rest) (drop-drop prefix s order) in
     ⊎_elim
     (λ (lt : b < e).
-    let at : s + front ≡ max s b = omega arith in
-    sym (parts ∙ ap (λ n. take front (drop s order) ++ take behind (drop n order)) at))
+    let at : s + prefix ≡ max s b = omega arith in
+    sym (parts ∙ ap (λ n. take prefix (drop s order) ++ take behind (drop n order)) at))
     (λ (le : e ≤ b).
     let none : behind ≡ 0 = omega arith in
-    ap (λ n. take front (drop s order) ++ take n (drop (max s b) order)) none ∙ sym (parts ∙ ap (λ n. take front (drop s order) ++ take n (drop (s + front) order)) none))
+    ap (λ n. take prefix (drop s order) ++ take n (drop (max s b) order)) none ∙ sym (parts ∙ ap (λ n. take prefix (drop s order) ++ take n (drop (s + prefix) order)) none))
     (cases_lt b e)
 
 -- ---- the messages in memory
@@ -155,21 +155,21 @@ collected_numbers d from to first held low ordered high numbers =
     let s = from - 1 in
     let e = to - 1 in
     let b = d.before in
-    let front : AreNumberedFrom from first = numbered_same first (s + 1) from (omega arith) numbers.numbered in
+    let prefix : AreNumberedFrom from first = numbered_same first (s + 1) from (omega arith) numbers.numbered in
     ⊎_elim
     (λ (lt : b < e).
     let rest = drop (s - b) d.held in
     let size : length (take (e - max s b) rest) ≡ e - max s b = omega (arith, length-take (e - max s b) rest, length-drop (s - b) d.held) in
     let next : b + 1 + (s - b) ≡ from + length first = omega (arith, numbers.count) in
     record {
-      numbered = numbered_append first (take (e - max s b) rest) from front
+      numbered = numbered_append first (take (e - max s b) rest) from prefix
           (numbered_same (take (e - max s b) rest) _ _ next (numbered_take rest (b + 1 + (s - b)) (e - max s b) (numbered_drop d.held (b + 1) (s - b) held)));
       count = omega (arith, numbers.count, size, length-append first (take (e - max s b) rest));
     })
     (λ (le : e ≤ b).
     let none : e - max s b ≡ 0 = omega arith in
     let same : first ++ held_between d s e ≡ first = ap (λ n. first ++ take n (drop (s - b) d.held)) none ∙ append-nil first in
-    subst (AreNumbersOf from to) (sym same) (record { numbered = front; count = omega (arith, numbers.count) }))
+    subst (AreNumbersOf from to) (sym same) (record { numbered = prefix; count = omega (arith, numbers.count) }))
     (cases_lt b e)
 
 -- ---- one more message
@@ -191,11 +191,11 @@ push_in_order before last held m in_order next keepable = record {
 -- one more message of the order is in memory
 pub push_part : (old new : Pushed) (order : List Message) (m : Message) → new.before ≡ old.before → new.held ≡ old.held ++ m ∷ [] → slice_get order (pushed old) ≡ Some m → ArePartOf old order → ArePartOf new order
 push_part old new order m before held at part =
-    let front = part.first ++ old.held in
-    let sides : order ≡ front ++ part.behind = part.splits ∙ sym (append_assoc part.first old.held part.behind) in
-    let count : length front ≡ pushed old = omega (arith, length-append part.first old.held, part.before) in
+    let prefix = part.first ++ old.held in
+    let sides : order ≡ prefix ++ part.behind = part.splits ∙ sym (append_assoc part.first old.held part.behind) in
+    let count : length prefix ≡ pushed old = omega (arith, length-append part.first old.held, part.before) in
     let next : part.behind ≡ m ∷ drop (suc (pushed old)) order =
-    sym (drop-append_seam front part.behind) ∙ ap (drop (length front)) (sym sides) ∙ ap (λ n. drop n order) count ∙ drop_at order (pushed old) m at in
+    sym (drop-append_seam prefix part.behind) ∙ ap (drop (length prefix)) (sym sides) ∙ ap (λ n. drop n order) count ∙ drop_at order (pushed old) m at in
     record {
       first = part.first;
       behind = drop (suc (pushed old)) order;
@@ -277,8 +277,8 @@ take_both xs a b =
     (cases_lt a b)
 
 -- the first of the messages that a keeper lacks are those of the order behind its deltas
-lacking_front : (d : Pushed) (order : List Message) (n count : ℕ) → ArePartOf d order → d.before ≤ n → (k : ℕ) × (take count (lacking d n) ≡ take k (drop n order))
-lacking_front d order n count part reached =
+lacking_prefix : (d : Pushed) (order : List Message) (n count : ℕ) → ArePartOf d order → d.before ≤ n → (k : ℕ) × (take count (lacking d n) ≡ take k (drop n order))
+lacking_prefix d order n count part reached =
     let from = n - d.before in
     let held = length d.held in
     ⊎_elim
@@ -320,17 +320,17 @@ put_deltas order deltas count ms are is texts =
       first = are.first
           ∙ ap (λ rest. deltas ++ rest) (sym (take-append-drop count are.rest))
           ∙ sym (append_assoc deltas (take count are.rest) (drop count are.rest))
-          ∙ ap (λ front. deltas ++ front ++ drop count are.rest) (sym printed);
+          ∙ ap (λ prefix. deltas ++ prefix ++ drop count are.rest) (sym printed);
       texts = All-append IsText deltas (map message_printed ms) are.texts (All-map IsText message_printed ms texts);
     }
 
-front_stands : (d : Pushed) (order : List Message) (content : Content) (count : ℕ) (ms : List Message) → StandIn d order content → ms ≡ take count (lacking d (length content.deltas)) → All (λ m. IsText (message_printed m)) ms
+prefix_stands : (d : Pushed) (order : List Message) (content : Content) (count : ℕ) (ms : List Message) → StandIn d order content → ms ≡ take count (lacking d (length content.deltas)) → All (λ m. IsText (message_printed m)) ms
     → StandIn d order (put_behind ms content)
-front_stands d order content count ms stands is texts =
-    let front = lacking_front d order (length content.deltas) count stands.part stands.reached in
+prefix_stands d order content count ms stands is texts =
+    let prefix = lacking_prefix d order (length content.deltas) count stands.part stands.reached in
     record {
       part = stands.part;
-      deltas = put_deltas order content.deltas front.0 ms stands.deltas (is ∙ front.1) texts;
+      deltas = put_deltas order content.deltas prefix.0 ms stands.deltas (is ∙ prefix.1) texts;
       reached = omega (arith, stands.reached, length-append content.deltas (map message_printed ms));
     }
 
@@ -355,12 +355,12 @@ pub put_stands : (d : Pushed) (order : List Message) (old new : Keeping) (count 
 put_stands d order old new count ms sized is puts stands =
     tells_along _ _ (StandIn d order) (sym puts.kept.content)
     (tells_becomes old.content (put_behind ms) (SizedStand old d order) (StandIn d order)
-    (λ c both. front_stands d order c count ms both.1 (is ∙ ap (λ n. take count (lacking d n)) both.0.deltas) puts.texts)
+    (λ c both. prefix_stands d order c count ms both.1 (is ∙ ap (λ n. take count (lacking d n)) both.0.deltas) puts.texts)
     (sized_stand old d order sized stands))
 
-pub front_put_stands : (d : Pushed) (order : List Message) (old new : Keeping) (end : ℕ) → IsSized old → PutsFront (lacking_up_to d old.deltas end) old new
+pub prefix_put_stands : (d : Pushed) (order : List Message) (old new : Keeping) (end : ℕ) → IsSized old → PutsPrefix (lacking_up_to d old.deltas end) old new
     → Tells old.content (StandIn d order) → Tells new.content (StandIn d order)
-front_put_stands d order old new end sized puts stands =
+prefix_put_stands d order old new end sized puts stands =
     let all = lacking d old.deltas in
     let within : puts.count ≤ end - old.deltas = omega (arith, puts.within, length-take (end - old.deltas) all) in
     put_stands d order old new puts.count _ sized (take_shorter all puts.count (end - old.deltas) within) puts.puts stands

@@ -35,7 +35,7 @@ PutsOne message old new (Ok done) = Puts (message ∷ []) old new
 PutsOne message old new (Err fault) = KeepsSame old new
 
 -- some of the messages from the front were put, maybe none, and not all
-pub record PutsFront (messages : List Message) (old new : Keeping) : Type 0 where
+pub record PutsPrefix (messages : List Message) (old new : Keeping) : Type 0 where
   pub count : ℕ
   pub within : count < length messages
   pub puts : Puts (take count messages) old new
@@ -43,7 +43,7 @@ pub record PutsFront (messages : List Message) (old new : Keeping) : Type 0 wher
 -- all were put, or after a fault some from the front
 abbrev pub PutsAll : List Message → Keeping → Keeping → Result (Unit {0}) DeltaFault → Type 0
 PutsAll messages old new (Ok done) = Puts messages old new
-PutsAll messages old new (Err fault) = PutsFront messages old new
+PutsAll messages old new (Err fault) = PutsPrefix messages old new
 
 -- what putting messages leaves beside the deltas: a fault is one of the keeper that failed, or want of memory
 pub record Writes (old new : Keeping) (result : Result (Unit {0}) DeltaFault) : Type 0 where

@@ -238,7 +238,7 @@ module _ (limits : Limits) (w : World) (d : Document) (name : List ℕ) (before 
     clashed id kept bytes s result puts_it of line =
         let told = told_put (Err (store.Clash id kept bytes)) puts_it in
         let put = subst (λ p. IsPutting {A = Bool} p now.content (Err (store.Clash id kept bytes))) same_puts told.put in
-        let there : is_some now.content ≡ true = ap is_some (put_of told.stores.front before.content now.content w.store held told.stores.adds) in
+        let there : is_some now.content ≡ true = ap is_some (put_of told.stores.prefix before.content now.content w.store held told.stores.adds) in
         let clash : Clashing = record { id = id; kept = kept; bytes = bytes } in
         by_clash (Some clash) put.0 s result
         (with_line (reported_as w (ledger_of d) name j found_it puts (Some clash)) s (lines.scribe_clash_line name id) result (same limits s d of) refl (held_is now.content puts.held there put.1) line)

@@ -39,15 +39,15 @@ pub end_cut : (records : List (List ℕ)) (gate : ℕ) (behind image : List ℕ)
     → Cut to (spelled records ++ gate ∷ behind) image → Finds records image
 end_cut records gate behind image to place finds (inl is) = subst (Finds records) (sym is) finds
 end_cut records gate behind image to place finds (inr is) =
-    let front = spelled records ++ gate ∷ [] in
-    let size : length front ≡ to = omega (arith, place, length-append (spelled records) (gate ∷ [])) in
-    finds_short records image (gate ∷ []) finds.short (is ∙ ap (λ (l : List ℕ). take to l) (sym (append_assoc (spelled records) (gate ∷ []) behind)) ∙ take_at front behind to size) (omega arith)
+    let prefix = spelled records ++ gate ∷ [] in
+    let size : length prefix ≡ to = omega (arith, place, length-append (spelled records) (gate ∷ [])) in
+    finds_short records image (gate ∷ []) finds.short (is ∙ ap (λ (l : List ℕ). take to l) (sym (append_assoc (spelled records) (gate ∷ []) behind)) ∙ take_at prefix behind to size) (omega arith)
 
 pub end_left : (records : List (List ℕ)) (gate : ℕ) (behind : List ℕ) (to : ℕ) → to ≡ length (spelled records) + 1 → take to (spelled records ++ gate ∷ behind) ≡ spelled records ++ gate ∷ []
 end_left records gate behind to place =
-    let front = spelled records ++ gate ∷ [] in
-    let size : length front ≡ to = omega (arith, place, length-append (spelled records) (gate ∷ [])) in
-    ap (λ (l : List ℕ). take to l) (sym (append_assoc (spelled records) (gate ∷ []) behind)) ∙ take_at front behind to size
+    let prefix = spelled records ++ gate ∷ [] in
+    let size : length prefix ≡ to = omega (arith, place, length-append (spelled records) (gate ∷ [])) in
+    ap (λ (l : List ℕ). take to l) (sym (append_assoc (spelled records) (gate ∷ []) behind)) ∙ take_at prefix behind to size
 
 -- the byte at the end of the records, where one stands there
 pub record HasGate (records : List (List ℕ)) (held : List ℕ) : Type 0 where
@@ -55,9 +55,9 @@ pub record HasGate (records : List (List ℕ)) (held : List ℕ) : Type 0 where
   pub behind : List ℕ
   pub splits : held ≡ spelled records ++ gate ∷ behind
 
-gate_in : (front : List ℕ) (end held : List ℕ) → held ≡ front ++ end → length front < length held → (gate : ℕ) × (behind : List ℕ) × (held ≡ front ++ gate ∷ behind)
-gate_in front [] held is lt = absurd (omega (arith, lt, ap length is, length-append front []))
-gate_in front (gate ∷ behind) held is lt = (gate, behind, is)
+gate_in : (prefix : List ℕ) (end held : List ℕ) → held ≡ prefix ++ end → length prefix < length held → (gate : ℕ) × (behind : List ℕ) × (held ≡ prefix ++ gate ∷ behind)
+gate_in prefix [] held is lt = absurd (omega (arith, lt, ap length is, length-append prefix []))
+gate_in prefix (gate ∷ behind) held is lt = (gate, behind, is)
 
 pub has_gate : (records : List (List ℕ)) (held : List ℕ) → Finds records held → length (spelled records) < length held → HasGate records held
 has_gate records held finds lt = let g = gate_in (spelled records) finds.end held finds.splits lt in record { gate = g.0; behind = g.1; splits = g.2 }

@@ -14,9 +14,9 @@ pub undone_written : (at : ℕ) (bytes held : List ℕ) → at ≤ length held �
 undone_written at bytes held le =
     let n = length bytes in
     let back = drop (at + n) held in
-    let front : length (take at held) ≡ at = length-take-le at held le in
-    let both : length (take at held ++ bytes) ≡ at + n = omega (arith, length-append (take at held) bytes, front) in
-    let before : take at (overwritten at bytes held) ≡ take at held = ap (λ (l : List ℕ). take at l) (append_assoc (take at held) bytes back) ∙ take_at (take at held) (bytes ++ back) at front in
+    let prefix : length (take at held) ≡ at = length-take-le at held le in
+    let both : length (take at held ++ bytes) ≡ at + n = omega (arith, length-append (take at held) bytes, prefix) in
+    let before : take at (overwritten at bytes held) ≡ take at held = ap (λ (l : List ℕ). take at l) (append_assoc (take at held) bytes back) ∙ take_at (take at held) (bytes ++ back) at prefix in
     let after : drop (at + n) (overwritten at bytes held) ≡ back = drop_at (take at held ++ bytes) back (at + n) both in
     ap (λ (l : List ℕ). (l ++ take n (drop at held)) ++ drop (at + n) (overwritten at bytes held)) before
     ∙ ap (λ (l : List ℕ). (take at held ++ take n (drop at held)) ++ l) after

@@ -38,17 +38,17 @@ ordered (suc m) (suc n) = elim (ordered m n) [
   | inr lt ↦ inr (omega (arith, lt))
 ]
 
--- what stands within a front
-within_front : (at count front : ℕ) (bytes : List ℕ) → at + count ≤ front → take count (drop at bytes) ≡ take count (drop at (take front bytes))
-within_front at count front bytes le =
-    sym (drop-take at count bytes) ∙ ap (λ (l : List ℕ). drop at l) (sym (take-take (at + count) front bytes le)) ∙ drop-take at count (take front bytes)
+-- what stands within a prefix
+within_prefix : (at count prefix : ℕ) (bytes : List ℕ) → at + count ≤ prefix → take count (drop at bytes) ≡ take count (drop at (take prefix bytes))
+within_prefix at count prefix bytes le =
+    sym (drop-take at count bytes) ∙ ap (λ (l : List ℕ). drop at l) (sym (take-take (at + count) prefix bytes le)) ∙ drop-take at count (take prefix bytes)
 
-record_in : (front bytes rest : List ℕ) (gate : ℕ) → take (length bytes) (drop (length front + 5) (front ++ gate ∷ (framed bytes ++ rest))) ≡ bytes
-record_in front bytes rest gate =
+record_in : (prefix bytes rest : List ℕ) (gate : ℕ) → take (length bytes) (drop (length prefix + 5) (prefix ++ gate ∷ (framed bytes ++ rest))) ≡ bytes
+record_in prefix bytes rest gate =
     let head = to_be_bytes w32 (length bytes) in
     let behind : drop 5 (gate ∷ (framed bytes ++ rest)) ≡ bytes ++ rest = ap (λ (l : List ℕ). drop 4 l) (append_assoc head bytes rest) ∙ drop_at head (bytes ++ rest) 4 refl in
     ap (λ (l : List ℕ). take (length bytes) l)
-    (sym (drop-drop 5 (length front) (front ++ gate ∷ (framed bytes ++ rest))) ∙ ap (λ (l : List ℕ). drop 5 l) (drop_at front (gate ∷ (framed bytes ++ rest)) (length front) refl) ∙ behind)
+    (sym (drop-drop 5 (length prefix) (prefix ++ gate ∷ (framed bytes ++ rest))) ∙ ap (λ (l : List ℕ). drop 5 l) (drop_at prefix (gate ∷ (framed bytes ++ rest)) (length prefix) refl) ∙ behind)
     ∙ take_at bytes rest (length bytes) refl
 
 -- the bytes of record n
@@ -56,12 +56,12 @@ pub there : (n : ℕ) (records : List (List ℕ)) (held : List ℕ) → n < leng
     → take (length (get_or records n [])) (drop (gate_before n records + 5) held) ≡ get_or records n []
 there n records held lt rest =
     let one = get_or records n [] in
-    let front = spelled (take n records) in
+    let prefix = spelled (take n records) in
     let back = spelled (drop (n + 1) records) in
-    let is : held ≡ front ++ 1 ∷ (framed one ++ (back ++ rest.gate ∷ rest.behind)) =
-    rest.splits ∙ ap (λ (l : List ℕ). l ++ rest.gate ∷ rest.behind) (opened_at n records lt) ∙ append_assoc front (1 ∷ (framed one ++ back)) (rest.gate ∷ rest.behind)
-    ∙ ap (λ (l : List ℕ). front ++ 1 ∷ l) (append_assoc (framed one) back (rest.gate ∷ rest.behind)) in
-    ap (λ (l : List ℕ). take (length one) (drop (length front + 5) l)) is ∙ record_in front one (back ++ rest.gate ∷ rest.behind) 1
+    let is : held ≡ prefix ++ 1 ∷ (framed one ++ (back ++ rest.gate ∷ rest.behind)) =
+    rest.splits ∙ ap (λ (l : List ℕ). l ++ rest.gate ∷ rest.behind) (opened_at n records lt) ∙ append_assoc prefix (1 ∷ (framed one ++ back)) (rest.gate ∷ rest.behind)
+    ∙ ap (λ (l : List ℕ). prefix ++ 1 ∷ l) (append_assoc (framed one) back (rest.gate ∷ rest.behind)) in
+    ap (λ (l : List ℕ). take (length one) (drop (length prefix + 5) l)) is ∙ record_in prefix one (back ++ rest.gate ∷ rest.behind) 1
 
 there_push : (n : ℕ) (records : List (List ℕ)) (last held : List ℕ) → n < length records → IsAtRest (records ++ last ∷ []) held
     → take (length (get_or records n [])) (drop (gate_before n records + 5) held) ≡ get_or records n []
@@ -87,7 +87,7 @@ there_but n m records held lt but =
           ap (λ (l : List ℕ). take (length one) l) same ∙ whole
       | inr before ↦
           let le : at + length one ≤ gate = gate_order n m records before lt in
-          within_front at (length one) gate held le ∙ ap (λ (l : List ℕ). take (length one) (drop at l)) but.torn.before ∙ sym (within_front at (length one) gate but.whole le) ∙ whole
+          within_prefix at (length one) gate held le ∙ ap (λ (l : List ℕ). take (length one) (drop at l)) but.torn.before ∙ sym (within_prefix at (length one) gate but.whole le) ∙ whole
     ]
 
 -- whatever is in progress or owed

@@ -17,8 +17,8 @@ cutting_some : (count : ℕ) → Cutting count ≢ Nothing
 cutting_some count is = let wrong : 1 ≡ 0 = ap owing_is is in absurd (omega (arith, wrong))
 
 -- a gate further in front stands further in front
-pub front_shorter : (n : ℕ) (records : List (List ℕ)) → gate_before n records ≤ length (spelled records)
-front_shorter n records = omega (arith, ap length (spelled_split n records), length-append (spelled (take n records)) (spelled (drop n records)))
+pub prefix_shorter : (n : ℕ) (records : List (List ℕ)) → gate_before n records ≤ length (spelled records)
+prefix_shorter n records = omega (arith, ap length (spelled_split n records), length-append (spelled (take n records)) (spelled (drop n records)))
 
 -- ---- which gate an append that failed left
 
@@ -90,7 +90,7 @@ module _ {D : Type 0} (seen : D → Stored) (may_leave : D → List ℕ → Type
   dropped records count old new gates owed s leaves below longer writes durable =
       settles seen may_leave (take count records) new (take (suc count) gates)
       (ap (λ (l : List ℕ). take (suc count) l) s.gates_are ∙ take_gates 0 count records (omega (arith, below))) (short_take count records s.short)
-      (omega (arith, front_shorter count records, s.room, longer)) durable
+      (omega (arith, prefix_shorter count records, s.room, longer)) durable
       (λ held told.
       let h = mapped_from (overwritten (gate_before count records) (0 ∷ [])) (seen old).bytes (seen new).bytes held writes.bytes told in
       subst (IsAtRest (take count records)) (sym h.2) (cut_off count records h.0 below (at_rest seen may_leave records old gates owed h.0 s leaves h.1)))

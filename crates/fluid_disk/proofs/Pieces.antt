@@ -5,7 +5,7 @@ use Rattle.fluid_disk.specs.Disk.{Stored, StaysAsRead, Elapses}
 use Rattle.fluid_disk.specs.Files.{OnlyReads}
 use Rattle.fluid_disk.proofs.Moments.{started, goes_on, chained, weaker}
 
--- a front, and the front of what stands behind it
+-- a prefix, and the prefix of what stands behind it
 pub take_add : (a b : ℕ) (xs : List ℕ) → take (a + b) xs ≡ take a xs ++ take b (drop a xs)
 take_add a b xs =
     sym (take-append-drop a (take (a + b) xs)) ∙ ap (λ (l : List ℕ). l ++ drop a (take (a + b) xs)) (take-take a (a + b) xs (omega arith))
@@ -15,10 +15,10 @@ take_add a b xs =
 pub filled_more : (done n at : ℕ) (held before rest : List ℕ) → take done before ≡ take done (drop at held) → done ≤ length before → n ≤ length (drop (at + done) held)
     → take (done + n) (take done before ++ (take n (drop (at + done) held) ++ rest)) ≡ take (done + n) (drop at held)
 filled_more done n at held before rest so_far within there =
-    let front = take done before in
+    let prefix = take done before in
     let more = take n (drop (at + done) held) in
-    let size : length (front ++ more) ≡ done + n = omega (arith, length-append front more, length-take-le done before within, length-take-le n (drop (at + done) held) there) in
-    ap (λ (l : List ℕ). take (done + n) l) (sym (append_assoc front more rest)) ∙ take_at (front ++ more) rest (done + n) size
+    let size : length (prefix ++ more) ≡ done + n = omega (arith, length-append prefix more, length-take-le done before within, length-take-le n (drop (at + done) held) there) in
+    ap (λ (l : List ℕ). take (done + n) l) (sym (append_assoc prefix more rest)) ∙ take_at (prefix ++ more) rest (done + n) size
     ∙ ap (λ (l : List ℕ). l ++ more) so_far ∙ ap (λ (l : List ℕ). take done (drop at held) ++ take n l) (sym (drop-drop done at held)) ∙ sym (take_add done n (drop at held))
 
 -- the same of a part of the buffer that was lent

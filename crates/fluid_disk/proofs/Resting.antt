@@ -9,7 +9,7 @@ use Rattle.fluid_disk.specs.Files.{Owing, Nothing, Appending, Cutting, Opens, Is
 use Rattle.fluid_disk.proofs.Tears.{torn_same, torn_twice, one_torn, one_written, torn_behind, written_behind}
 use Rattle.fluid_disk.proofs.Rows.{spelled_push, opened_at}
 
--- the front of a file at rest, with its last gate
+-- the prefix of a file at rest, with its last gate
 with_gate : (records : List (List ℕ)) (bytes : List ℕ) (rest : IsAtRest records bytes) → bytes ≡ (spelled records ++ rest.gate ∷ []) ++ rest.behind
 with_gate records bytes rest = rest.splits ∙ sym (append_assoc (spelled records) (rest.gate ∷ []) rest.behind)
 
@@ -24,10 +24,10 @@ gate_of_rest records bytes rest = ap (λ (l : List ℕ). get_or l (length (spell
 
 pub behind_torn : (records : List (List ℕ)) (held image : List ℕ) (at n : ℕ) → at ≡ length (spelled records) + 1 → IsAtRest records held → Torn at n held image → IsAtRest records image
 behind_torn records held image at n place rest torn =
-    let front = spelled records ++ rest.gate ∷ [] in
-    let same : at ≡ length front = omega (arith, place, length-append (spelled records) (rest.gate ∷ [])) in
-    let moved : Torn (length front) n (front ++ rest.behind) image = rw (← same, ← with_gate records held rest) torn in
-    behind_any records rest.gate (drop (length front) image) image rest.closed (torn_behind front rest.behind image n moved)
+    let prefix = spelled records ++ rest.gate ∷ [] in
+    let same : at ≡ length prefix = omega (arith, place, length-append (spelled records) (rest.gate ∷ [])) in
+    let moved : Torn (length prefix) n (prefix ++ rest.behind) image = rw (← same, ← with_gate records held rest) torn in
+    behind_any records rest.gate (drop (length prefix) image) image rest.closed (torn_behind prefix rest.behind image n moved)
 
 -- a record stands whole behind the last gate, and behind it a closed one
 pub record IsStaged (records : List (List ℕ)) (bytes held : List ℕ) : Type 0 where
@@ -39,17 +39,17 @@ pub record IsStaged (records : List (List ℕ)) (bytes held : List ℕ) : Type 0
 
 pub staged : (records : List (List ℕ)) (bytes held : List ℕ) (at : ℕ) → at ≡ length (spelled records) + 1 → IsAtRest records held → IsStaged records bytes (overwritten at (framed bytes ++ 0 ∷ []) held)
 staged records bytes held at place rest =
-    let front = spelled records ++ rest.gate ∷ [] in
+    let prefix = spelled records ++ rest.gate ∷ [] in
     let written = framed bytes ++ 0 ∷ [] in
-    let same : at ≡ length front = omega (arith, place, length-append (spelled records) (rest.gate ∷ [])) in
-    let is : overwritten at written held ≡ overwritten (length front) written (front ++ rest.behind) =
-    ap (λ (n : ℕ). overwritten n written held) same ∙ ap (λ (l : List ℕ). overwritten (length front) written l) (with_gate records held rest) in
-    let behind = drop (length front + length written) (front ++ rest.behind) in
+    let same : at ≡ length prefix = omega (arith, place, length-append (spelled records) (rest.gate ∷ [])) in
+    let is : overwritten at written held ≡ overwritten (length prefix) written (prefix ++ rest.behind) =
+    ap (λ (n : ℕ). overwritten n written held) same ∙ ap (λ (l : List ℕ). overwritten (length prefix) written l) (with_gate records held rest) in
+    let behind = drop (length prefix + length written) (prefix ++ rest.behind) in
     record {
       gate = rest.gate;
       last = 0;
       behind = behind;
-      splits = is ∙ written_behind front written rest.behind ∙ append_assoc (spelled records) (rest.gate ∷ []) (written ++ behind)
+      splits = is ∙ written_behind prefix written rest.behind ∙ append_assoc (spelled records) (rest.gate ∷ []) (written ++ behind)
           ∙ ap (λ (l : List ℕ). spelled records ++ rest.gate ∷ l) (append_assoc (framed bytes) (0 ∷ []) behind);
       closed = omega arith;
     }
@@ -117,10 +117,10 @@ gate_of_staged records bytes held rest =
 pub cut_behind : (records : List (List ℕ)) (held image : List ℕ) (to : ℕ) → to ≡ length (spelled records) + 1 → IsAtRest records held → Cut to held image → IsAtRest records image
 cut_behind records held image to place rest (inl is) = subst (IsAtRest records) (sym is) rest
 cut_behind records held image to place rest (inr is) =
-    let front = spelled records ++ rest.gate ∷ [] in
-    let size : length front ≡ to = omega (arith, place, length-append (spelled records) (rest.gate ∷ [])) in
-    let front_is : image ≡ front = is ∙ ap (λ (l : List ℕ). take to l) (with_gate records held rest) ∙ take_at front rest.behind to size in
-    behind_any records rest.gate [] image rest.closed (front_is ∙ sym (append-nil front))
+    let prefix = spelled records ++ rest.gate ∷ [] in
+    let size : length prefix ≡ to = omega (arith, place, length-append (spelled records) (rest.gate ∷ [])) in
+    let prefix_is : image ≡ prefix = is ∙ ap (λ (l : List ℕ). take to l) (with_gate records held rest) ∙ take_at prefix rest.behind to size in
+    behind_any records rest.gate [] image rest.closed (prefix_is ∙ sym (append-nil prefix))
 
 -- ---- a gate further in front
 
@@ -140,11 +140,11 @@ open_at n records held lt rest =
 pub reopened : (n : ℕ) (records : List (List ℕ)) (held : List ℕ) → n < length records → IsAtRestBut n records held → IsAtRest records (overwritten (gate_before n records) (1 ∷ []) held)
 reopened n records held lt but =
     let at = open_at n records but.whole lt but.rest in
-    let front = spelled (take n records) in
-    let moved : Torn (length front) 1 (front ++ 1 ∷ at.behind) held = rw (← at.splits) but.torn in
-    let byte = get_or held (length front) 0 in
+    let prefix = spelled (take n records) in
+    let moved : Torn (length prefix) 1 (prefix ++ 1 ∷ at.behind) held = rw (← at.splits) but.torn in
+    let byte = get_or held (length prefix) 0 in
     let is : overwritten (gate_before n records) (1 ∷ []) held ≡ but.whole =
-    ap (λ (l : List ℕ). overwritten (length front) (1 ∷ []) l) (one_torn front 1 at.behind held moved) ∙ one_written front byte 1 at.behind ∙ sym at.splits in
+    ap (λ (l : List ℕ). overwritten (length prefix) (1 ∷ []) l) (one_torn prefix 1 at.behind held moved) ∙ one_written prefix byte 1 at.behind ∙ sym at.splits in
     subst (IsAtRest records) (sym is) but.rest
 
 pub but_torn : (n : ℕ) (records : List (List ℕ)) (held image : List ℕ) → IsAtRestBut n records held → Torn (gate_before n records) 1 held image → IsAtRestBut n records image
@@ -153,11 +153,11 @@ but_torn n records held image but torn = record { whole = but.whole; rest = but.
 pub cut_off : (n : ℕ) (records : List (List ℕ)) (held : List ℕ) → n < length records → IsAtRest records held → IsAtRest (take n records) (overwritten (gate_before n records) (0 ∷ []) held)
 cut_off n records held lt rest =
     let at = open_at n records held lt rest in
-    let front = spelled (take n records) in
+    let prefix = spelled (take n records) in
     record {
       gate = 0;
       behind = at.behind;
-      splits = ap (λ (l : List ℕ). overwritten (length front) (0 ∷ []) l) at.splits ∙ one_written front 1 0 at.behind;
+      splits = ap (λ (l : List ℕ). overwritten (length prefix) (0 ∷ []) l) at.splits ∙ one_written prefix 1 0 at.behind;
       closed = omega arith;
     }
 
@@ -169,12 +169,12 @@ finds_rest records bytes short rest = record { short = short; end = rest.gate �
 pub finds_but : (n : ℕ) (records : List (List ℕ)) (image : List ℕ) → n < length records → IsAtRestBut n records image → IsAtRest records image ⊎ IsAtRest (take n records) image
 finds_but n records image lt but =
     let at = open_at n records but.whole lt but.rest in
-    let front = spelled (take n records) in
-    let moved : Torn (length front) 1 (front ++ 1 ∷ at.behind) image = rw (← at.splits) but.torn in
-    let byte = get_or image (length front) 0 in
-    let is = one_torn front 1 at.behind image moved in
+    let prefix = spelled (take n records) in
+    let moved : Torn (length prefix) 1 (prefix ++ 1 ∷ at.behind) image = rw (← at.splits) but.torn in
+    let byte = get_or image (length prefix) 0 in
+    let is = one_torn prefix 1 at.behind image moved in
     elim (cases_eq byte 1) [
-      | inl is_open ↦ inl (subst (IsAtRest records) (sym (is ∙ ap (λ (b : ℕ). front ++ b ∷ at.behind) is_open ∙ sym at.splits)) but.rest)
+      | inl is_open ↦ inl (subst (IsAtRest records) (sym (is ∙ ap (λ (b : ℕ). prefix ++ b ∷ at.behind) is_open ∙ sym at.splits)) but.rest)
       | inr shut ↦ inr (record { gate = byte; behind = at.behind; splits = is; closed = shut })
     ]
 

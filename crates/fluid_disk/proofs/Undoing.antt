@@ -23,24 +23,24 @@ torn_ones at n t k replaced ones held fits size within same =
     let new = take at held ++ (ones ++ rest) in
     let back = drop (at + n) held in
     let old = undone (Wrote at n replaced) held in
-    let front : length (take at held) ≡ at = length-take-le at held (omega (arith, fits.within)) in
+    let prefix : length (take at held) ≡ at = length-take-le at held (omega (arith, fits.within)) in
     let left : length rest ≡ length held - at - k = omega (arith, length-drop k (drop at held), length-drop at held) in
-    let length_new : length new ≡ length held = omega (arith, length-append (take at held) (ones ++ rest), length-append ones rest, front, left, size, same, within, fits.within) in
+    let length_new : length new ≡ length held = omega (arith, length-append (take at held) (ones ++ rest), length-append ones rest, prefix, left, size, same, within, fits.within) in
     let length_old : length old ≡ at + length replaced + (length held - (at + n)) =
-    omega (arith, length-append (take at held ++ replaced) back, length-append (take at held) replaced, front, length-drop (at + n) held) in
+    omega (arith, length-append (take at held ++ replaced) back, length-append (take at held) replaced, prefix, length-drop (at + n) held) in
     let more : n ≡ t + (n - t) = omega (arith, within) in
     let after_new : drop (at + n) new ≡ back =
-    ap (λ (m : ℕ). drop (at + m) new) more ∙ sym (drop-drop (t + (n - t)) at new) ∙ ap (λ (l : List ℕ). drop (t + (n - t)) l) (drop_at (take at held) (ones ++ rest) at front)
+    ap (λ (m : ℕ). drop (at + m) new) more ∙ sym (drop-drop (t + (n - t)) at new) ∙ ap (λ (l : List ℕ). drop (t + (n - t)) l) (drop_at (take at held) (ones ++ rest) at prefix)
     ∙ sym (drop-drop (n - t) t (ones ++ rest)) ∙ ap (λ (l : List ℕ). drop (n - t) l) (drop_at ones rest t size)
     ∙ drop-drop (n - t) k (drop at held) ∙ drop-drop (k + (n - t)) at held ∙ ap (λ (i : ℕ). drop i held) (let is : at + (k + (n - t)) ≡ at + n = omega (arith, same, within) in is) in
     let after_old : drop (at + n) old ≡ back = elim fits.last [
-      | inl all ↦ drop_at (take at held ++ replaced) back (at + n) (omega (arith, length-append (take at held) replaced, front, all))
+      | inl all ↦ drop_at (take at held ++ replaced) back (at + n) (omega (arith, length-append (take at held) replaced, prefix, all))
       | inr whole ↦
           drop_all (at + n) old (omega (arith, length_old, fits.no_more, whole)) ∙ sym (drop_all (at + n) held (omega (arith, whole)))
     ] in
     record {
-      before = take_at (take at held) (ones ++ rest) at front
-          ∙ sym (ap (λ (l : List ℕ). take at l) (append_assoc (take at held) replaced back) ∙ take_at (take at held) (replaced ++ back) at front);
+      before = take_at (take at held) (ones ++ rest) at prefix
+          ∙ sym (ap (λ (l : List ℕ). take at l) (append_assoc (take at held) replaced back) ∙ take_at (take at held) (replaced ++ back) at prefix);
       after = after_new ∙ sym after_old;
       no_shorter = omega (arith, length_new, length_old, fits.within, fits.no_more);
       no_longer = elim fits.last [

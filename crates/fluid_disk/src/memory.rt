@@ -213,8 +213,8 @@ fn copy_from(held: &[u8], at: usize, into: &mut [u8]) -> usize
         return 0;
     }
     let count = into.len().min(held.len() - at);
-    let (front, _) = into.split_at_mut(count);
-    front.copy_from_slice(&held[at..at + count]);
+    let (prefix, _) = into.split_at_mut(count);
+    prefix.copy_from_slice(&held[at..at + count]);
     count
 }
 

@@ -236,8 +236,8 @@ fn shut<D: Disk>(disk: &mut D, gate: u64, closed: bool) -> Result<(), Failed>
     ensures cause { HasCause (D.seen disk.old).faults (D.seen disk.new).faults result }
     ensures told { is_some (D.seen disk.new).bytes ≡ is_some (D.seen disk.old).bytes }
     ensures durable { OnOk result (IsDurable (D.seen disk.new) (D.may_leave disk.new) × (gate < (D.seen disk.new).size)) }
-    ensures closed { OnOk result ((front : List ℕ) (value : ℕ) → (D.seen disk.old).bytes ≡ Some (front ++ value ∷ []) →
-        (closed ≡ true → value ≡ 0) → gate ≡ length front → (D.seen disk.new).bytes ≡ Some (front ++ 0 ∷ [])) }
+    ensures closed { OnOk result ((prefix : List ℕ) (value : ℕ) → (D.seen disk.old).bytes ≡ Some (prefix ++ value ∷ []) →
+        (closed ≡ true → value ≡ 0) → gate ≡ length prefix → (D.seen disk.new).bytes ≡ Some (prefix ++ 0 ∷ [])) }
     ensures crash { (records : List (List ℕ)) (value : ℕ) → (D.seen disk.old).bytes ≡ Some (spelled records ++ value ∷ []) → AllByRecursion IsShort records →
         gate ≡ length (spelled records) → LeavesOnly D.moment D.left_since disk.old disk.new (Finds records) }
 {

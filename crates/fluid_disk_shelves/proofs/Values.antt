@@ -25,13 +25,13 @@ tied_is x y is = byte_order-IsAntisymmetric x y (equal (byte_order x y) is)
 module _ {X Y : Type 0} (value : X → Option Y) where
   -- ---- what is found among the entries that count
 
-  abbrev front : List ℕ → Option Y → List (List ℕ × Y)
-  front name found = option_to_list (option_map (λ y. (name, y)) found)
+  abbrev prefix : List ℕ → Option Y → List (List ℕ × Y)
+  prefix name found = option_to_list (option_map (λ y. (name, y)) found)
 
   below_where : (x : List ℕ) (es : List (List ℕ × X)) → T (below_all byte_order x es) → T (below_all byte_order x (entries_where value es))
   below_where x [] h = tt
   below_where x (e ∷ es) h =
-      elim (value e.1) as (λ found. T (below_all byte_order x (front e.0 found ++ entries_where value es))) [
+      elim (value e.1) as (λ found. T (below_all byte_order x (prefix e.0 found ++ entries_where value es))) [
         | None ↦ below_where x es (second _ _ h)
         | Some y ↦ both _ _ (first _ _ h) (below_where x es (second _ _ h))
       ]
@@ -39,7 +39,7 @@ module _ {X Y : Type 0} (value : X → Option Y) where
   sorted_where : (es : List (List ℕ × X)) → T (is_sorted byte_order es) → T (is_sorted byte_order (entries_where value es))
   sorted_where [] h = tt
   sorted_where (e ∷ es) h =
-      elim (value e.1) as (λ found. T (is_sorted byte_order (front e.0 found ++ entries_where value es))) [
+      elim (value e.1) as (λ found. T (is_sorted byte_order (prefix e.0 found ++ entries_where value es))) [
         | None ↦ sorted_where es (second _ _ h)
         | Some y ↦ both _ _ (below_where e.0 es (first _ _ h)) (sorted_where es (second _ _ h))
       ]
@@ -53,7 +53,7 @@ module _ {X Y : Type 0} (value : X → Option Y) where
   find_where q (e ∷ es) h =
       let others = find_where q es (second _ _ h) in
       let rest = find byte_order q es in
-      elim (value e.1) as (λ found. value e.1 ≡ found → find byte_order q (front e.0 found ++ entries_where value es) ≡ option_and_then value (cond (eq_by_cmp byte_order q e.0) (Some e.1) rest)) [
+      elim (value e.1) as (λ found. value e.1 ≡ found → find byte_order q (prefix e.0 found ++ entries_where value es) ≡ option_and_then value (cond (eq_by_cmp byte_order q e.0) (Some e.1) rest)) [
         | None ↦ λ none. elim (eq_by_cmp byte_order q e.0) as (λ b. eq_by_cmp byte_order q e.0 ≡ b → find byte_order q (entries_where value es) ≡ option_and_then value (cond b (Some e.1) rest)) [
           | true ↦ λ tie. others ∙ ap (option_and_then value) (not_behind q e.0 es tie (first _ _ h)) ∙ sym none
           | false ↦ λ tie. others

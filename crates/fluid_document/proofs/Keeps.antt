@@ -66,7 +66,7 @@ checkpoints_grow l m more one other texts same le = All-weaker (IsCheckpointOf l
     (λ bytes is. record {
       before = is.before;
       behind = is.behind ++ more;
-      splits = same ∙ ap (λ front. front ++ more) is.splits ∙ append_assoc is.before is.behind more;
+      splits = same ∙ ap (λ prefix. prefix ++ more) is.splits ∙ append_assoc is.before is.behind more;
       text = is.text;
       reached = omega (arith, is.reached, le);
     }) texts

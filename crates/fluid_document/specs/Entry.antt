@@ -10,7 +10,7 @@ use Rattle.fluid_log.specs.Keeping.{Keeping, IsText}
 use Rattle.fluid_log.specs.Calls.{KeepsSame, with_record}
 use Rattle.fluid_deltas.specs.Pushed.{StandFor}
 use Rattle.fluid_deltas.specs.Ranges.{IsNoted}
-use Rattle.fluid_deltas.specs.Flushes.{with_deltas, PutsFront}
+use Rattle.fluid_deltas.specs.Flushes.{with_deltas, PutsPrefix}
 use Rattle.fluid_core.specs.Entering.{verdict_in}
 use Rattle.fluid_document.specs.Entries.{InMemory, GoOn, taken_up}
 use Rattle.fluid_document.specs.Puts.{PutsEarly, PutsFew}
@@ -39,7 +39,7 @@ added (Err fault) verdict = []
 -- a keeper that failed put some of the messages that make room, and not all of them. Where memory was wanting all may be there
 abbrev pub RoomFails : List Message → Keeping → Keeping → EnterFault → Type 0
 RoomFails messages old new (LogFailed note) = ⊥
-RoomFails messages old new (DeltaFailed note) = PutsFront messages old new
+RoomFails messages old new (DeltaFailed note) = PutsPrefix messages old new
 RoomFails messages old new NoMemory = PutsSome messages old new
 
 abbrev pub RoomDoes : {A : Type 0} → List Message → Keeping → Keeping → Result A EnterFault → Type 0
@@ -87,7 +87,7 @@ pub record EntersOne (raw : Raw) (old new : Keeping) (before now : InMemory) : T
 -- were put has some of those that make room, and not all of them
 abbrev pub LeavesOut : Raw → Keeping → Keeping → InMemory → EnterFault → Type 0
 LeavesOut raw old new before (LogFailed note) = IsTorn (raw_printed raw) (roomed before.messages old) new
-LeavesOut raw old new before (DeltaFailed note) = PutsFront (for_room before.messages old.deltas) old new
+LeavesOut raw old new before (DeltaFailed note) = PutsPrefix (for_room before.messages old.deltas) old new
 LeavesOut raw old new before NoMemory = PutsSome (for_room before.messages old.deltas) old new
 
 abbrev pub EnterDoes : {A : Type 0} → Raw → Keeping → Keeping → InMemory → InMemory → Result A EnterFault → Type 0

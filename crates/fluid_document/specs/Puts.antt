@@ -6,7 +6,7 @@ use Rattle.fluid_deltas.specs.declared.pages.TheConstants.{PAGE, RESIDENT}
 use Rattle.fluid_deltas.specs.declared.fault.DeltaFault.{DeltaFault}
 use Rattle.fluid_deltas.specs.declared.fault.DeltaFault.TheVariants as deltas
 use Rattle.fluid_deltas.specs.Ranges.{IsNoted}
-use Rattle.fluid_deltas.specs.Flushes.{Puts, PutsFront}
+use Rattle.fluid_deltas.specs.Flushes.{Puts, PutsPrefix}
 use Rattle.fluid_document.specs.declared.fault.FlushFault.{FlushFault}
 use Rattle.fluid_document.specs.declared.fault.FlushFault.TheVariants.{DeltaFailed, NoMemory}
 
@@ -18,7 +18,7 @@ IsFlushFault before now NoMemory = ⊤
 -- all were put, or after a fault some from the front
 abbrev pub PutsUpTo : List Message → Keeping → Keeping → Result (Unit {0}) FlushFault → Type 0
 PutsUpTo messages old new (Ok done) = Puts messages old new
-PutsUpTo messages old new (Err fault) = PutsFront messages old new
+PutsUpTo messages old new (Err fault) = PutsPrefix messages old new
 
 -- a call that puts these messages
 pub record Flushes (messages : List Message) (old new : Keeping) (result : Result (Unit {0}) FlushFault) : Type 0 where

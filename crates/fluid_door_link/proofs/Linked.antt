@@ -160,7 +160,7 @@ module _ (client : List ℕ) (moment : ℕ) (messages : List ℕ) (objects : Lis
   none_first (Err fault) = tt
 
   puts_none : (d : Document) → PutsSome node base d d
-  puts_none d = record { front = []; are_first = none_first (objects_over d.held base node); held = refl; kept = λ id bytes found. found }
+  puts_none d = record { prefix = []; are_first = none_first (objects_over d.held base node); held = refl; kept = λ id bytes found. found }
 
   pub nothing_put : (told : Option Document) (a x : ℕ) (handles later : List ℕ) (t : ℕ)
       → Uploads node base (linked client moment messages objects handles t told a x taken) (linked client moment messages objects later t told a x taken) (Err NoMemory)

@@ -48,17 +48,17 @@ of_part r p f is = ap (λ x. x >>= λ q. Ok (f q)) (sym is)
 no_part : {P : Type 0} (r : Result P StoreFault) (fault : StoreFault) (f : P → List ℕ × List StoredObject) → Err fault ≡ r → (r >>= λ q. Ok (f q)) ≡ Err fault
 no_part r fault f is = ap (λ x. x >>= λ q. Ok (f q)) (sym is)
 
-abbrev HasFront : List StoredObject → Result (List ℕ × List StoredObject) StoreFault → Type 0
-HasFront front r = IfOk r (λ tree. (behind : List StoredObject) × (tree.1 ≡ front ++ behind))
+abbrev HasPrefix : List StoredObject → Result (List ℕ × List StoredObject) StoreFault → Type 0
+HasPrefix prefix r = IfOk r (λ tree. (behind : List StoredObject) × (tree.1 ≡ prefix ++ behind))
 
-front_of : {P : Type 0} (front : List StoredObject) (r : Result P StoreFault) (id : P → List ℕ) (objects : P → List StoredObject)
-    → IfOk r (λ p. (behind : List StoredObject) × (objects p ≡ front ++ behind)) → HasFront front (r >>= λ p. Ok (id p, objects p))
-front_of front (Ok p) id objects h = h
-front_of front (Err fault) id objects h = tt
+prefix_of : {P : Type 0} (prefix : List StoredObject) (r : Result P StoreFault) (id : P → List ℕ) (objects : P → List StoredObject)
+    → IfOk r (λ p. (behind : List StoredObject) × (objects p ≡ prefix ++ behind)) → HasPrefix prefix (r >>= λ p. Ok (id p, objects p))
+prefix_of prefix (Ok p) id objects h = h
+prefix_of prefix (Err fault) id objects h = tt
 
-no_front : (r : Result (List ℕ × List StoredObject) StoreFault) → HasFront [] r
-no_front (Ok tree) = (tree.1, refl)
-no_front (Err fault) = tt
+no_prefix : (r : Result (List ℕ × List StoredObject) StoreFault) → HasPrefix [] r
+no_prefix (Ok tree) = (tree.1, refl)
+no_prefix (Err fault) = tt
 
 some_same : (a b : Held) → ◌≡◌ {A = Option Held} (Some a) (Some b) → a ≡ b
 some_same a b same = cc
@@ -108,23 +108,23 @@ module _ (node : Summary) (base : Option (List ℕ)) (l : Ledger) (limit : ℕ) 
         held = ap with_held done.1;
       }
 
-  some_of : (front : List StoredObject) → HasFront front (objects_over m base node) → Adds front old.content new.content → PutsSome node base first after
-  some_of front are_first adds =
-      let is = some_same n (with_all m front) adds.content in
-      record { front = front; are_first = are_first; held = ap with_held is; kept = subst (Keeps m) (sym is) adds.kept }
+  some_of : (prefix : List StoredObject) → HasPrefix prefix (objects_over m base node) → Adds prefix old.content new.content → PutsSome node base first after
+  some_of prefix are_first adds =
+      let is = some_same n (with_all m prefix) adds.content in
+      record { prefix = prefix; are_first = are_first; held = ap with_held is; kept = subst (Keeps m) (sym is) adds.kept }
 
   put_some : AddsSome base node old new → PutsSome node base first after
-  put_some u = some_of u.front (front_of u.front (part_over m base node) (λ p. p.place.id) (λ p. p.objects) u.are_first) u.adds
+  put_some u = some_of u.prefix (prefix_of u.prefix (part_over m base node) (λ p. p.place.id) (λ p. p.objects) u.are_first) u.adds
 
   put_none : (fault : StoreFault) → Refused base node old new fault → PutsSome node base first after
   put_none fault u =
       let is = some_same n m u.same in
-      record { front = []; are_first = no_front (objects_over m base node); held = ap with_held is; kept = subst (Keeps m) (sym is) (λ id bytes found. found) }
+      record { prefix = []; are_first = no_prefix (objects_over m base node); held = ap with_held is; kept = subst (Keeps m) (sym is) (λ id bytes found. found) }
 
   put_whole : (id : List ℕ) → Uploaded base node old new id → ((earlier : Option Summary) → IsEarlier m base earlier → StandsResolved n earlier node id) → PutsAll node base id first after
   put_whole id u stands =
-      let whole : HasFront u.part.objects (objects_over m base node) =
-      subst (HasFront u.part.objects) (sym (of_part (part_over m base node) u.part (λ p. (p.place.id, p.objects)) u.is_part)) ([], sym (append-nil u.part.objects)) in
+      let whole : HasPrefix u.part.objects (objects_over m base node) =
+      subst (HasPrefix u.part.objects) (sym (of_part (part_over m base node) u.part (λ p. (p.place.id, p.objects)) u.is_part)) ([], sym (append-nil u.part.objects)) in
       record { tree = put_all id u; stands = stands; some = some_of u.part.objects whole u.adds }
 
   put_by : (fault : StoreFault) → Uploads base node old new (Err fault) → UploadsBy node base (Some first) (Some after) (Err (link_fault fault))
@@ -160,13 +160,13 @@ module _ (node : Summary) (base : Option (List ℕ)) (old new : Storing) where
 
   put_tells : (r : Result (List ℕ) StoreFault) → Uploads base node old new r → is_some new.content ≡ is_some old.content
   put_tells (Ok id) u = adds_tell u.part.objects u.adds
-  put_tells (Err (StoreFailed note)) u = adds_tell u.1.front u.1.adds
-  put_tells (Err (Clash id kept bytes)) u = adds_tell u.clashes.front u.clashes.adds
+  put_tells (Err (StoreFailed note)) u = adds_tell u.1.prefix u.1.adds
+  put_tells (Err (Clash id kept bytes)) u = adds_tell u.clashes.prefix u.clashes.adds
   put_tells (Err (Missing id)) u = ap is_some u.same
   put_tells (Err (BadObject id place)) u = ap is_some u.same
   put_tells (Err (Tree fault)) u = ap is_some u.same
   put_tells (Err (NoPath path)) u = ap is_some u.same
-  put_tells (Err NoMemory) u = adds_tell u.front u.adds
+  put_tells (Err NoMemory) u = adds_tell u.prefix u.adds
 
 -- ---- by what is told before and behind
 

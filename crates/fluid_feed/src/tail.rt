@@ -71,7 +71,7 @@ impl Tail {
         Ok(())
     }
 
-    /// Those of more than one. After `NoMemory` a front of them was put.
+    /// Those of more than one. After `NoMemory` a prefix of them was put.
     pub fn extend(&mut self, alloc: Global, messages: &[Message]) -> Result<(), NoMemory>
         requires { self.old.from + length self.old.messages + length messages.now < 2 ^ 64 }
         ensures put { OnOk result (self.new ≡ with_more messages.now self.old) }

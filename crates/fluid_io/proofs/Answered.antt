@@ -109,7 +109,7 @@ passes_fed line old new plain gives = record {
   bytes = line ++ 10 ∷ [];
   gives = gives;
   are = ap lines (sym (append-nil (line ++ 10 ∷ []))) ∙ line_fed line [] plain ∙ ap (λ more. strip_carriage_return line ∷ more) lines_none;
-  ended = inl (record { front = line; is = refl });
+  ended = inl (record { prefix = line; is = refl });
 }
 
 passes_last : (line : List ℕ) (old new : Option (List ℕ)) → IsPlain line → Gives line old new → Tells new (λ bytes. bytes ≡ []) → (length line == 0) ≡ false

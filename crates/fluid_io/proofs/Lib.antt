@@ -4,5 +4,5 @@ mod Writes
 mod Answered
 mod Collecting
 mod Firsts
-mod Fronts
+mod Prefixes
 mod Pieces

@@ -20,8 +20,8 @@ IsPlain bytes = All (λ b. (b == 10) ≡ false) bytes
 
 -- the last byte is a line feed
 pub record EndsInLineFeed (bytes : List ℕ) : Type 0 where
-  pub front : List ℕ
-  pub is : bytes ≡ front ++ 10 ∷ []
+  pub prefix : List ℕ
+  pub is : bytes ≡ prefix ++ 10 ∷ []
 
 -- the bytes before a reader over a source: those that it holds, and then those that the source has left
 abbrev pub ahead : Reader → Reading → Option (List ℕ)

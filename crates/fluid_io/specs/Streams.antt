@@ -46,13 +46,13 @@ WriteDoes old new piece (Ok count) = WritesBytes old new piece count
 WriteDoes old new piece (Err fault) = new.written ≡ old.written
 
 -- a part from the front of the bytes was appended, maybe all or nothing
-pub record AppendsFront (bytes : List ℕ) (old new : Option (List ℕ)) : Type 0 where
-  pub front : List ℕ
+pub record AppendsPrefix (bytes : List ℕ) (old new : Option (List ℕ)) : Type 0 where
+  pub prefix : List ℕ
   pub behind : List ℕ
-  pub splits : bytes ≡ front ++ behind
-  pub appends : Appends front old new
+  pub splits : bytes ≡ prefix ++ behind
+  pub appends : Appends prefix old new
 
 -- a write of all the bytes: at Ok they were appended, else a part from their front
 abbrev pub WriteAllDoes : Writing → Writing → List ℕ → Result (Unit {0}) Failed → Type 0
 WriteAllDoes old new bytes (Ok done) = Appends bytes old.written new.written
-WriteAllDoes old new bytes (Err fault) = AppendsFront bytes old.written new.written
+WriteAllDoes old new bytes (Err fault) = AppendsPrefix bytes old.written new.written

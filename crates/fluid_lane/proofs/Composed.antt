@@ -13,7 +13,7 @@ use Rattle.fluid_log.specs.Keeping.{Content, Keeping}
 use Rattle.fluid_log.specs.Calls.{KeepsSame, cut_to, add_record, with_record, with_checkpoint, add_checkpoint}
 use Rattle.fluid_log.proofs.Sameness.{same_itself, same_twice}
 use Rattle.fluid_deltas.proofs.Telling.{tells_along, tells_both}
-use Rattle.fluid_deltas.specs.Flushes.{put_behind, with_deltas, lacking, PutsFront}
+use Rattle.fluid_deltas.specs.Flushes.{put_behind, with_deltas, lacking, PutsPrefix}
 use Rattle.fluid_document.specs.Entry.{PutsSome}
 use Rattle.fluid_document.specs.Kept.{IsPrinted}
 use Rattle.fluid_document.specs.Rooms.{for_room}
@@ -101,8 +101,8 @@ enters_on {A} raw old mid new result cut same read later takes owes cause reads 
     by (Ok a) kept out = added _ (rw room at kept)
     by (Err (LogFailed note)) kept out = inr (⊎_elim (λ same. inl (left _ (rw room at same))) (λ more. inr (added _ (rw room at more))) kept)
     by (Err (DeltaFailed note)) kept out =
-        let front = subst (λ ms. PutsFront ms mid.keeping new.keeping) room kept in
-        record { count = front.count; within = front.within; puts = record { kept = left _ front.puts.kept; texts = front.puts.texts } }
+        let prefix = subst (λ ms. PutsPrefix ms mid.keeping new.keeping) room kept in
+        record { count = prefix.count; within = prefix.within; puts = record { kept = left _ prefix.puts.kept; texts = prefix.puts.texts } }
     by (Err NoMemory) kept out =
         let some = subst (λ ms. PutsSome ms mid.keeping new.keeping) room kept in
         record { count = some.count; kept = left _ some.kept }

@@ -14,7 +14,7 @@ use Rattle.fluid_rules.specs.Rules.{verdict, IsLegal}
 use Rattle.fluid_log.specs.Keeping.{Content, Keeping}
 use Rattle.fluid_log.specs.Calls.{KeepsSame, add_record, keep_records, add_checkpoint, with_record, cut_to, with_checkpoint}
 use Rattle.fluid_deltas.specs.Pushed.{Pushed, StandFor}
-use Rattle.fluid_deltas.specs.Flushes.{put_behind, with_deltas, PutsFront, AreAll}
+use Rattle.fluid_deltas.specs.Flushes.{put_behind, with_deltas, PutsPrefix, AreAll}
 use Rattle.fluid_deltas.proofs.Standing.{same_stand}
 use Rattle.fluid_deltas.proofs.Telling.{tells_from, tells_both, tells_becomes}
 use Rattle.fluid_log.proofs.Sameness.{same_itself}
@@ -225,9 +225,9 @@ goes_put s t more ms other end content points faults entries opened limits owes 
 pub still_nothing : (s t : Standing) → ((o : List Message) → Tells s.keeping.content (StandFor s.messages o) → Tells t.keeping.content (StandFor t.messages (o ++ []))) → StillStand s t
 still_nothing s t still o is = rw append-nil at (still o is)
 
--- a front of them is some of them
-pub front_some : (ms : List Message) (old new : Keeping) → PutsFront ms old new → PutsSome ms old new
-front_some ms old new front = record { count = front.count; kept = front.puts.kept }
+-- a prefix of them is some of them
+pub prefix_some : (ms : List Message) (old new : Keeping) → PutsPrefix ms old new → PutsSome ms old new
+prefix_some ms old new prefix = record { count = prefix.count; kept = prefix.puts.kept }
 
 -- some messages were put to make room, and nothing else happened
 pub goes_some : (s t : Standing) (more : List Step) (ms : List Message) → Ends s t more → PutsSome ms s.keeping t.keeping → s.keeping.faults ≤ t.keeping.faults → t.entries ≡ s.entries → t.owed ≡ s.owed → t.opened ≡ s.opened → t.limits ≡ s.limits

@@ -6,7 +6,7 @@ use Rattle.fluid_types.specs.declared.messages.Message.{Message}
 use Rattle.fluid_types.specs.Printed.{raw_printed}
 use Rattle.fluid_log.specs.Keeping.{Content, Keeping}
 use Rattle.fluid_log.specs.Calls.{KeepsSame, with_record, cut_to, with_checkpoint}
-use Rattle.fluid_deltas.specs.Flushes.{lacking, with_deltas, PutsFront}
+use Rattle.fluid_deltas.specs.Flushes.{lacking, with_deltas, PutsPrefix}
 use Rattle.fluid_document.specs.Entries.{Entries, taken_up}
 use Rattle.fluid_document.specs.Kept.{checkpoint_text, IsPrinted}
 use Rattle.fluid_document.specs.Rooms.{for_room, roomed}
@@ -43,7 +43,7 @@ OwesBy new (Err other) = new.owed ≡ false
 abbrev pub AddKept : {A : Type 0} → Raw → Standing → Keeping → Keeping → Result A LaneFault → Type 0
 AddKept raw s old new (Ok a) = KeepsSame (with_record (raw_printed raw) (roomed s.messages old)) new
 AddKept raw s old new (Err (LogFailed note)) = KeepsSame (roomed s.messages old) new ⊎ KeepsSame (with_record (raw_printed raw) (roomed s.messages old)) new
-AddKept raw s old new (Err (DeltaFailed note)) = PutsFront (for_room s.messages old.deltas) old new
+AddKept raw s old new (Err (DeltaFailed note)) = PutsPrefix (for_room s.messages old.deltas) old new
 AddKept raw s old new (Err other) = PutsSome (for_room s.messages old.deltas) old new
 
 abbrev pub EnterKept : {A : Type 0} → Raw → Standing → Standing → Result A LaneFault → Type 0
@@ -79,7 +79,7 @@ IsOutsideLog other = ⊥
 -- a flush puts all that the keeper lacks; after a fault it has put some of it, and not all
 abbrev pub FlushKept : {A : Type 0} → List Message → Keeping → Keeping → Result A LaneFault → Type 0
 FlushKept messages old new (Ok a) = KeepsSame (with_deltas messages old) new
-FlushKept messages old new (Err fault) = PutsFront messages old new
+FlushKept messages old new (Err fault) = PutsPrefix messages old new
 
 -- all that a call leaves but the list for which the lane stands
 pub record IsBeside (old new : Standing) (added : List Step) : Type 0 where
@@ -126,7 +126,7 @@ StoreKept old new (Err (LogFailed note)) = IsCutFailed old new ⊎ ((length (che
 StoreKept old new (Err CheckpointsFull) = KeepsSame (cut_back old) new.keeping
 StoreKept old new (Err (TooLarge bytes)) = KeepsSame (flushed old) new.keeping
 StoreKept old new (Err Worn) = KeepsSame old.keeping new.keeping
-StoreKept old new (Err (DeltaFailed note)) = PutsFront (missing old) (cut_back old) new.keeping
+StoreKept old new (Err (DeltaFailed note)) = PutsPrefix (missing old) (cut_back old) new.keeping
 StoreKept old new (Err other) = PutsSome (missing old) (cut_back old) new.keeping
 
 -- what was stored has the next number, and it is what the entries made

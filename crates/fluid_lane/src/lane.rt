@@ -36,8 +36,7 @@ use crate::steps::Side;
 use fluid_clients::Clients;
 use fluid_deltas::DeltaFault;
 use fluid_document::{
-    Document, EnterFault, FlushFault, LoadFault, bad_field, enter, kept_is_loaded, load,
-    note_of,
+    Document, EnterFault, FlushFault, LoadFault, bad_field, enter, kept_is_loaded, load, note_of,
 };
 use fluid_io::FaultNote;
 use fluid_json::{Json, LARGEST, NoMemory};

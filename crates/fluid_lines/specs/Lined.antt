@@ -5,7 +5,7 @@ use Rattle.fluid_io.specs.declared.line.LineFault.TheVariants.{NotUtf8, TooMany}
 use Rattle.fluid_io.specs.Causes.{Rose, one_more}
 use Rattle.fluid_io.specs.Lines.{ahead, lines_ahead, AnswersBytes}
 use Rattle.fluid_io.specs.Reader.{Reader}
-use Rattle.fluid_io.specs.Streams.{Reading, Writing, Appends, AppendsFront}
+use Rattle.fluid_io.specs.Streams.{Reading, Writing, Appends, AppendsPrefix}
 use Rattle.fluid_lines.specs.declared.wire.Recv.{Recv}
 use Rattle.fluid_lines.specs.declared.wire.Recv.TheVariants.{Text, Quiet, End, TooLong}
 use Rattle.fluid_lines.specs.declared.wire.WireFault.{WireFault}
@@ -47,7 +47,7 @@ faults_after faults (Err NoMemory) = faults
 -- what a send wrote: the text and a line feed, or a part from their front where the sink failed
 abbrev pub SendsLine : LineWiring → LineWiring → List ℕ → Result (Unit {0}) WireFault → Type 0
 SendsLine old new text (Ok done) = Appends (text ++ 10 ∷ []) old.sink.written new.sink.written
-SendsLine old new text (Err Failed) = AppendsFront (text ++ 10 ∷ []) old.sink.written new.sink.written × Rose old.sink.faults new.sink.faults
+SendsLine old new text (Err Failed) = AppendsPrefix (text ++ 10 ∷ []) old.sink.written new.sink.written × Rose old.sink.faults new.sink.faults
 SendsLine old new text (Err NoMemory) = ⊥
 
 -- behind a fault, and behind a line that is too long, its reader has failed, so that only the end comes

@@ -1,6 +1,6 @@
 -- What the end of a workload says: its cause, what was written, and what the desk that comes back tells.
 use Rattle.std.specs.Prelude.{◌≡◌, ◌≤◌, ◌+◌, ◌*◌, ℕ, List, [], length, Some}
-use Rattle.fluid_io.specs.Streams.{Writing, Appends, AppendsFront}
+use Rattle.fluid_io.specs.Streams.{Writing, Appends, AppendsPrefix}
 use Rattle.fluid_log.specs.Shelving.{Shelving}
 use Rattle.fluid_store.specs.Storing.{Storing}
 use Rattle.fluid_types.specs.Forms.{largest}
@@ -45,6 +45,6 @@ IsNearlyFull w clients ops = (name : List ℕ) × (largest ≤ length (document 
 -- nothing is written before the summary, and of that a beginning where the sink failed
 abbrev pub WritesSummary : Limits → World → (number clients ops : ℕ) → (before now : Outside) → ScriptEnd → Type 0
 WritesSummary limits w number clients ops before now Done = DidWork limits w number clients ops before now
-WritesSummary limits w number clients ops before now WriteFault = AppendsFront (written_by limits w number clients ops) before.sink.written now.sink.written
+WritesSummary limits w number clients ops before now WriteFault = AppendsPrefix (written_by limits w number clients ops) before.sink.written now.sink.written
 WritesSummary limits w number clients ops before now (BadStored fault) = (fault ≡ Lane Worn) × (IsNearlyFull w clients ops × (now.sink ≡ before.sink))
 WritesSummary limits w number clients ops before now end = now.sink ≡ before.sink

@@ -2,7 +2,7 @@
 use Rattle.std.specs.Prelude.{◌≡◌, ◌*◌, ℕ, ⊤, Bool, true, false, List, [], ◌∷◌, length, Result, Ok, Err}
 use Rattle.std.specs.FinMap.{empty}
 use Rattle.fluid_io.specs.Causes.{Rose}
-use Rattle.fluid_io.specs.Streams.{Writing, Appends, AppendsFront}
+use Rattle.fluid_io.specs.Streams.{Writing, Appends, AppendsPrefix}
 use Rattle.fluid_store.specs.Storing.{Storing}
 use Rattle.fluid_lanes.specs.Opened.{Opened}
 use Rattle.fluid_gen.specs.declared.act.Act.{Act}
@@ -42,7 +42,7 @@ DoesNext old new a b (Err stop) = Works (5 * length old) (acted_all old) a b (Er
 -- these bytes are written, or a beginning of them where the sink fails
 abbrev pub SaysAll : List ℕ → (old new : Writing) → ScriptEnd → Type 0
 SaysAll bytes old new Done = Appends bytes old.written new.written
-SaysAll bytes old new WriteFault = AppendsFront bytes old.written new.written
+SaysAll bytes old new WriteFault = AppendsPrefix bytes old.written new.written
 SaysAll bytes old new NoMemory = new ≡ old
 SaysAll bytes old new end = ⊥
 

@@ -6,7 +6,7 @@ use Rattle.fluid_types.specs.Order.{AreNumberedFrom}
 use Rattle.fluid_types.specs.Quorum.{Quorum, quorum_of}
 use Rattle.fluid_types.specs.declared.messages.Message.{Message}
 use Rattle.fluid_quorum.specs.After.{after}
-use Rattle.fluid_loader.specs.Calls.{IsBehindFront}
+use Rattle.fluid_loader.specs.Calls.{IsBehindPrefix}
 use Rattle.fluid_loader.specs.Container.{AContainer, IsAbreast, taken_by, behind}
 use Rattle.fluid_loader.specs.declared.following.Following.{Following}
 
@@ -32,12 +32,12 @@ kept_behind (Err e) room number last q m behind other is next own roomy fits las
 
 -- ---- one message more
 
-abbrev pub Front : List ℕ → AContainer → AContainer → List Message → List Message → Type 0
-Front client old now messages ahead = (front : List Message) × ((messages ≡ front ++ ahead) × (now ≡ behind client old front))
+abbrev pub Prefix : List ℕ → AContainer → AContainer → List Message → List Message → Type 0
+Prefix client old now messages ahead = (prefix : List Message) × ((messages ≡ prefix ++ ahead) × (now ≡ behind client old prefix))
 
-pub front_more : (client : List ℕ) (old now next : AContainer) (messages ahead rest : List Message) (m : Message) → ahead ≡ m ∷ rest → next ≡ taken_by client now m
-    → Front client old now messages ahead → Front client old next messages rest
-front_more client old now next messages ahead rest m left is f = (
+pub prefix_more : (client : List ℕ) (old now next : AContainer) (messages ahead rest : List Message) (m : Message) → ahead ≡ m ∷ rest → next ≡ taken_by client now m
+    → Prefix client old now messages ahead → Prefix client old next messages rest
+prefix_more client old now next messages ahead rest m left is f = (
   f.0 ++ m ∷ [],
   (
     f.1.0 ∙ ap (λ l. f.0 ++ l) left ∙ sym (append_assoc f.0 (m ∷ []) rest),
@@ -57,16 +57,16 @@ pub next_number : (client : List ℕ) (now next : AContainer) (ahead rest : List
     → next.number ≡ now.number + 1
 next_number client now next ahead rest m left is h = ap (λ c. c.number) is ∙ (subst (AreNumberedFrom (now.number + 1)) left h).0
 
-of_front : (client : List ℕ) (old now : AContainer) (messages ahead : List Message) → Front client old now messages ahead → IsBehindFront client old now messages
-of_front client old now messages ahead f = record { front = f.0; ahead = ahead; splits = f.1.0; taken = f.1.1 }
+of_prefix : (client : List ℕ) (old now : AContainer) (messages ahead : List Message) → Prefix client old now messages ahead → IsBehindPrefix client old now messages
+of_prefix client old now messages ahead f = record { prefix = f.0; ahead = ahead; splits = f.1.0; taken = f.1.1 }
 
 on_err_always : {A E P : Type 0} (r : Result A E) → P → OnErr r P
 on_err_always (Ok a) p = tt
 on_err_always (Err e) p = p
 
-pub stops_in_front : {A E : Type 0} (r : Result A E) (client : List ℕ) (old now next : AContainer) (messages ahead rest : List Message) (m : Message) → ahead ≡ m ∷ rest
-    → (next ≡ now) ⊎ (next ≡ taken_by client now m) → Front client old now messages ahead → OnErr r (IsBehindFront client old next messages)
-stops_in_front r client old now next messages ahead rest m left (inl same) f =
-    on_err_always r (of_front client old next messages ahead (subst (λ c. Front client old c messages ahead) (sym same) f))
-stops_in_front r client old now next messages ahead rest m left (inr is) f =
-    on_err_always r (of_front client old next messages rest (front_more client old now next messages ahead rest m left is f))
+pub stops_in_prefix : {A E : Type 0} (r : Result A E) (client : List ℕ) (old now next : AContainer) (messages ahead rest : List Message) (m : Message) → ahead ≡ m ∷ rest
+    → (next ≡ now) ⊎ (next ≡ taken_by client now m) → Prefix client old now messages ahead → OnErr r (IsBehindPrefix client old next messages)
+stops_in_prefix r client old now next messages ahead rest m left (inl same) f =
+    on_err_always r (of_prefix client old next messages ahead (subst (λ c. Prefix client old c messages ahead) (sym same) f))
+stops_in_prefix r client old now next messages ahead rest m left (inr is) f =
+    on_err_always r (of_prefix client old next messages rest (prefix_more client old now next messages ahead rest m left is f))

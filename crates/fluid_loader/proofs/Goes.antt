@@ -14,7 +14,7 @@ use Rattle.fluid_loader.specs.Laws.{between, IsBehind, IsHonestPick, Follows, Ha
 use Rattle.fluid_loader.specs.Link.{Document, IsOrder, IsDocument, Linked}
 use Rattle.fluid_loader.specs.declared.fault.LoadFault.{LoadFault}
 use Rattle.fluid_loader.specs.declared.link.Pick.{Pick}
-use Rattle.fluid_loader.proofs.Orders.{front_numbered, drop_numbered, behind_number, take_between}
+use Rattle.fluid_loader.proofs.Orders.{prefix_numbered, drop_numbered, behind_number, take_between}
 use Rattle.fluid_loader.proofs.Replayed.{behind_channels, behind_quorum}
 use Rattle.fluid_loader.proofs.Seen.{tells_both}
 use Rattle.fluid_loader.proofs.Stays.{behind_grown}
@@ -33,14 +33,14 @@ goes_by law client document first c is_order f b =
     let order = document.order in
     let n = c.number in
     let later = between first.number n order in
-    let front = take first.number order in
-    let whole : front ++ later ≡ take n order = take_between first.number n order b.begins in
-    let numbered : AreFirst (front ++ later) = subst AreFirst (sym whole) (front_numbered 1 (take n order) (drop n order) (subst AreFirst (sym (take-append-drop n order)) is_order.numbered)) in
+    let prefix = take first.number order in
+    let whole : prefix ++ later ≡ take n order = take_between first.number n order b.begins in
+    let numbered : AreFirst (prefix ++ later) = subst AreFirst (sym whole) (prefix_numbered 1 (take n order) (drop n order) (subst AreFirst (sym (take-append-drop n order)) is_order.numbered)) in
     record {
       within = b.within;
       channels =
-          b.abreast.channels ∙ behind_channels client first later ∙ ap (λ ch. replay ch later) f.channels ∙ sym (replayed_on_law no_channels front later) ∙ ap (replay no_channels) whole;
-      quorum = b.abreast.quorum ∙ behind_quorum law client first front later numbered f.quorum ∙ ap quorum_of whole;
+          b.abreast.channels ∙ behind_channels client first later ∙ ap (λ ch. replay ch later) f.channels ∙ sym (replayed_on_law no_channels prefix later) ∙ ap (replay no_channels) whole;
+      quorum = b.abreast.quorum ∙ behind_quorum law client first prefix later numbered f.quorum ∙ ap quorum_of whole;
     }
 
 -- ---- all of it
@@ -48,15 +48,15 @@ goes_by law client document first c is_order f b =
 whole_behind : GoesOn → (client : List ℕ) (d : Document) (c : AContainer) → IsOrder d.order → Follows d.order c → HasTakenAll d (behind client c (drop c.number d.order))
 whole_behind law client d c is f =
     let n = c.number in
-    let front = take n d.order in
+    let prefix = take n d.order in
     let later = drop n d.order in
     let all = take-append-drop n d.order in
     let start : 1 + n ≡ suc n = omega arith in
     let numbered : AreNumberedFrom (suc n) later = subst (λ k. AreNumberedFrom k later) start (drop_numbered 1 n d.order is.numbered) in
     record {
       number = omega (arith, behind_number client later c n refl numbered, f.within, length-drop n d.order);
-      channels = behind_channels client c later ∙ ap (λ ch. replay ch later) f.channels ∙ sym (replayed_on_law no_channels front later) ∙ ap (replay no_channels) all;
-      quorum = behind_quorum law client c front later (subst AreFirst (sym all) is.numbered) f.quorum ∙ ap quorum_of all;
+      channels = behind_channels client c later ∙ ap (λ ch. replay ch later) f.channels ∙ sym (replayed_on_law no_channels prefix later) ∙ ap (replay no_channels) all;
+      quorum = behind_quorum law client c prefix later (subst AreFirst (sym all) is.numbered) f.quorum ∙ ap quorum_of all;
     }
 
 -- behind a pump that answers Ok

@@ -55,7 +55,7 @@ none_first (Ok tree) = (tree.1, refl)
 none_first (Err fault) = tt
 
 pub none_put : (node : Summary) (base : Option (List ℕ)) (order : List Message) (held : Held) → PutsSome node base (listed order held) (listed order held)
-none_put node base order held = record { front = []; are_first = none_first (objects_over held base node); held = refl; kept = λ id bytes found. found }
+none_put node base order held = record { prefix = []; are_first = none_first (objects_over held base node); held = refl; kept = λ id bytes found. found }
 
 -- ---- an upload that fails
 

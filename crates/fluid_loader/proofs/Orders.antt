@@ -39,9 +39,9 @@ drop_sum (suc a) k (x ∷ xs) = drop_sum a k xs ∙ ap (λ n. drop n (x ∷ xs))
 
 -- ---- numbers
 
-pub front_numbered : (n : ℕ) (xs ys : List Message) → AreNumberedFrom n (xs ++ ys) → AreNumberedFrom n xs
-front_numbered n [] ys h = tt
-front_numbered n (x ∷ xs) ys h = (h.0, front_numbered (suc n) xs ys h.1)
+pub prefix_numbered : (n : ℕ) (xs ys : List Message) → AreNumberedFrom n (xs ++ ys) → AreNumberedFrom n xs
+prefix_numbered n [] ys h = tt
+prefix_numbered n (x ∷ xs) ys h = (h.0, prefix_numbered (suc n) xs ys h.1)
 
 pub drop_numbered : (k n : ℕ) (xs : List Message) → AreNumberedFrom k xs → AreNumberedFrom (k + n) (drop n xs)
 drop_numbered k zero xs h = let same : k ≡ k + 0 = omega arith in subst (λ j. AreNumberedFrom j xs) same h
@@ -54,9 +54,9 @@ behind_number client (m ∷ ms) c k is h = omega (arith, behind_number client ms
 
 -- ---- what each has
 
-pub each_front : (P : Message → Type 0) (xs ys : List Message) → Each P (xs ++ ys) → Each P xs
-each_front P [] ys h = tt
-each_front P (x ∷ xs) ys h = (h.0, each_front P xs ys h.1)
+pub each_prefix : (P : Message → Type 0) (xs ys : List Message) → Each P (xs ++ ys) → Each P xs
+each_prefix P [] ys h = tt
+each_prefix P (x ∷ xs) ys h = (h.0, each_prefix P xs ys h.1)
 
 pub each_drop : (P : Message → Type 0) (n : ℕ) (xs : List Message) → Each P xs → Each P (drop n xs)
 each_drop P zero xs h = h
@@ -68,13 +68,13 @@ each_drop P (suc n) (x ∷ xs) h = each_drop P n xs h.1
 pub take_between : (low n : ℕ) (order : List Message) → low ≤ n → take low order ++ between low n order ≡ take n order
 take_between low n order le = let same : low + (n - low) ≡ n = omega (arith, le) in sym (take_sum low (n - low) order) ∙ ap (λ k. take k order) same
 
-pub between_more : (low n : ℕ) (order front ahead : List Message) → low ≤ n → drop n order ≡ front ++ ahead → between low (n + length front) order ≡ between low n order ++ front
-between_more low n order front ahead le is =
-    let far : n + length front - low ≡ (n - low) + length front = omega (arith, le) in
+pub between_more : (low n : ℕ) (order prefix ahead : List Message) → low ≤ n → drop n order ≡ prefix ++ ahead → between low (n + length prefix) order ≡ between low n order ++ prefix
+between_more low n order prefix ahead le is =
+    let far : n + length prefix - low ≡ (n - low) + length prefix = omega (arith, le) in
     let same : low + (n - low) ≡ n = omega (arith, le) in
-    ap (λ k. take k (drop low order)) far ∙ take_sum (n - low) (length front) (drop low order)
-    ∙ ap (λ l. take (n - low) (drop low order) ++ take (length front) l) (drop_sum low (n - low) order ∙ ap (λ k. drop k order) same ∙ is)
-    ∙ ap (λ l. take (n - low) (drop low order) ++ l) (take-append_seam front ahead)
+    ap (λ k. take k (drop low order)) far ∙ take_sum (n - low) (length prefix) (drop low order)
+    ∙ ap (λ l. take (n - low) (drop low order) ++ take (length prefix) l) (drop_sum low (n - low) order ∙ ap (λ k. drop k order) same ∙ is)
+    ∙ ap (λ l. take (n - low) (drop low order) ++ l) (take-append_seam prefix ahead)
 
 pub between_longer : (low n : ℕ) (order more : List Message) → low ≤ n → n ≤ length order → between low n (order ++ more) ≡ between low n order
 between_longer low n order more le within =

@@ -21,17 +21,17 @@ use Rattle.fluid_loader.specs.declared.link.LinkFault.TheVariants as link
 of_part : {P : Type 0} (r : Result P StoreFault) (p : P) (f : P → List ℕ × List StoredObject) → Ok p ≡ r → (r >>= λ q. Ok (f q)) ≡ Ok (f p)
 of_part r p f is = ap (λ x. x >>= λ q. Ok (f q)) (sym is)
 
-abbrev HasFront : List StoredObject → Result (List ℕ × List StoredObject) StoreFault → Type 0
-HasFront front r = IfOk r (λ tree. (behind : List StoredObject) × (tree.1 ≡ front ++ behind))
+abbrev HasPrefix : List StoredObject → Result (List ℕ × List StoredObject) StoreFault → Type 0
+HasPrefix prefix r = IfOk r (λ tree. (behind : List StoredObject) × (tree.1 ≡ prefix ++ behind))
 
-front_of : {P : Type 0} (front : List StoredObject) (r : Result P StoreFault) (id : P → List ℕ) (objects : P → List StoredObject)
-    → IfOk r (λ p. (behind : List StoredObject) × (objects p ≡ front ++ behind)) → HasFront front (r >>= λ p. Ok (id p, objects p))
-front_of front (Ok p) id objects h = h
-front_of front (Err fault) id objects h = tt
+prefix_of : {P : Type 0} (prefix : List StoredObject) (r : Result P StoreFault) (id : P → List ℕ) (objects : P → List StoredObject)
+    → IfOk r (λ p. (behind : List StoredObject) × (objects p ≡ prefix ++ behind)) → HasPrefix prefix (r >>= λ p. Ok (id p, objects p))
+prefix_of prefix (Ok p) id objects h = h
+prefix_of prefix (Err fault) id objects h = tt
 
-no_front : (r : Result (List ℕ × List StoredObject) StoreFault) → HasFront [] r
-no_front (Ok tree) = (tree.1, refl)
-no_front (Err fault) = tt
+no_prefix : (r : Result (List ℕ × List StoredObject) StoreFault) → HasPrefix [] r
+no_prefix (Ok tree) = (tree.1, refl)
+no_prefix (Err fault) = tt
 
 module _ (node : Summary) (base : Option (List ℕ)) (order : List Message) (m n : MemoryStoring) where
   abbrev old : Storing
@@ -77,20 +77,20 @@ module _ (node : Summary) (base : Option (List ℕ)) (order : List Message) (m n
   keeps_now : (h : Held) → n.held ≡ h → Keeps m.held h → Keeps m.held n.held
   keeps_now h is keeps = subst (Keeps m.held) (sym is) keeps
 
-  some_of : (front : List StoredObject) → HasFront front (objects_over m.held base node) → Adds front old.content new.content → PutsSome node base before after
-  some_of front first adds =
-      let is = held_now (with_all m.held front) adds.content in
-      record { front = front; are_first = first; held = ap with_held is; kept = keeps_now (with_all m.held front) is adds.kept }
+  some_of : (prefix : List StoredObject) → HasPrefix prefix (objects_over m.held base node) → Adds prefix old.content new.content → PutsSome node base before after
+  some_of prefix first adds =
+      let is = held_now (with_all m.held prefix) adds.content in
+      record { prefix = prefix; are_first = first; held = ap with_held is; kept = keeps_now (with_all m.held prefix) is adds.kept }
 
   put_some : AddsSome base node old new → PutsSome node base before after
-  put_some u = some_of u.front (front_of u.front (part_over m.held base node) (λ p. p.place.id) (λ p. p.objects) u.are_first) u.adds
+  put_some u = some_of u.prefix (prefix_of u.prefix (part_over m.held base node) (λ p. p.place.id) (λ p. p.objects) u.are_first) u.adds
 
   put_none : (fault : StoreFault) → Refused base node old new fault → PutsSome node base before after
   put_none fault u =
       let is = held_now m.held u.same in
       record {
-        front = [];
-        are_first = no_front (objects_over m.held base node);
+        prefix = [];
+        are_first = no_prefix (objects_over m.held base node);
         held = ap with_held is;
         kept = keeps_now m.held is (λ id bytes found. found);
       }
@@ -98,8 +98,8 @@ module _ (node : Summary) (base : Option (List ℕ)) (order : List Message) (m n
   pub put_into_ok : (id : List ℕ) → Uploaded base node old new id → ((earlier : Option Summary) → IsEarlier m.held base earlier → StandsResolved n.held earlier node id)
       → PutInto node base order m.held n.held (Ok id)
   put_into_ok id u stands =
-      let whole : HasFront u.part.objects (objects_over m.held base node) =
-      subst (HasFront u.part.objects) (sym (of_part (part_over m.held base node) u.part (λ p. (p.place.id, p.objects)) u.is_part)) ([], sym (append-nil u.part.objects)) in
+      let whole : HasPrefix u.part.objects (objects_over m.held base node) =
+      subst (HasPrefix u.part.objects) (sym (of_part (part_over m.held base node) u.part (λ p. (p.place.id, p.objects)) u.is_part)) ([], sym (append-nil u.part.objects)) in
       (put_all id u, (stands, some_of u.part.objects whole u.adds))
 
   pub put_into_err : (fault : StoreFault) → Uploads base node old new (Err fault) → PutInto node base order m.held n.held (Err (link_fault fault))

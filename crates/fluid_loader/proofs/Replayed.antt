@@ -53,7 +53,7 @@ use Rattle.fluid_loader.specs.declared.link.Pick.{Pick}
 use Rattle.fluid_loader.specs.declared.link.Pick.TheVariants.{Empty, Latest, Handle}
 use Rattle.fluid_loader.proofs.Numbers.{number_right}
 use Rattle.fluid_loader.proofs.Based.{behind_based, none_named}
-use Rattle.fluid_loader.proofs.Orders.{front_numbered, each_drop}
+use Rattle.fluid_loader.proofs.Orders.{prefix_numbered, each_drop}
 use Rattle.fluid_loader.proofs.Picking.{picked_within}
 use Rattle.fluid_loader.proofs.ReadVersion.{bind_ok, blob_ok, version_based}
 use Rattle.fluid_loader.proofs.Exact.{tree_at, app_exact, protocol_exact}
@@ -92,7 +92,7 @@ behind_quorum law client c before [] first is = is ∙ ap quorum_of (sym (append
 behind_quorum law client c before (m ∷ ms) first is =
     let joined : before ++ (m ∷ ms) ≡ (before ++ m ∷ []) ++ ms = sym (append_assoc before (m ∷ []) ms) in
     behind_quorum law client (taken_by client c m) (before ++ m ∷ []) ms (subst AreFirst joined first)
-    (ap (λ q. after q m) is ∙ sym (law before m (front_numbered 1 before (m ∷ ms) first)))
+    (ap (λ q. after q m) is ∙ sym (law before m (prefix_numbered 1 before (m ∷ ms) first)))
     ∙ ap quorum_of (sym joined)
 
 -- ---- orders
@@ -152,7 +152,7 @@ module _ (back : IsReadBack) (maps : map_laws.IsReadBack) (counters : counter_la
     first_ones = take s.number order
 
     numbered : AreFirst first_ones
-    numbered = front_numbered 1 first_ones (drop s.number order) (subst AreFirst (sym (take-append-drop s.number order)) is_order.numbered)
+    numbered = prefix_numbered 1 first_ones (drop s.number order) (subst AreFirst (sym (take-append-drop s.number order)) is_order.numbered)
 
     read_back : All IsReadAsItself first_ones
     read_back = All-take IsReadAsItself s.number order is_order.read_back

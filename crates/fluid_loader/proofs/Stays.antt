@@ -32,7 +32,7 @@ use Rattle.fluid_loader.specs.declared.link.LinkFault.{LinkFault}
 use Rattle.fluid_loader.specs.declared.link.LinkFault.TheVariants.{Failed, Clash, NoMemory}
 use Rattle.fluid_loader.specs.declared.fault.LoadFault.{LoadFault}
 use Rattle.fluid_loader.proofs.Based.{grown_based}
-use Rattle.fluid_loader.proofs.Orders.{front_numbered, drop_numbered, behind_number, each_front, each_drop, between_more, between_longer}
+use Rattle.fluid_loader.proofs.Orders.{prefix_numbered, drop_numbered, behind_number, each_prefix, each_drop, between_more, between_longer}
 use Rattle.fluid_loader.proofs.Seen.{tells_then, tells_both}
 
 -- ---- what both tell
@@ -170,34 +170,34 @@ all_back (m ∷ ms) h = of (all_back ms h.1)
     of later (suc k) d lt = later k d (omega (arith, lt))
 
 -- behind the next messages of the order
-pub behind_more : StayBased → (client : List ℕ) (first c : AContainer) (d : Document) (front ahead : List Message) → IsDocument d → drop c.number d.order ≡ front ++ ahead → IsBehind client first d c
-    → IsBehind client first d (behind client c front)
-behind_more law client first c d front ahead is split b =
+pub behind_more : StayBased → (client : List ℕ) (first c : AContainer) (d : Document) (prefix ahead : List Message) → IsDocument d → drop c.number d.order ≡ prefix ++ ahead → IsBehind client first d c
+    → IsBehind client first d (behind client c prefix)
+behind_more law client first c d prefix ahead is split b =
     let n = c.number in
     let order = d.order in
-    let next = behind client c front in
+    let next = behind client c prefix in
     let start : 1 + n ≡ suc n = omega arith in
-    let numbered : AreNumberedFrom (suc n) front = front_numbered (suc n) front ahead (subst (AreNumberedFrom (suc n)) split (subst (λ k. AreNumberedFrom k (drop n order)) start (drop_numbered 1 n order is.in_order.numbered))) in
-    let number : next.number ≡ n + length front = behind_number client front c n refl numbered in
-    let back : Each IsReadAsItself front = each_front IsReadAsItself front ahead (subst (Each IsReadAsItself) split (each_drop IsReadAsItself n order (each-all IsReadAsItself order is.in_order.read_back))) in
+    let numbered : AreNumberedFrom (suc n) prefix = prefix_numbered (suc n) prefix ahead (subst (AreNumberedFrom (suc n)) split (subst (λ k. AreNumberedFrom k (drop n order)) start (drop_numbered 1 n order is.in_order.numbered))) in
+    let number : next.number ≡ n + length prefix = behind_number client prefix c n refl numbered in
+    let back : Each IsReadAsItself prefix = each_prefix IsReadAsItself prefix ahead (subst (Each IsReadAsItself) split (each_drop IsReadAsItself n order (each-all IsReadAsItself order is.in_order.read_back))) in
     let earlier = between first.number n order in
-    let whole : behind client (behind client first earlier) front ≡ behind client first (between first.number next.number order) =
-    sym (fold-append (taken_by client) first earlier front) ∙ ap (behind client first) (sym (between_more first.number n order front ahead b.begins split) ∙ ap (λ k. between first.number k order) (sym number)) in
+    let whole : behind client (behind client first earlier) prefix ≡ behind client first (between first.number next.number order) =
+    sym (fold-append (taken_by client) first earlier prefix) ∙ ap (behind client first) (sym (between_more first.number n order prefix ahead b.begins split) ∙ ap (λ k. between first.number k order) (sym number)) in
     record {
       begins = omega (arith, number, b.begins);
-      within = omega (arith, number, b.within, ap length split, length-append front ahead, length-drop n order);
-      abreast = subst (AreAbreast next) whole (abreast_behind client c (behind client first earlier) front b.abreast);
-      based = law.behind_messages d.held client c front (all_back front back) b.based;
+      within = omega (arith, number, b.within, ap length split, length-append prefix ahead, length-drop n order);
+      abreast = subst (AreAbreast next) whole (abreast_behind client c (behind client first earlier) prefix b.abreast);
+      based = law.behind_messages d.held client c prefix (all_back prefix back) b.based;
     }
 
 -- ---- a pump
 
-pub stays_pumped : StayBased → (old new : AContainer) (before after : Linked) (front : List Message) → after.told ≡ before.told → Tells before.told IsDocument → new ≡ behind before.client old front
-    → Tells before.told (λ d. (ahead : List Message) × (drop old.number d.order ≡ front ++ ahead)) → StaysBehind old new before after
-stays_pumped law old new before after front same is made split first =
+pub stays_pumped : StayBased → (old new : AContainer) (before after : Linked) (prefix : List Message) → after.told ≡ before.told → Tells before.told IsDocument → new ≡ behind before.client old prefix
+    → Tells before.told (λ d. (ahead : List Message) × (drop old.number d.order ≡ prefix ++ ahead)) → StaysBehind old new before after
+stays_pumped law old new before after prefix same is made split first =
     both_same (λ d e. IsBehind before.client first d old → IsBehind before.client first e new) before.told after.told same
-    (tells_both before.told IsDocument (λ d. (ahead : List Message) × (drop old.number d.order ≡ front ++ ahead)) (λ d. IsBehind before.client first d old → IsBehind before.client first d new)
-    (λ d doc s b. subst (IsBehind before.client first d) (sym made) (behind_more law before.client first old d front s.0 doc s.1 b)) is split)
+    (tells_both before.told IsDocument (λ d. (ahead : List Message) × (drop old.number d.order ≡ prefix ++ ahead)) (λ d. IsBehind before.client first d old → IsBehind before.client first d new)
+    (λ d doc s b. subst (IsBehind before.client first d) (sym made) (behind_more law before.client first old d prefix s.0 doc s.1 b)) is split)
 
 pub pump_stays : StayBased → (old new : AContainer) (before after : Linked) (r : Result ℕ LoadFault) → after.told ≡ before.told → Tells before.told IsDocument → PumpDoes old new before after r → StaysBehind old new before after
 pump_stays law old new before after (Ok number) same is h =

@@ -55,21 +55,21 @@ ReadStops old new (Refused nack) = ⊥
 ReadStops old new NoMemory = ⊤
 ReadStops old new (Clash id kept bytes) = ⊥
 
--- a pump takes in all of them, or, where it fails, a front of them, which is none where they weren't fetched
+-- a pump takes in all of them, or, where it fails, a prefix of them, which is none where they weren't fetched
 abbrev pub PumpDoes : AContainer → AContainer → Linked → Linked → Result ℕ LoadFault → Type 0
 PumpDoes old new before after (Ok number) =
     (number ≡ new.number) × ((messages : List Message) × (Fetched old.number before after messages × (new ≡ behind before.client old messages)))
 PumpDoes old new before after (Err fault) =
     ReadStops before after fault
-    × ((front : List Message) × ((new ≡ behind before.client old front)
-    × Tells before.told (λ document. (ahead : List Message) × (drop old.number document.order ≡ front ++ ahead))))
+    × ((prefix : List Message) × ((new ≡ behind before.client old prefix)
+    × Tells before.told (λ document. (ahead : List Message) × (drop old.number document.order ≡ prefix ++ ahead))))
 
--- a front of these messages was taken in
-pub record IsBehindFront (client : List ℕ) (old new : AContainer) (messages : List Message) : Type 0 where
-  pub front : List Message
+-- a prefix of these messages was taken in
+pub record IsBehindPrefix (client : List ℕ) (old new : AContainer) (messages : List Message) : Type 0 where
+  pub prefix : List Message
   pub ahead : List Message
-  pub splits : messages ≡ front ++ ahead
-  pub taken : new ≡ behind client old front
+  pub splits : messages ≡ prefix ++ ahead
+  pub taken : new ≡ behind client old prefix
 
 -- the link is as it was but for its count of faults and the numbers of the messages that were fetched
 pub record PumpReads (old new : Linked) : Type 0 where

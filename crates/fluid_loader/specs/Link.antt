@@ -239,9 +239,9 @@ pub record PutsTree (node : Summary) (base : Option (List ℕ)) (result : Result
 
 -- some of them from the front were put, perhaps none
 pub record PutsSome (node : Summary) (base : Option (List ℕ)) (old new : Document) : Type 0 where
-  pub front : List StoredObject
-  pub are_first : IfOk (objects_over old.held base node) (λ tree. (behind : List StoredObject) × (tree.1 ≡ front ++ behind))
-  pub held : new ≡ record old { held = with_all old.held front }
+  pub prefix : List StoredObject
+  pub are_first : IfOk (objects_over old.held base node) (λ tree. (behind : List StoredObject) × (tree.1 ≡ prefix ++ behind))
+  pub held : new ≡ record old { held = with_all old.held prefix }
   pub kept : Keeps old.held new.held
 
 -- under the id stands the tree with the nodes of the earlier one in the places of its handles

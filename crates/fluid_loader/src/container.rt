@@ -9,7 +9,7 @@ ghost use Rattle.fluid_store.specs.Standing.{Stands};
 ghost use Rattle.fluid_types.specs.Forms.{largest};
 ghost use Rattle.fluid_types.specs.Order.{AreNumberedFrom};
 ghost use Rattle.fluid_loader.specs.Container.{AContainer, empty, acknowledged, is_from, taken_by, behind};
-ghost use Rattle.fluid_loader.specs.Calls.{FetchesIn, Answers, LoadsOnly, LoadDoes, LoadReads, begun_in, begun_picked, Fetched, ReadStops, PumpDoes, PumpReads, Submits, IsBehindFront, Proposes, op_of, noop_of, summarize_of, shown_channels, counted_by, EditDoes, UploadsTree, UploadsOver, UploadEnds, SummarizeDoes, Picked, Begins, since, failure, or_refused, or_failed};
+ghost use Rattle.fluid_loader.specs.Calls.{FetchesIn, Answers, LoadsOnly, LoadDoes, LoadReads, begun_in, begun_picked, Fetched, ReadStops, PumpDoes, PumpReads, Submits, IsBehindPrefix, Proposes, op_of, noop_of, summarize_of, shown_channels, counted_by, EditDoes, UploadsTree, UploadsOver, UploadEnds, SummarizeDoes, Picked, Begins, since, failure, or_refused, or_failed};
 ghost use Rattle.fluid_loader.specs.Fitting.{MaySubmit};
 ghost use Rattle.fluid_loader.specs.Laws.{Follows, HasReplayed, HasTakenAll, IsBased, IsBehind, IsHonestPick, IsNoBadSummary, StaysBehind};
 ghost use Rattle.fluid_loader.specs.Version.{IsIn, IsOfVersion};
@@ -104,7 +104,7 @@ impl Container {
     }
 
     /// Takes in the messages behind the container's number, and answers the number then. Where the link tells the document, and
-    /// the container is behind a front of its order, it is then behind the whole order. After a fault a front of the messages
+    /// the container is behind a prefix of its order, it is then behind the whole order. After a fault a prefix of the messages
     /// was taken in.
     pub fn pump<L: Link>(&mut self, alloc: Global, link: &mut L) -> Result<u64, LoadFault>
         ensures lent { L.lent link.new ≡ L.lent link.old }
@@ -139,7 +139,7 @@ impl Container {
         requires numbered { AreNumberedFrom (self.old.number + 1) messages }
         requires fit { self.old.number + length messages < 2 ^ 53 }
         ensures taken { OnOk result (self.new ≡ behind own.now self.old messages) }
-        ensures fault { OnErr result (IsBehindFront own.now self.old self.new messages) }
+        ensures fault { OnErr result (IsBehindPrefix own.now self.old self.new messages) }
     {
         for message in messages.into_vec() {
             self.take(alloc, own, message)?;

@@ -101,13 +101,13 @@ rest_of_range (x ∷ xs) ys start (suc count) is =
     moved start n = omega arith
 
 range-append : (start first second : ℕ) → range_with_len start first ++ range_with_len (start + first) second ≡ range_with_len start (first + second)
-range-append start zero second = ap (λ n. range_with_len n second) (back start) ∙ ap (range_with_len start) (front second)
+range-append start zero second = ap (λ n. range_with_len n second) (back start) ∙ ap (range_with_len start) (prefix second)
   where
     back : (n : ℕ) → n + 0 ≡ n
     back n = omega arith
 
-    front : (n : ℕ) → n ≡ 0 + n
-    front n = omega arith
+    prefix : (n : ℕ) → n ≡ 0 + n
+    prefix n = omega arith
 range-append start (suc first) second =
     ap (λ (xs : List ℕ). start ∷ xs)
     (ap (λ n. range_with_len (start + 1) first ++ range_with_len n second) (moved start first) ∙ range-append (start + 1) first second)
@@ -123,11 +123,11 @@ each_below : (start count size : ℕ) → start ≤ size → AllByRecursion (λ 
 each_below start zero size within each = omega (arith, within)
 each_below start (suc count) size within each = omega (arith, each_below (start + 1) count size (omega (arith, each.0)) each.1)
 
--- the front of two lists
-get_or-front : {X : Type 0} (xs ys : List X) (n : ℕ) (none : X) → n < length xs → get_or (xs ++ ys) n none ≡ get_or xs n none
-get_or-front [] ys n none within = absurd (omega (arith, within))
-get_or-front (x ∷ xs) ys zero none within = refl
-get_or-front (x ∷ xs) ys (suc n) none within = get_or-front xs ys n none (omega (arith, within))
+-- the first of two lists
+get_or-prefix : {X : Type 0} (xs ys : List X) (n : ℕ) (none : X) → n < length xs → get_or (xs ++ ys) n none ≡ get_or xs n none
+get_or-prefix [] ys n none within = absurd (omega (arith, within))
+get_or-prefix (x ∷ xs) ys zero none within = refl
+get_or-prefix (x ∷ xs) ys (suc n) none within = get_or-prefix xs ys n none (omega (arith, within))
 
 -- ---- what `next` gave
 
@@ -159,7 +159,7 @@ record IsFrom (contents : List Tree) (g : Given) : Type 0 where
 from_more : (contents : List Tree) (more : Tree) (g : Given) → IsFrom contents g → IsFrom (contents ++ more ∷ []) g
 from_more contents more g is = record {
   below = omega (arith, is.below, length-append contents (more ∷ []));
-  contents_are = is.contents_are ∙ sym (get_or-front contents (more ∷ []) g.edit null is.below);
+  contents_are = is.contents_are ∙ sym (get_or-prefix contents (more ∷ []) g.edit null is.below);
 }
 
 given_from : (past : Past) → AreMade past → AllByRecursion (IsFrom (edits past)) (given past)

@@ -57,9 +57,9 @@ under c (Some (id, number)) = if bytes_eq id c then Some number else None
 abbrev pub numbers : List ℕ → List Message → List ℕ
 numbers c ms = filter_map (λ m. under c (op_of m)) ms
 
-cons_option-append : {Y : Type 0} (got : Option Y) (all front rest : List Y) → all ≡ front ++ rest → cons_option got all ≡ cons_option got front ++ rest
-cons_option-append None all front rest is = is
-cons_option-append (Some y) all front rest is = ap (λ ys. y ∷ ys) is
+cons_option-append : {Y : Type 0} (got : Option Y) (all prefix rest : List Y) → all ≡ prefix ++ rest → cons_option got all ≡ cons_option got prefix ++ rest
+cons_option-append None all prefix rest is = is
+cons_option-append (Some y) all prefix rest is = ap (λ ys. y ∷ ys) is
 
 pub filter_map-append : {X Y : Type 0} (f : X → Option Y) (xs ys : List X) → filter_map f (xs ++ ys) ≡ filter_map f xs ++ filter_map f ys
 filter_map-append f [] ys = refl

@@ -61,7 +61,7 @@ escape_name id name = as_they_are id (and_parts _ (list_all is_name_byte id) (is
 
 begins : (t : List ℕ) → bytes_eq (take 1 t) (34 ∷ []) ≡ true → t ≡ 34 ∷ drop 1 t
 begins [] is = absurd (cc)
-begins (x ∷ t) is = ap (λ (front : List ℕ). front ++ t) (same_id (x ∷ []) (34 ∷ []) is)
+begins (x ∷ t) is = ap (λ (prefix : List ℕ). prefix ++ t) (same_id (x ∷ []) (34 ∷ []) is)
 
 ends : (r : List ℕ) → bytes_eq (drop (length r - 1) r) (34 ∷ []) ≡ true → r ≡ take (length r - 1) r ++ 34 ∷ []
 ends r is = sym (take-append-drop (length r - 1) r) ∙ ap (λ (last : List ℕ). take (length r - 1) r ++ last) (same_id (drop (length r - 1) r) (34 ∷ []) is)
@@ -82,7 +82,7 @@ not_quoted t rest id starts rest_is stops =
 pub quoted : (t rest own id : List ℕ) → IsName id → bytes_eq (take 1 t) (34 ∷ []) ≡ true → rest ≡ drop 1 t → bytes_eq (drop (length rest - 1) rest) (34 ∷ []) ≡ true →
     own ≡ take (length rest - 1) rest → bytes_eq own id ≡ bytes_eq t (printed (text id))
 quoted t rest own id name starts rest_is stops own_is =
-    let inside : rest ≡ own ++ 34 ∷ [] = ends rest stops ∙ ap (λ (front : List ℕ). front ++ 34 ∷ []) (sym own_is) in
+    let inside : rest ≡ own ++ 34 ∷ [] = ends rest stops ∙ ap (λ (prefix : List ℕ). prefix ++ 34 ∷ []) (sym own_is) in
     let whole : t ≡ 34 ∷ (own ++ 34 ∷ []) = begins t starts ∙ ap (λ (r : List ℕ). 34 ∷ r) (sym rest_is ∙ inside) in
     let text_is : printed (text id) ≡ 34 ∷ (id ++ 34 ∷ []) = ap (λ (s : List ℕ). 34 ∷ (s ++ 34 ∷ [])) (escape_name id name) in
     same_test (bytes_eq own id) (bytes_eq t (printed (text id)))

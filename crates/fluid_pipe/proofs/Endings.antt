@@ -3,7 +3,7 @@ use Rattle.std.proofs.Common.{◌≡◌, ℕ, Bool, true, false, List, [], ◌�
 use Rattle.std.specs.Option.{option_map}
 use Rattle.std.specs.Str.Lines.{lines}
 use Rattle.fluid_io.specs.Causes.{Rose, Tells}
-use Rattle.fluid_io.specs.Streams.{Reading, Writing, Appends, AppendsFront}
+use Rattle.fluid_io.specs.Streams.{Reading, Writing, Appends, AppendsPrefix}
 use Rattle.fluid_io.specs.Reader.{Reader}
 use Rattle.fluid_io.specs.Lines.{ahead, lines_ahead, IsCutOff}
 use Rattle.fluid_pipe.specs.declared.refusal.Refusal.{Refusal}
@@ -210,11 +210,11 @@ cut-told m Sort goes None output rest all e sort = tt
 cut-told m Sort goes (Some bytes) output rest all e sort = record { rest = rest; goes_on = rw (sym e) (goes bytes all sort) }
 
 cut : {W : Type 0} (m : Meaning W) (Sort : List ℕ → List ℕ → Type 0) → ((input output : List ℕ) → Sort input output → IsBegun m input output ⊎ IsRefused m input output) →
-    (input old now after : Option (List ℕ)) (waiting : List ℕ) → Owes Sort input old now waiting → AppendsFront waiting now after → Wrote (IsCut m) input old after
-cut m Sort goes input old now after waiting owes front =
-    wrote-told (IsCut m) input old after (owes.gone ++ front.front) (appends-both owes.gone front.front old now after owes.appended front.appends)
-    (cut-told m Sort goes input (owes.gone ++ front.front) front.behind (owes.gone ++ waiting)
-    (ap (λ s. owes.gone ++ s) front.splits ∙ sym (append_assoc owes.gone front.front front.behind)) owes.sort)
+    (input old now after : Option (List ℕ)) (waiting : List ℕ) → Owes Sort input old now waiting → AppendsPrefix waiting now after → Wrote (IsCut m) input old after
+cut m Sort goes input old now after waiting owes prefix =
+    wrote-told (IsCut m) input old after (owes.gone ++ prefix.prefix) (appends-both owes.gone prefix.prefix old now after owes.appended prefix.appends)
+    (cut-told m Sort goes input (owes.gone ++ prefix.prefix) prefix.behind (owes.gone ++ waiting)
+    (ap (λ s. owes.gone ++ s) prefix.splits ∙ sym (append_assoc owes.gone prefix.prefix prefix.behind)) owes.sort)
 
 from_whole : {W : Type 0} (m : Meaning W) (input output : List ℕ) → IsWhole m input output → IsBegun m input output ⊎ IsRefused m input output
 from_whole m input output w =
@@ -233,31 +233,31 @@ finished m Keeps input source output sink after waiting (Err (stop.Failed fault)
 
 -- the sink failed
 pub finished-cut : {W F : Type 0} (m : Meaning W) (Keeps : List (List ℕ) → Type 0) (input source : Reading) (output sink after : Writing) (waiting : List ℕ) (settled : Result (Unit {0}) (Stop W F)) →
-    has_write_fault settled ≡ false → Settled m Keeps input output waiting source sink settled → AppendsFront waiting sink.written after.written →
+    has_write_fault settled ≡ false → Settled m Keeps input output waiting source sink settled → AppendsPrefix waiting sink.written after.written →
     Wrote (IsCut m) input.left output.written after.written
-finished-cut m Keeps input source output sink after waiting (Ok done) not h front = cut m _ (from_whole m) _ _ _ _ waiting h.0 front
-finished-cut m Keeps input source output sink after waiting (Err (stop.Refused number why)) not h front = cut m _ (λ input output (r : IsRefusedFor m number why input output). inr r.is) _ _ _ _ waiting h.0 front
-finished-cut m Keeps input source output sink after waiting (Err stop.ReadFault) not h front = cut m _ (λ input output b. inl (begun-cut m source.left input output b)) _ _ _ _ waiting h front
-finished-cut m Keeps input source output sink after waiting (Err stop.WriteFault) not h front = cc
-finished-cut m Keeps input source output sink after waiting (Err stop.NoMemory) not h front = cut m _ (λ input output b. inl b) _ _ _ _ waiting h front
-finished-cut m Keeps input source output sink after waiting (Err (stop.Failed fault)) not h front = cut m _ (λ input output b. inl b) _ _ _ _ waiting h front
+finished-cut m Keeps input source output sink after waiting (Ok done) not h prefix = cut m _ (from_whole m) _ _ _ _ waiting h.0 prefix
+finished-cut m Keeps input source output sink after waiting (Err (stop.Refused number why)) not h prefix = cut m _ (λ input output (r : IsRefusedFor m number why input output). inr r.is) _ _ _ _ waiting h.0 prefix
+finished-cut m Keeps input source output sink after waiting (Err stop.ReadFault) not h prefix = cut m _ (λ input output b. inl (begun-cut m source.left input output b)) _ _ _ _ waiting h prefix
+finished-cut m Keeps input source output sink after waiting (Err stop.WriteFault) not h prefix = cc
+finished-cut m Keeps input source output sink after waiting (Err stop.NoMemory) not h prefix = cut m _ (λ input output b. inl b) _ _ _ _ waiting h prefix
+finished-cut m Keeps input source output sink after waiting (Err (stop.Failed fault)) not h prefix = cut m _ (λ input output b. inl b) _ _ _ _ waiting h prefix
 
 -- ---- a sink that failed on the way
 
 pub progress-cut : {W : Type 0} (m : Meaning W) (Keeps : List (List ℕ) → Type 0) (input : Reading) (output : Writing) (r : Reader) (waiting : List ℕ) (s : Reading) (sink after : Writing) →
-    Progress m Keeps input output r waiting s sink → AppendsFront waiting sink.written after.written → Wrote (IsCut m) input.left output.written after.written
-progress-cut m Keeps input output r waiting s sink after p front =
+    Progress m Keeps input output r waiting s sink → AppendsPrefix waiting sink.written after.written → Wrote (IsCut m) input.left output.written after.written
+progress-cut m Keeps input output r waiting s sink after p prefix =
     cut m (IsBegun m) (λ input output b. inl b) input.left output.written sink.written after.written waiting
-    (owes-begun m Keeps input output r waiting waiting s sink p p.reached.written) front
+    (owes-begun m Keeps input output r waiting waiting s sink p p.reached.written) prefix
 
 pub cut-ends : {W F : Type 0} (m : Meaning W) (Keeps : List (List ℕ) → Type 0) (input : Reading) (output : Writing) (r : Reader) (waiting waiting' : List ℕ) (s : Reading) (sink after : Writing) (why : Stop W F) →
-    Progress m Keeps input output r waiting s sink → HandsOn sink.faults after.faults (Err why) → AppendsFront waiting sink.written after.written →
+    Progress m Keeps input output r waiting s sink → HandsOn sink.faults after.faults (Err why) → AppendsPrefix waiting sink.written after.written →
     Ends m Keeps input output waiting' s after (Err why)
-cut-ends m Keeps input output r waiting waiting' s sink after (stop.Refused number why) p h front = absurd h
-cut-ends m Keeps input output r waiting waiting' s sink after stop.ReadFault p h front = absurd h
-cut-ends m Keeps input output r waiting waiting' s sink after stop.WriteFault p h front = progress-cut m Keeps input output r waiting s sink after p front
-cut-ends m Keeps input output r waiting waiting' s sink after stop.NoMemory p h front = absurd h
-cut-ends m Keeps input output r waiting waiting' s sink after (stop.Failed fault) p h front = absurd h
+cut-ends m Keeps input output r waiting waiting' s sink after (stop.Refused number why) p h prefix = absurd h
+cut-ends m Keeps input output r waiting waiting' s sink after stop.ReadFault p h prefix = absurd h
+cut-ends m Keeps input output r waiting waiting' s sink after stop.WriteFault p h prefix = progress-cut m Keeps input output r waiting s sink after p prefix
+cut-ends m Keeps input output r waiting waiting' s sink after stop.NoMemory p h prefix = absurd h
+cut-ends m Keeps input output r waiting waiting' s sink after (stop.Failed fault) p h prefix = absurd h
 
 -- ---- a failure of the taker
 

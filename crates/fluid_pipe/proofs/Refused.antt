@@ -5,7 +5,7 @@ use Rattle.fluid_io.specs.Lines.{EndsInLineFeed}
 use Rattle.fluid_pipe.specs.declared.refusal.Refusal.{Refusal}
 use Rattle.fluid_pipe.specs.Meaning.{Meaning, refusal, Accepts}
 use Rattle.fluid_pipe.specs.Output.{IsWhole, IsRefused, IsBegun, IsInterrupted, Wrote, HasRefused}
-use Rattle.fluid_pipe.proofs.WholeLines.{begun-cut, front-of, lines-whole}
+use Rattle.fluid_pipe.proofs.WholeLines.{begun-cut, prefix-of, lines-whole}
 
 -- a line that is accepted isn't refused
 accepts-at : {W : Type 0} (m : Meaning W) (before ls : List (List ℕ)) (line : List ℕ) (behind : List (List ℕ)) → Accepts m before (ls ++ line ∷ behind) →
@@ -90,7 +90,7 @@ none-refused : {W : Type 0} (m : Meaning W) (source : Option (List ℕ)) (whole 
     IsInterrupted m source (whole ++ (part ++ rest)) output → HasRefused m whole → ⊥
 none-refused m source whole part rest output is fed h r =
     let same : h.rest ≡ rest = some-same source h.rest rest h.are_left is in
-    let f = front-of whole part rest h.whole h.part fed h.plain (h.split ∙ ap (λ b. h.whole ++ (h.part ++ b)) same) in
+    let f = prefix-of whole part rest h.whole h.part fed h.plain (h.split ∙ ap (λ b. h.whole ++ (h.part ++ b)) same) in
     not_both m (whole ++ f.more) (subst (λ b. Accepts m [] (lines b)) f.split h.accepted) (refused-more m whole f.more fed r)
 
 pub wrote-interrupted : {W : Type 0} (m : Meaning W) (left source old new : Option (List ℕ)) (whole part rest : List ℕ) → left ≡ Some (whole ++ (part ++ rest)) → source ≡ Some rest →

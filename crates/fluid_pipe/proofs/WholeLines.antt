@@ -21,20 +21,20 @@ onto-first : (x : ℕ) (parts more : List (List ℕ)) → 0 < length parts → o
 onto-first x [] more some = absurd (omega arith)
 onto-first x (part ∷ parts) more some = refl
 
-parts-step : (x : ℕ) (front more : List ℕ) (parts : List (List ℕ)) (feed : Bool) → (x == 10) ≡ feed →
-    slice_split (λ b. b == 10) (front ++ 10 ∷ more) ≡ slice_split (λ b. b == 10) front ++ parts →
-    slice_split (λ b. b == 10) (x ∷ (front ++ 10 ∷ more)) ≡ slice_split (λ b. b == 10) (x ∷ front) ++ parts
-parts-step x front more parts true is h =
-    slice_split-cons_yes (λ b. b == 10) x (front ++ 10 ∷ more) is ∙ ap (λ p. [] ∷ p) h
-    ∙ ap (λ p. p ++ parts) (sym (slice_split-cons_yes (λ b. b == 10) x front is))
-parts-step x front more parts false is h =
-    slice_split-cons_no (λ b. b == 10) x (front ++ 10 ∷ more) is ∙ ap (onto_first x) h
-    ∙ onto-first x (slice_split (λ b. b == 10) front) parts (omega (arith, length-slice_split (λ b. b == 10) front))
-    ∙ ap (λ p. p ++ parts) (sym (slice_split-cons_no (λ b. b == 10) x front is))
+parts-step : (x : ℕ) (prefix more : List ℕ) (parts : List (List ℕ)) (feed : Bool) → (x == 10) ≡ feed →
+    slice_split (λ b. b == 10) (prefix ++ 10 ∷ more) ≡ slice_split (λ b. b == 10) prefix ++ parts →
+    slice_split (λ b. b == 10) (x ∷ (prefix ++ 10 ∷ more)) ≡ slice_split (λ b. b == 10) (x ∷ prefix) ++ parts
+parts-step x prefix more parts true is h =
+    slice_split-cons_yes (λ b. b == 10) x (prefix ++ 10 ∷ more) is ∙ ap (λ p. [] ∷ p) h
+    ∙ ap (λ p. p ++ parts) (sym (slice_split-cons_yes (λ b. b == 10) x prefix is))
+parts-step x prefix more parts false is h =
+    slice_split-cons_no (λ b. b == 10) x (prefix ++ 10 ∷ more) is ∙ ap (onto_first x) h
+    ∙ onto-first x (slice_split (λ b. b == 10) prefix) parts (omega (arith, length-slice_split (λ b. b == 10) prefix))
+    ∙ ap (λ p. p ++ parts) (sym (slice_split-cons_no (λ b. b == 10) x prefix is))
 
-parts-fed : (front more : List ℕ) → slice_split (λ b. b == 10) (front ++ 10 ∷ more) ≡ slice_split (λ b. b == 10) front ++ slice_split (λ b. b == 10) more
+parts-fed : (prefix more : List ℕ) → slice_split (λ b. b == 10) (prefix ++ 10 ∷ more) ≡ slice_split (λ b. b == 10) prefix ++ slice_split (λ b. b == 10) more
 parts-fed [] more = refl
-parts-fed (x ∷ front) more = parts-step x front more (slice_split (λ b. b == 10) more) (x == 10) refl (parts-fed front more)
+parts-fed (x ∷ prefix) more = parts-step x prefix more (slice_split (λ b. b == 10) more) (x == 10) refl (parts-fed prefix more)
 
 of-parts : (parts more : List (List ℕ)) → 0 < length more → lines_of_parts (parts ++ more) ≡ map strip_carriage_return parts ++ lines_of_parts more
 of-parts [] more some = refl
@@ -42,15 +42,15 @@ of-parts (part ∷ []) [] some = absurd (omega arith)
 of-parts (part ∷ []) (next ∷ more) some = refl
 of-parts (part ∷ next ∷ parts) more some = ap (λ ls. strip_carriage_return part ∷ ls) (of-parts (next ∷ parts) more some)
 
-lines-at : (front more : List ℕ) → lines (front ++ 10 ∷ more) ≡ map strip_carriage_return (slice_split (λ b. b == 10) front) ++ lines more
-lines-at front more =
-    ap lines_of_parts (parts-fed front more)
-    ∙ of-parts (slice_split (λ b. b == 10) front) (slice_split (λ b. b == 10) more) (omega (arith, length-slice_split (λ b. b == 10) more))
+lines-at : (prefix more : List ℕ) → lines (prefix ++ 10 ∷ more) ≡ map strip_carriage_return (slice_split (λ b. b == 10) prefix) ++ lines more
+lines-at prefix more =
+    ap lines_of_parts (parts-fed prefix more)
+    ∙ of-parts (slice_split (λ b. b == 10) prefix) (slice_split (λ b. b == 10) more) (omega (arith, length-slice_split (λ b. b == 10) more))
 
 lines-fed : (bytes behind : List ℕ) → EndsInLineFeed bytes → lines (bytes ++ behind) ≡ lines bytes ++ lines behind
 lines-fed bytes behind h =
-    ap (λ b. lines (b ++ behind)) h.is ∙ ap lines (append_assoc h.front (10 ∷ []) behind) ∙ lines-at h.front behind
-    ∙ ap (λ ls. ls ++ lines behind) (sym (ap lines h.is ∙ lines-at h.front [] ∙ append-nil (map strip_carriage_return (slice_split (λ b. b == 10) h.front))))
+    ap (λ b. lines (b ++ behind)) h.is ∙ ap lines (append_assoc h.prefix (10 ∷ []) behind) ∙ lines-at h.prefix behind
+    ∙ ap (λ ls. ls ++ lines behind) (sym (ap lines h.is ∙ lines-at h.prefix [] ∙ append-nil (map strip_carriage_return (slice_split (λ b. b == 10) h.prefix))))
 
 -- the lines of whole lines and of the bytes behind them
 pub lines-whole : (bytes behind : List ℕ) → AreWhole bytes behind → lines (bytes ++ behind) ≡ lines bytes ++ lines behind
@@ -91,7 +91,7 @@ told-behind P (Some bytes) more is h = let same : bytes ≡ more = cc in subst P
 whole-more : (whole bytes more : List ℕ) (new : Option (List ℕ)) → new ≡ Some more → EndsInLineFeed bytes ⊎ Tells new (λ behind. behind ≡ []) →
     AreWhole (whole ++ bytes) more
 whole-more whole bytes more new is (inl fed) =
-    inr (inl (record { front = whole ++ fed.front; is = ap (λ b. whole ++ b) fed.is ∙ sym (append_assoc whole fed.front (10 ∷ [])) }))
+    inr (inl (record { prefix = whole ++ fed.prefix; is = ap (λ b. whole ++ b) fed.is ∙ sym (append_assoc whole fed.prefix (10 ∷ [])) }))
 whole-more whole bytes more new is (inr last) = inr (inr (told-behind (λ b. b ≡ []) new more is last))
 
 read-one : (bytes : List ℕ) (old new : Option (List ℕ)) (before : List (List ℕ)) (line : List ℕ) → IsReadTo bytes old before → PassesLine line old new →
@@ -152,28 +152,28 @@ begun-cut m left input output h = record {
 -- ---- two ways to cut the same bytes
 
 -- the first bytes are at the front of the second
-pub record IsFront (front bytes : List ℕ) : Type 0 where
+pub record IsPrefix (prefix bytes : List ℕ) : Type 0 where
   pub more : List ℕ
-  pub split : bytes ≡ front ++ more
+  pub split : bytes ≡ prefix ++ more
 
-no-feed : (front more : List ℕ) → IsPlain (front ++ 10 ∷ more) → ⊥
+no-feed : (prefix more : List ℕ) → IsPlain (prefix ++ 10 ∷ more) → ⊥
 no-feed [] more h = let ten = All-head (λ b. (b == 10) ≡ false) 10 more h in cc
-no-feed (x ∷ front) more h = no-feed front more (All-tail (λ b. (b == 10) ≡ false) x (front ++ 10 ∷ more) h)
+no-feed (x ∷ prefix) more h = no-feed prefix more (All-tail (λ b. (b == 10) ≡ false) x (prefix ++ 10 ∷ more) h)
 
 -- bytes up to a line feed are at the front of those behind which no line feed stands
-fed-front : (front part whole plain : List ℕ) → IsPlain plain → front ++ 10 ∷ part ≡ whole ++ plain → IsFront (front ++ 10 ∷ []) whole
-fed-front front part [] plain h is = absurd (no-feed front part (subst IsPlain (sym is) h))
-fed-front [] part (y ∷ whole) plain h is = record { more = whole; split = cc }
-fed-front (x ∷ front) part (y ∷ whole) plain h is =
+fed-prefix : (prefix part whole plain : List ℕ) → IsPlain plain → prefix ++ 10 ∷ part ≡ whole ++ plain → IsPrefix (prefix ++ 10 ∷ []) whole
+fed-prefix prefix part [] plain h is = absurd (no-feed prefix part (subst IsPlain (sym is) h))
+fed-prefix [] part (y ∷ whole) plain h is = record { more = whole; split = cc }
+fed-prefix (x ∷ prefix) part (y ∷ whole) plain h is =
     let first : y ≡ x = cc in
-    let rest = fed-front front part whole plain h cc in
+    let rest = fed-prefix prefix part whole plain h cc in
     record { more = rest.more; split = ap (λ b. b ∷ whole) first ∙ ap (λ bs. x ∷ bs) rest.split }
 
 -- whole lines that were read are among those that an interrupted run took
-pub front-of : (whole part rest whole' part' : List ℕ) → EndsInLineFeed whole → IsPlain part' → whole ++ (part ++ rest) ≡ whole' ++ (part' ++ rest) →
-    IsFront whole whole'
-front-of whole part rest whole' part' fed plain is =
+pub prefix-of : (whole part rest whole' part' : List ℕ) → EndsInLineFeed whole → IsPlain part' → whole ++ (part ++ rest) ≡ whole' ++ (part' ++ rest) →
+    IsPrefix whole whole'
+prefix-of whole part rest whole' part' fed plain is =
     let both : whole ++ part ≡ whole' ++ part' = append_cancel_right (whole ++ part) (whole' ++ part') rest
     (append_assoc whole part rest ∙ is ∙ sym (append_assoc whole' part' rest)) in
-    let f = fed-front fed.front part whole' part' plain (sym (append_assoc fed.front (10 ∷ []) part) ∙ ap (λ b. b ++ part) (sym fed.is) ∙ both) in
+    let f = fed-prefix fed.prefix part whole' part' plain (sym (append_assoc fed.prefix (10 ∷ []) part) ∙ ap (λ b. b ++ part) (sym fed.is) ∙ both) in
     record { more = f.more; split = f.split ∙ ap (λ b. b ++ f.more) (sym fed.is) }

@@ -3,7 +3,7 @@ ghost use Rattle.std.specs.Prelude.{◌≡◌, ℕ, ◌+◌, ◌-◌, ◌*◌, �
 ghost use Rattle.fluid_io.specs.Causes.{HasExactCause};
 ghost use Rattle.fluid_io.specs.Lines.{ahead};
 ghost use Rattle.fluid_io.specs.Reader.{Reader};
-ghost use Rattle.fluid_io.specs.Streams.{Reading, Writing, Appends, AppendsFront};
+ghost use Rattle.fluid_io.specs.Streams.{Reading, Writing, Appends, AppendsPrefix};
 ghost use Rattle.fluid_io.specs.declared.lines.TheConstants.{MOST_LINES};
 ghost use Rattle.fluid_pipe.specs.Meaning.{Meaning, bad_line, refusal_words};
 ghost use Rattle.fluid_pipe.specs.Output.{FailedAt, Finished, HasEndCause, HasFailed};
@@ -111,7 +111,7 @@ fn hand_on_if_many<K: Sink, W: Drop, F: Drop>(
 ) -> Result<(), Stop<W, F>>
     ensures cause { HandsOn (K.seen output.old).faults (K.seen output.new).faults result }
     ensures gone { OnOk result (HandedOn waiting.old.items waiting.new.items (K.seen output.old) (K.seen output.new)) }
-    ensures cut { OnErr result (AppendsFront waiting.old.items (K.seen output.old).written (K.seen output.new).written) }
+    ensures cut { OnErr result (AppendsPrefix waiting.old.items (K.seen output.old).written (K.seen output.new).written) }
 {
     if waiting.len() < PIECE {
         return Ok(());
@@ -127,7 +127,7 @@ fn hand_on<K: Sink>(waiting: &mut Vec<u8>, output: &mut K) -> Result<(), Failed>
     ensures cause { HasExactCause (K.seen output.old).faults (K.seen output.new).faults result }
     ensures none { waiting.new.items ≡ [] }
     ensures gone { OnOk result (Appends waiting.old.items (K.seen output.old).written (K.seen output.new).written) }
-    ensures cut { OnErr result (AppendsFront waiting.old.items (K.seen output.old).written (K.seen output.new).written) }
+    ensures cut { OnErr result (AppendsPrefix waiting.old.items (K.seen output.old).written (K.seen output.new).written) }
 {
     let written = write_out(output, waiting.as_slice());
     waiting.clear();

@@ -225,7 +225,7 @@ asked_wants f t = then (a_text f t) _ (text_wants f t) (λ s. latest_or (bytes_e
 each_wants : {A : Type 0} (read : Tree → Read (List A)) → ((t : Tree) → WantsNoMemory (read t)) → (ts : Trees) → WantsNoMemory (each read ts)
 unfolding each
 each_wants read h no_trees = tt
-each_wants read h (tree t ts) = then (read t) _ (h t) (λ front. then (each read ts) _ (each_wants read h ts) (λ rest. tt))
+each_wants read h (tree t ts) = then (read t) _ (h t) (λ prefix. then (each read ts) _ (each_wants read h ts) (λ rest. tt))
 
 alone_wants : Names alone
 alone_wants f t = then (submission f t) _ (submission_wants f t) (λ s. tt)

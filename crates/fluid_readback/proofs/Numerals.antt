@@ -35,16 +35,16 @@ pub record IsNumber (most : ℕ) (n : Num) : Type 0 where
 digit_small : (c : ℕ) → is_ascii_digit c ≡ true → digit_value c < 10
 digit_small c h = grind (arith)
 
-front_digits_on : (x : ℕ) (xs : List ℕ) → AllDigits 10 (take (prefix_len is_ascii_digit xs) xs) → (b : Bool) → is_ascii_digit x ≡ b
+prefix_digits_on : (x : ℕ) (xs : List ℕ) → AllDigits 10 (take (prefix_len is_ascii_digit xs) xs) → (b : Bool) → is_ascii_digit x ≡ b
     → AllDigits 10 (take (cond b (1 + prefix_len is_ascii_digit xs) 0) (x ∷ xs))
-front_digits_on x xs more true h =
+prefix_digits_on x xs more true h =
     let one : 1 + prefix_len is_ascii_digit xs ≡ suc (prefix_len is_ascii_digit xs) = omega arith in
     rw one (digit_small x h, more)
-front_digits_on x xs more false h = tt
+prefix_digits_on x xs more false h = tt
 
-front_digits : (xs : List ℕ) → AllDigits 10 (take (prefix_len is_ascii_digit xs) xs)
-front_digits [] = tt
-front_digits (x ∷ xs) = front_digits_on x xs (front_digits xs) (is_ascii_digit x) refl
+prefix_digits : (xs : List ℕ) → AllDigits 10 (take (prefix_len is_ascii_digit xs) xs)
+prefix_digits [] = tt
+prefix_digits (x ∷ xs) = prefix_digits_on x xs (prefix_digits xs) (is_ascii_digit x) refl
 
 -- the whole part of what is scanned
 record IsScanned (s : List ℕ) (p : Parts) : Type 0 where
@@ -57,7 +57,7 @@ unfolding scan_numeral
 scanned s =
     let place : 0 + prefix_len is_ascii_digit s - 0 ≡ prefix_len is_ascii_digit s = omega arith in
     record {
-      digits = rw place (front_digits s);
+      digits = rw place (prefix_digits s);
       short = rw place (omega (arith, length-take (prefix_len is_ascii_digit s) s));
       no_point = λ h. rw h refl;
     }

@@ -60,7 +60,7 @@ takes_more past ms m old mid new some one = record {
 
 -- so many were taken in, and these are left
 pub record HasTaken (all rest : List Message) (old now : Roamer) : Type 0 where
-  pub took : (past : Past) → Stands old.outbox past → (front : List Message) × ((all ≡ front ++ rest) × TakesIn past front old now)
+  pub took : (past : Past) → Stands old.outbox past → (prefix : List Message) × ((all ≡ prefix ++ rest) × TakesIn past prefix old now)
   pub kept : IsSendable now.outbox
   pub ahead : AreNumberedFrom (now.outbox.heard_to + 1) rest
 

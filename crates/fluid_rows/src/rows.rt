@@ -15,7 +15,7 @@ pub(crate) fn told(alloc: Global, row: &str) -> Result<Text, NoMemory> {
         "checkpoint" => checkpoints::told(alloc, &bytes),
         "blob" => trees::blob(alloc, &bytes),
         "object" => trees::object(alloc, &bytes),
-        "fronts" => trees::fronts(alloc, &bytes),
+        "prefixes" => trees::prefixes(alloc, &bytes),
         "counter-bytes" => counters::bytes_told(alloc, &bytes),
         "map-bytes" => maps::bytes_told(alloc, &bytes),
         "lines" => streams::lines(alloc, &bytes),

@@ -106,8 +106,8 @@ fn entries_told(alloc: Global, entries: &ObjectEntries) -> Result<Text, NoMemory
     Ok(Text::new(told))
 }
 
-// Whether each front of an object's bytes is refused at its end.
-pub(crate) fn fronts(alloc: Global, bytes: &[u8]) -> Result<Text, NoMemory> {
+// Whether each prefix of an object's bytes is refused at its end.
+pub(crate) fn prefixes(alloc: Global, bytes: &[u8]) -> Result<Text, NoMemory> {
     for length in 0..bytes.len() {
         if place_of(alloc, &bytes[..length]) != Some(length as u64) {
             return Ok(Text::new(format!(in alloc; "not that of {length}")?));

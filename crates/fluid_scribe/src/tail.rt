@@ -61,8 +61,8 @@ impl Tail {
             number,
             &mut place,
         );
-        drop_front(&mut self.behind, place.messages);
-        drop_front(&mut self.minima, place.changes);
+        drop_prefix(&mut self.behind, place.messages);
+        drop_prefix(&mut self.minima, place.changes);
         brought?;
         self.due = None;
         Ok(())
@@ -266,7 +266,7 @@ fn take_next(alloc: Global, quorum: &mut Quorum, message: &Message) -> Result<()
 }
 
 // Takes the first of a queue away, so many of them.
-fn drop_front<T: Drop>(queue: &mut VecDeque<T>, count: usize)
+fn drop_prefix<T: Drop>(queue: &mut VecDeque<T>, count: usize)
     ensures { queue.new.items ≡ drop count queue.old.items }
 {
     for _index in 0..count {

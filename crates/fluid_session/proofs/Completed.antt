@@ -106,12 +106,12 @@ module _ (last : SessionEnd) (none : IsCarried last → ⊥) where
 
 -- ---- notes
 
-pub note_front : (a b : List Step) → HasNote a → HasNote (a ++ b)
-note_front [] b note = absurd note
-note_front (Entered raw verdict ∷ a) b note = note_front a b note
-note_front (Aside (SideFailed other) ∷ a) b note = tt
-note_front (Aside (Stored n) ∷ a) b note = note_front a b note
-note_front (Aside (Restarted n) ∷ a) b note = note_front a b note
+pub note_prefix : (a b : List Step) → HasNote a → HasNote (a ++ b)
+note_prefix [] b note = absurd note
+note_prefix (Entered raw verdict ∷ a) b note = note_prefix a b note
+note_prefix (Aside (SideFailed other) ∷ a) b note = tt
+note_prefix (Aside (Stored n) ∷ a) b note = note_prefix a b note
+note_prefix (Aside (Restarted n) ∷ a) b note = note_prefix a b note
 
 note_back : (a b : List Step) → HasNote b → HasNote (a ++ b)
 note_back [] b note = note
@@ -182,9 +182,9 @@ pub data TextCause (r : Round) (f : TalkFault) : Type 0 where
   refused : HasRefusal r.to.key.mine → TextCause r f
   risen : Rose r.before.faults r.now.faults → TextCause r f
 
-mid_connect : (front : List Act) (a : Act) (rest : List Act) → NoConnects (front ++ a ∷ rest) → IsNoConnect a
+mid_connect : (prefix : List Act) (a : Act) (rest : List Act) → NoConnects (prefix ++ a ∷ rest) → IsNoConnect a
 mid_connect [] a rest (here, none) = here
-mid_connect (x ∷ front) a rest (here, none) = mid_connect front a rest none
+mid_connect (x ∷ prefix) a rest (here, none) = mid_connect prefix a rest none
 
 none_connects : (a : Act) → IsConnect a → IsNoConnect a → ⊥
 none_connects (act.Connect name write scopes detail moment) h k = k
@@ -373,11 +373,11 @@ module _ (s u : Talking) (before now : Storing) (old new : Wiring) (report : Rep
     where
       entered_leave : (raw : Option Raw) → EntersLeave raw account.last.pass u.pass → HasNote u.pass.mine
       entered_leave None same = subst (λ (p : Knowing). HasNote p.mine) (sym same) note
-      entered_leave (Some raw) enters = subst HasNote (sym enters.goes.mine) (note_front account.last.pass.mine _ note)
+      entered_leave (Some raw) enters = subst HasNote (sym enters.goes.mine) (note_prefix account.last.pass.mine _ note)
 
       leave_noted : (result : Result (Unit {0}) TalkFault) → Leaves account.last u account.moment result → HasNote u.pass.mine
       leave_noted (Ok done) leaves = entered_leave (leave_of account.moment account.last.voice) leaves.does.pass
-      leave_noted (Err fault) leaves = subst HasNote (sym leaves.does.goes.mine) (note_front account.last.pass.mine (talk_steps fault) note)
+      leave_noted (Err fault) leaves = subst HasNote (sym leaves.does.goes.mine) (note_prefix account.last.pass.mine (talk_steps fault) note)
 
   at_collect : (fault : TalkFault) → account.end ≡ end_of fault → FailsAs m account.last IsCollectCause fault → Completes
   at_collect NoMemory is fails = at_memory is
@@ -392,10 +392,10 @@ module _ (s u : Talking) (before now : Storing) (old new : Wiring) (report : Rep
   -- a text
   at_round : (r : Round) (f : TalkFault) → account.end ≡ end_of f → EndsIn (hears r) account.runs.events → r.heard.fault ≡ Some f → account.last ≡ m → Completes
   at_round r f is last failed same =
-      let parts = split_events last.front (hears r ∷ []) (record { talk = s; store = before }) (record { talk = m; store = now }) (subst (λ l. AreEvents (record { talk = s; store = before }) l (record { talk = m; store = now })) last.are account.runs.are) in
+      let parts = split_events last.prefix (hears r ∷ []) (record { talk = s; store = before }) (record { talk = m; store = now }) (subst (λ l. AreEvents (record { talk = s; store = before }) l (record { talk = m; store = now })) last.are account.runs.are) in
       by parts.0 parts.1.0 parts.1.1.0.1 parts.1.1.1.0 parts.1.1.1.1
     where
-      by : (mid : Stand) → AreEvents (record { talk = s; store = before }) last.front mid → r.before ≡ mid.store → IsRound r → ◌≡◌ {A = Stand} (record { talk = m; store = now }) (record { talk = r.to; store = r.now }) → Completes
+      by : (mid : Stand) → AreEvents (record { talk = s; store = before }) last.prefix mid → r.before ≡ mid.store → IsRound r → ◌≡◌ {A = Stand} (record { talk = m; store = now }) (record { talk = r.to; store = r.now }) → Completes
       by mid first from is_round to = of_cause (text_cause r f is_round failed)
         where
           to_talk : m ≡ r.to
@@ -410,7 +410,7 @@ module _ (s u : Talking) (before now : Storing) (old new : Wiring) (report : Rep
           of_cause (noted note) = absurd (noted_never (subst (λ (k : Talking). HasNote k.pass.mine) (sym (same ∙ to_talk)) note))
           of_cause (refused refusal_is) = absurd (fine.key (subst (λ (k : Keyed). HasRefusal k.mine) (sym (closing.key ∙ ap (λ (k : Talking). k.key) to_talk)) refusal_is))
           of_cause (risen rose) =
-              let later : before.faults ≤ r.before.faults = subst (λ (x : Storing). before.faults ≤ x.faults) (sym from) (store_later last.front (record { talk = s; store = before }) mid first) in
+              let later : before.faults ≤ r.before.faults = subst (λ (x : Storing). before.faults ≤ x.faults) (sym from) (store_later last.prefix (record { talk = s; store = before }) mid first) in
               absurd (fine.objects (subst (λ (x : Storing). Rose before.faults x.faults) (sym to_store) (rose_later before.faults r.before.faults r.now.faults later rose)))
 
   -- the wire's texts are at their end: the leave may fail

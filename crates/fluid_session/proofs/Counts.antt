@@ -246,22 +246,22 @@ module _ (kind : Verdict → Bool) (f : Tally → ℕ) (counts : IsCountOf kind 
       one (act.GetObject id) done answer (EndsEntered v) suits = absurd suits
       one (act.PutObject bytes) done answer (EndsEntered v) suits = absurd suits
 
-      front_one : (a b : List Act) → IsOneAnswer (a ++ b) → IsOneAnswer a
-      front_one [] b h = tt
-      front_one (act.Say reply ∷ []) b h = tt
-      front_one (act.Connect name write scopes detail moment ∷ []) b h = tt
-      front_one (act.Enter raw ∷ []) b h = absurd h
-      front_one (act.Deltas from to ∷ []) b h = absurd h
-      front_one (act.Summary asked ∷ []) b h = absurd h
-      front_one (act.GetObject id ∷ []) b h = absurd h
-      front_one (act.PutObject bytes ∷ []) b h = absurd h
-      front_one (act.Say reply ∷ x ∷ a) b h = absurd h
-      front_one (act.Connect name write scopes detail moment ∷ x ∷ a) b h = absurd h
-      front_one (act.Enter raw ∷ x ∷ a) b h = absurd h
-      front_one (act.Deltas from to ∷ x ∷ a) b h = absurd h
-      front_one (act.Summary asked ∷ x ∷ a) b h = absurd h
-      front_one (act.GetObject id ∷ x ∷ a) b h = absurd h
-      front_one (act.PutObject bytes ∷ x ∷ a) b h = absurd h
+      prefix_one : (a b : List Act) → IsOneAnswer (a ++ b) → IsOneAnswer a
+      prefix_one [] b h = tt
+      prefix_one (act.Say reply ∷ []) b h = tt
+      prefix_one (act.Connect name write scopes detail moment ∷ []) b h = tt
+      prefix_one (act.Enter raw ∷ []) b h = absurd h
+      prefix_one (act.Deltas from to ∷ []) b h = absurd h
+      prefix_one (act.Summary asked ∷ []) b h = absurd h
+      prefix_one (act.GetObject id ∷ []) b h = absurd h
+      prefix_one (act.PutObject bytes ∷ []) b h = absurd h
+      prefix_one (act.Say reply ∷ x ∷ a) b h = absurd h
+      prefix_one (act.Connect name write scopes detail moment ∷ x ∷ a) b h = absurd h
+      prefix_one (act.Enter raw ∷ x ∷ a) b h = absurd h
+      prefix_one (act.Deltas from to ∷ x ∷ a) b h = absurd h
+      prefix_one (act.Summary asked ∷ x ∷ a) b h = absurd h
+      prefix_one (act.GetObject id ∷ x ∷ a) b h = absurd h
+      prefix_one (act.PutObject bytes ∷ x ∷ a) b h = absurd h
 
       of_done : (done : List Did) → IsOneAnswer (acts_in done) → AreDone done → count_of kind (ended done) ≡ 0
       of_done [] h are = refl
@@ -269,7 +269,7 @@ module _ (kind : Verdict → Bool) (f : Tally → ℕ) (counts : IsCountOf kind 
       of_done (d ∷ e ∷ done) h are = absurd (more_none d.act e.act (acts_in done) h)
 
       by : (acts : List Act) (done : List Did) (rest : List Act) → IsOneAnswer acts → acts ≡ acts_in done ++ rest → AreDone done → count_of kind (ended done) ≡ 0
-      by acts done rest h is are = of_done done (front_one (acts_in done) rest (subst IsOneAnswer is h)) are
+      by acts done rest h is are = of_done done (prefix_one (acts_in done) rest (subst IsOneAnswer is h)) are
 
   pub sum_apart : (es : List Event) → AllApart es → sum_in f es ≡ 0
   sum_apart [] all = refl

@@ -38,8 +38,8 @@ use Rattle.fluid_session.specs.Events.{Event, Stand, Round, IsRound, AreWhole, A
 use Rattle.fluid_session.specs.Events.Event.{brings, hears}
 use Rattle.fluid_session.specs.Lines.{entered, entered_in, subs_in, IsFull, SubmitsTold, Submits, MayBreakLast, GoesOn}
 use Rattle.fluid_session.proofs.Passes.{goes_on, ledger-more, found_prefix}
-use Rattle.fluid_session.proofs.Fronts.{front_behind, front_last}
-use Rattle.fluid_session.proofs.Submitted.{IsNoConnect, NoConnects, round_none, round_tried, round_whole, each_front, all_in, HasNoFull, tried_front, all_tried}
+use Rattle.fluid_session.proofs.Prefixes.{prefix_behind, prefix_last}
+use Rattle.fluid_session.proofs.Submitted.{IsNoConnect, NoConnects, round_none, round_tried, round_whole, each_prefix, all_in, HasNoFull, tried_prefix, all_tried}
 
 -- ---- counts only grow
 
@@ -75,14 +75,14 @@ under_counted : (id : Option (List ℕ)) (text : List ℕ) (moment : ℕ) → Al
 under_counted None text moment = tt
 under_counted (Some id) text moment = each_counted id moment (submissions_of id text)
 
-front_counted : (a b : List Raw) → AllCounted (a ++ b) → AllCounted a
-front_counted [] b all = tt
-front_counted (raw ∷ a) b (here, rest) = (here, front_counted a b rest)
+prefix_counted : (a b : List Raw) → AllCounted (a ++ b) → AllCounted a
+prefix_counted [] b all = tt
+prefix_counted (raw ∷ a) b (here, rest) = (here, prefix_counted a b rest)
 
 round_counted : (r : Round) → IsRound r → AllCounted (entries_in (acts_in r.done))
 round_counted r is =
-    let front = round_tried r is in
-    front_counted (entries_in (acts_in r.done)) front.0 (subst AllCounted front.1 (under_counted (client_id r.from.voice) r.text r.moment))
+    let prefix = round_tried r is in
+    prefix_counted (entries_in (acts_in r.done)) prefix.0 (subst AllCounted prefix.1 (under_counted (client_id r.from.voice) r.text r.moment))
 
 -- ---- one entry
 
@@ -243,37 +243,37 @@ told_all (hears r ∷ es) s t joined told (well, whole) (begins, (is, more)) =
     by on (inl here) (inl rest) =
         inl (ap (λ l. l ++ entered_in es) (here ∙ round_whole r is well.1) ∙ ap (λ l. entries_under (client_id r.from.voice) r.text r.moment ++ l) rest)
 
--- a front of it
-front_of_front : {X : Type 0} (a b more : List X) → IsPrefix a b → IsPrefix (a ++ []) (b ++ more)
-front_of_front a b more front = subst (λ l. IsPrefix l (b ++ more)) (sym (append-nil a)) (prefix-append a b more front)
+-- a prefix of it
+prefix_of_prefix : {X : Type 0} (a b more : List X) → IsPrefix a b → IsPrefix (a ++ []) (b ++ more)
+prefix_of_prefix a b more prefix = subst (λ l. IsPrefix l (b ++ more)) (sym (append-nil a)) (prefix-append a b more prefix)
 
-told_front : (es : List Event) (s t : Stand) → is_connected s.talk.voice ≡ true → s.talk.pass.told ≡ true → MayBreakLast es → AreEvents s es t → IsPrefix (entered_in es) (subs_in es)
-told_front [] s t joined told may same = prefix_refl []
-told_front (brings c ∷ []) s t joined told may are = prefix_refl []
-told_front (brings c ∷ e ∷ es) s t joined told (well, rest) (begins, (is, more)) =
+told_prefix : (es : List Event) (s t : Stand) → is_connected s.talk.voice ≡ true → s.talk.pass.told ≡ true → MayBreakLast es → AreEvents s es t → IsPrefix (entered_in es) (subs_in es)
+told_prefix [] s t joined told may same = prefix_refl []
+told_prefix (brings c ∷ []) s t joined told may are = prefix_refl []
+told_prefix (brings c ∷ e ∷ es) s t joined told (well, rest) (begins, (is, more)) =
     let one = one_on (brings c) s t (e ∷ es) joined (begins, (is, more)) in
-    told_front (e ∷ es) (behind (brings c) s) t one.still (one.goes.same.told ∙ told) rest more
-told_front (hears r ∷ []) s t joined told may (begins, (is, more)) =
+    told_prefix (e ∷ es) (behind (brings c) s) t one.still (one.goes.same.told ∙ told) rest more
+told_prefix (hears r ∷ []) s t joined told may (begins, (is, more)) =
     let here : is_connected r.from.voice ≡ true = ap (λ (k : Talking). is_connected k.voice) begins.0 ∙ joined in
-    let fronts = each_front (hears r ∷ []) s (behind (hears r) s) joined (begins, (is, refl)) in
-    front_last (entered (steps_in r.done)) _ (prefix_trans _ _ _ fronts.0 (round_tried r is))
-told_front (hears r ∷ e ∷ es) s t joined told (well, rest) (begins, (is, more)) =
+    let prefixes = each_prefix (hears r ∷ []) s (behind (hears r) s) joined (begins, (is, refl)) in
+    prefix_last (entered (steps_in r.done)) _ (prefix_trans _ _ _ prefixes.0 (round_tried r is))
+told_prefix (hears r ∷ e ∷ es) s t joined told (well, rest) (begins, (is, more)) =
     let one = one_on (hears r) s t (e ∷ es) joined (begins, (is, more)) in
     let from : r.from ≡ s.talk = begins.0 in
     let told_then : r.to.pass.told ≡ true = one.goes.same.told ∙ told in
-    let fronts = each_front (hears r ∷ []) s (behind (hears r) s) joined (begins, (is, refl)) in
-    by one.still told_then (prefix_trans _ _ _ fronts.0 (round_tried r is)) (round_enters r (ap (λ (k : Talking). is_connected k.voice) from ∙ joined) (ap (λ (k : Talking). k.pass.told) from ∙ told) is)
-    (told_front (e ∷ es) (behind (hears r) s) t one.still told_then rest more)
+    let prefixes = each_prefix (hears r ∷ []) s (behind (hears r) s) joined (begins, (is, refl)) in
+    by one.still told_then (prefix_trans _ _ _ prefixes.0 (round_tried r is)) (round_enters r (ap (λ (k : Talking). is_connected k.voice) from ∙ joined) (ap (λ (k : Talking). k.pass.told) from ∙ told) is)
+    (told_prefix (e ∷ es) (behind (hears r) s) t one.still told_then rest more)
   where
     by : is_connected r.to.voice ≡ true → r.to.pass.told ≡ true → IsPrefix (entered (steps_in r.done)) (entries_under (client_id r.from.voice) r.text r.moment)
         → (entered (steps_in r.done) ≡ entries_in (acts_in r.done)) ⊎ IsFull r.to.pass → IsPrefix (entered_in (e ∷ es)) (subs_in (e ∷ es))
         → IsPrefix (entered (steps_in r.done) ++ entered_in (e ∷ es)) (entries_under (client_id r.from.voice) r.text r.moment ++ subs_in (e ∷ es))
-    by still told_then front (inl here) behind_it =
+    by still told_then prefix (inl here) behind_it =
         subst (λ l. IsPrefix (l ++ entered_in (e ∷ es)) (entries_under (client_id r.from.voice) r.text r.moment ++ subs_in (e ∷ es))) (sym (here ∙ round_whole r is well.1))
-        (front_behind (entries_under (client_id r.from.voice) r.text r.moment) (entered_in (e ∷ es)) (subs_in (e ∷ es)) behind_it)
-    by still told_then front (inr full) behind_it =
+        (prefix_behind (entries_under (client_id r.from.voice) r.text r.moment) (entered_in (e ∷ es)) (subs_in (e ∷ es)) behind_it)
+    by still told_then prefix (inr full) behind_it =
         subst (λ l. IsPrefix (entered (steps_in r.done) ++ l) (entries_under (client_id r.from.voice) r.text r.moment ++ subs_in (e ∷ es)))
-        (sym (nothing_more (e ∷ es) (behind (hears r) s) t still told_then full more)) (front_of_front (entered (steps_in r.done)) _ (subs_in (e ∷ es)) front)
+        (sym (nothing_more (e ∷ es) (behind (hears r) s) t still told_then full more)) (prefix_of_prefix (entered (steps_in r.done)) _ (subs_in (e ∷ es)) prefix)
 
 -- ---- the texts before one
 
@@ -282,20 +282,20 @@ pub split_events : (a b : List Event) (s t : Stand) → AreEvents s (a ++ b) t �
 split_events [] b s t are = (s, (refl, are))
 split_events (e ∷ a) b s t (begins, (is, more)) = let rest = split_events a b (behind e s) t more in (rest.0, ((begins, (is, rest.1.0)), rest.1.1))
 
-front_whole : (front : List Event) (e : Event) (behind_it : List Event) → MayBreakLast (front ++ e ∷ behind_it) → AreWhole front
-front_whole [] e behind_it may = tt
-front_whole (f ∷ []) e behind_it (here, rest) = (here, tt)
-front_whole (f ∷ g ∷ front) e behind_it (here, rest) = (here, front_whole (g ∷ front) e behind_it rest)
+prefix_whole : (prefix : List Event) (e : Event) (behind_it : List Event) → MayBreakLast (prefix ++ e ∷ behind_it) → AreWhole prefix
+prefix_whole [] e behind_it may = tt
+prefix_whole (f ∷ []) e behind_it (here, rest) = (here, tt)
+prefix_whole (f ∷ g ∷ prefix) e behind_it (here, rest) = (here, prefix_whole (g ∷ prefix) e behind_it rest)
 
-before_text : (es : List Event) (s t : Stand) → is_connected s.talk.voice ≡ true → s.talk.pass.told ≡ true → MayBreakLast es → AreEvents s es t → (front : List Event) (r : Round) (behind_it : List Event)
-    → es ≡ front ++ hears r ∷ behind_it → (entered_in front ≡ subs_in front) ⊎ IsFull t.talk.pass
-before_text es s t joined told may are front r behind_it is =
-    let parts = split_events front (hears r ∷ behind_it) s t (subst (λ l. AreEvents s l t) is are) in
-    let on : GoesOn s.talk parts.0.talk front = goes_on front s parts.0 joined parts.1.0 in
+before_text : (es : List Event) (s t : Stand) → is_connected s.talk.voice ≡ true → s.talk.pass.told ≡ true → MayBreakLast es → AreEvents s es t → (prefix : List Event) (r : Round) (behind_it : List Event)
+    → es ≡ prefix ++ hears r ∷ behind_it → (entered_in prefix ≡ subs_in prefix) ⊎ IsFull t.talk.pass
+before_text es s t joined told may are prefix r behind_it is =
+    let parts = split_events prefix (hears r ∷ behind_it) s t (subst (λ l. AreEvents s l t) is are) in
+    let on : GoesOn s.talk parts.0.talk prefix = goes_on prefix s parts.0 joined parts.1.0 in
     let onward : GoesOn parts.0.talk t.talk (hears r ∷ behind_it) = goes_on (hears r ∷ behind_it) parts.0 t on.still parts.1.1 in
-    by onward (told_all front s parts.0 joined told (front_whole front (hears r) behind_it (subst MayBreakLast is may)) parts.1.0)
+    by onward (told_all prefix s parts.0 joined told (prefix_whole prefix (hears r) behind_it (subst MayBreakLast is may)) parts.1.0)
   where
-    by : {m : Talking} → GoesOn m t.talk (hears r ∷ behind_it) → (entered_in front ≡ subs_in front) ⊎ IsFull m.pass → (entered_in front ≡ subs_in front) ⊎ IsFull t.talk.pass
+    by : {m : Talking} → GoesOn m t.talk (hears r ∷ behind_it) → (entered_in prefix ≡ subs_in prefix) ⊎ IsFull m.pass → (entered_in prefix ≡ subs_in prefix) ⊎ IsFull t.talk.pass
     by onward (inl all) = inl all
     by {m} onward (inr full) = inr (full_later m.pass t.talk.pass onward.goes.same.limits onward.goes.seen full)
 
@@ -303,12 +303,12 @@ pub submits : (es : List Event) (s t : Stand) → is_connected s.talk.voice ≡ 
 submits es s t joined may are =
     let on : GoesOn s.talk t.talk es = goes_on es s t joined are in
     record {
-      tried = tried_front es s t are may;
+      tried = tried_prefix es s t are may;
       all_tried = all_tried es s t are;
-      fronts = each_front es s t joined are;
+      prefixes = each_prefix es s t joined are;
       told = λ told.
           let begins : s.talk.pass.told ≡ true = sym on.goes.same.told ∙ told in record {
-            front = told_front es s t joined begins may are;
+            prefix = told_prefix es s t joined begins may are;
             all = λ whole. told_all es s t joined begins whole are;
             before = before_text es s t joined begins may are;
           };
@@ -319,12 +319,12 @@ pub submits_later : (p q : Knowing) (es : List Event) → q.told ≡ p.told → 
 submits_later p q es same limits more submits_it = record {
   tried = submits_it.tried;
   all_tried = submits_it.all_tried;
-  fronts = submits_it.fronts;
+  prefixes = submits_it.prefixes;
   told = λ told.
       let t : SubmitsTold p es = submits_it.told (sym same ∙ told) in record {
-        front = t.front;
+        prefix = t.prefix;
         all = λ whole. on (t.all whole);
-        before = λ front r behind_it is. on (t.before front r behind_it is);
+        before = λ prefix r behind_it is. on (t.before prefix r behind_it is);
       };
 }
   where

@@ -1,7 +1,7 @@
 pub mod Sent
 pub mod Onward
 pub mod Passes
-pub mod Fronts
+pub mod Prefixes
 pub mod Submitted
 pub mod Filling
 pub mod Counts

@@ -39,7 +39,7 @@ use Rattle.fluid_session.specs.Events.{Event, Stand, Round, IsRound, AreWhole, A
 use Rattle.fluid_session.specs.Events.Event.{brings, hears}
 use Rattle.fluid_session.specs.Lines.{nacks_said, nacks_in, nacks_given, nacks_of, steps_of, steps_of_round, answered_in, MayBreakLast, NacksInOrder}
 use Rattle.fluid_session.proofs.Passes.{brings_on, hears_on}
-use Rattle.fluid_session.proofs.Fronts.{front_behind, front_last, sent_front, sent_whole}
+use Rattle.fluid_session.proofs.Prefixes.{prefix_behind, prefix_last, sent_prefix, sent_whole}
 
 -- ---- lists
 
@@ -102,12 +102,12 @@ all_quiet (Reading name next) text moment joined = of_read_reading name next mom
 all_quiet (Writing name own next) text moment joined = of_read_writing name own next moment (event_spelled text)
 all_quiet Used text moment joined = absurd (false≢true joined)
 
-front_quiet : (a b : List Act) → AreQuiet (a ++ b) → AreQuiet a
-front_quiet [] b h = tt
-front_quiet (x ∷ a) b (here, rest) = (here, front_quiet a b rest)
+prefix_quiet : (a b : List Act) → AreQuiet (a ++ b) → AreQuiet a
+prefix_quiet [] b h = tt
+prefix_quiet (x ∷ a) b (here, rest) = (here, prefix_quiet a b rest)
 
 round_quiet : (r : Round) → is_connected r.from.voice ≡ true → IsRound r → AreQuiet (acts_in r.done)
-round_quiet r joined is = front_quiet (acts_in r.done) is.hears_it.does.rest (subst AreQuiet is.hears_it.does.asked (all_quiet r.from.voice r.text r.moment joined))
+round_quiet r joined is = prefix_quiet (acts_in r.done) is.hears_it.does.rest (subst AreQuiet is.hears_it.does.asked (all_quiet r.from.voice r.text r.moment joined))
 
 -- ---- one act
 
@@ -228,19 +228,19 @@ round_nacks r joined is =
     acts_done r.from.voice r.done (round_quiet r joined is) is.hears_it.does.are_done
     ∙ sym (of-append (steps_in r.done) (may_steps r.heard.fault) ∙ ap (λ l. nacks_of (steps_in r.done) ++ l) (note_none r.heard.fault) ∙ append-nil (nacks_of (steps_in r.done)))
 
-replied_front : (failed : Option TalkFault) (all replies : List Reply) → AreReplies failed all replies → IsPrefix replies all
-replied_front None all replies is = subst (λ l. IsPrefix l all) (sym is) (prefix_refl all)
-replied_front (Some (Door fault)) all replies is = subst (λ l. IsPrefix l all) (sym is) (prefix_refl all)
-replied_front (Some (Lane fault)) all replies is = subst (λ l. IsPrefix l all) (sym is) (prefix_refl all)
-replied_front (Some (Delta fault)) all replies is = subst (λ l. IsPrefix l all) (sym is) (prefix_refl all)
-replied_front (Some (Store fault)) all replies is = subst (λ l. IsPrefix l all) (sym is) (prefix_refl all)
-replied_front (Some NoMemory) all replies is = is
+replied_prefix : (failed : Option TalkFault) (all replies : List Reply) → AreReplies failed all replies → IsPrefix replies all
+replied_prefix None all replies is = subst (λ l. IsPrefix l all) (sym is) (prefix_refl all)
+replied_prefix (Some (Door fault)) all replies is = subst (λ l. IsPrefix l all) (sym is) (prefix_refl all)
+replied_prefix (Some (Lane fault)) all replies is = subst (λ l. IsPrefix l all) (sym is) (prefix_refl all)
+replied_prefix (Some (Delta fault)) all replies is = subst (λ l. IsPrefix l all) (sym is) (prefix_refl all)
+replied_prefix (Some (Store fault)) all replies is = subst (λ l. IsPrefix l all) (sym is) (prefix_refl all)
+replied_prefix (Some NoMemory) all replies is = is
 
-round_front : (r : Round) → is_connected r.from.voice ≡ true → IsRound r → IsPrefix (nacks_in r.sent) (nacks_of (steps_of_round r))
-round_front r joined is =
+round_prefix : (r : Round) → is_connected r.from.voice ≡ true → IsRound r → IsPrefix (nacks_in r.sent) (nacks_of (steps_of_round r))
+round_prefix r joined is =
     subst (λ l. IsPrefix (nacks_in r.sent) l) (round_nacks r joined is)
     (in_front r.sent (replies_behind r.from.voice (ended r.done))
-    (prefix_trans r.sent r.heard.replies (replies_behind r.from.voice (ended r.done)) (sent_front r.sending r.sent r.heard.replies is.is_sent) (replied_front r.heard.fault _ r.heard.replies is.hears_it.replies)))
+    (prefix_trans r.sent r.heard.replies (replies_behind r.from.voice (ended r.done)) (sent_prefix r.sending r.sent r.heard.replies is.is_sent) (replied_prefix r.heard.fault _ r.heard.replies is.hears_it.replies)))
 
 round_whole : (r : Round) → is_connected r.from.voice ≡ true → IsRound r → r.sending ≡ Ok tt → r.heard.fault ≡ None → nacks_in r.sent ≡ nacks_of (steps_of_round r)
 round_whole r joined is sent well =
@@ -261,21 +261,21 @@ all_nacks (hears r ∷ es) s t joined (begins, (is, more)) (well, rest) =
     ∙ ap (λ l. nacks_of (steps_of_round r) ++ l) (all_nacks es (behind (hears r) s) t (still_brings s t (hears r) es joined (begins, (is, more))) more rest)
     ∙ sym (of-append (steps_of_round r) (steps_of es))
 
-front_nacks : (es : List Event) (s t : Stand) → is_connected s.talk.voice ≡ true → AreEvents s es t → MayBreakLast es → IsPrefix (nacks_in (answered_in es)) (nacks_of (steps_of es))
-front_nacks [] s t joined same may = prefix_refl []
-front_nacks (brings c ∷ []) s t joined (begins, (is, more)) may = prefix_refl []
-front_nacks (hears r ∷ []) s t joined (begins, (is, more)) may =
+prefix_nacks : (es : List Event) (s t : Stand) → is_connected s.talk.voice ≡ true → AreEvents s es t → MayBreakLast es → IsPrefix (nacks_in (answered_in es)) (nacks_of (steps_of es))
+prefix_nacks [] s t joined same may = prefix_refl []
+prefix_nacks (brings c ∷ []) s t joined (begins, (is, more)) may = prefix_refl []
+prefix_nacks (hears r ∷ []) s t joined (begins, (is, more)) may =
     subst (λ l. IsPrefix l (nacks_of (steps_of_round r ++ []))) (sym (in-append r.sent []))
     (subst (λ l. IsPrefix (nacks_in r.sent ++ []) l) (sym (of-append (steps_of_round r) []))
-    (front_last (nacks_in r.sent) (nacks_of (steps_of_round r)) (round_front r (ap (λ (k : Talking). is_connected k.voice) begins.0 ∙ joined) is)))
-front_nacks (brings c ∷ e ∷ es) s t joined (begins, (is, more)) (well, rest) =
-    front_nacks (e ∷ es) (behind (brings c) s) t (still_brings s t (brings c) (e ∷ es) joined (begins, (is, more))) more rest
-front_nacks (hears r ∷ e ∷ es) s t joined (begins, (is, more)) (well, rest) =
+    (prefix_last (nacks_in r.sent) (nacks_of (steps_of_round r)) (round_prefix r (ap (λ (k : Talking). is_connected k.voice) begins.0 ∙ joined) is)))
+prefix_nacks (brings c ∷ e ∷ es) s t joined (begins, (is, more)) (well, rest) =
+    prefix_nacks (e ∷ es) (behind (brings c) s) t (still_brings s t (brings c) (e ∷ es) joined (begins, (is, more))) more rest
+prefix_nacks (hears r ∷ e ∷ es) s t joined (begins, (is, more)) (well, rest) =
     subst (λ l. IsPrefix l (nacks_of (steps_of_round r ++ steps_of (e ∷ es)))) (sym (in-append r.sent (answered_in (e ∷ es))))
     (subst (λ l. IsPrefix (nacks_in r.sent ++ nacks_in (answered_in (e ∷ es))) l) (sym (of-append (steps_of_round r) (steps_of (e ∷ es))))
     (subst (λ l. IsPrefix (l ++ nacks_in (answered_in (e ∷ es))) (nacks_of (steps_of_round r) ++ nacks_of (steps_of (e ∷ es)))) (sym (round_whole r (ap (λ (k : Talking). is_connected k.voice) begins.0 ∙ joined) is well.0 well.1))
-    (front_behind (nacks_of (steps_of_round r)) (nacks_in (answered_in (e ∷ es))) (nacks_of (steps_of (e ∷ es)))
-    (front_nacks (e ∷ es) (behind (hears r) s) t (still_brings s t (hears r) (e ∷ es) joined (begins, (is, more))) more rest))))
+    (prefix_behind (nacks_of (steps_of_round r)) (nacks_in (answered_in (e ∷ es))) (nacks_of (steps_of (e ∷ es)))
+    (prefix_nacks (e ∷ es) (behind (hears r) s) t (still_brings s t (hears r) (e ∷ es) joined (begins, (is, more))) more rest))))
 
 pub nacks_in_order : (es : List Event) (s t : Stand) → is_connected s.talk.voice ≡ true → AreEvents s es t → MayBreakLast es → NacksInOrder es
-nacks_in_order es s t joined are may = record { front = front_nacks es s t joined are may; all = all_nacks es s t joined are }
+nacks_in_order es s t joined are may = record { prefix = prefix_nacks es s t joined are may; all = all_nacks es s t joined are }

@@ -53,9 +53,9 @@ whole_then (e ∷ es) b (is, more) rest = (is, whole_then es b more rest)
 
 ends_then : (e : Event) (a b : List Event) → AreWhole a → EndsIn e b → EndsIn e (a ++ b)
 ends_then e a b first last = record {
-  front = a ++ last.front;
-  are = ap (λ l. a ++ l) last.are ∙ sym (append_assoc a last.front (e ∷ []));
-  whole = whole_then a last.front first last.whole;
+  prefix = a ++ last.prefix;
+  are = ap (λ l. a ++ l) last.are ∙ sym (append_assoc a last.prefix (e ∷ []));
+  whole = whole_then a last.prefix first last.whole;
 }
 
 -- ---- one run after another
@@ -217,7 +217,7 @@ fed_badly s t store tally old new given fault few collects sound sends =
         passes = subst (λ l. Passes l old new) (sym (append-nil (out_texts sends.sent))) sends.passes;
         stays = stays_same new;
         counted = refl;
-        by = at_feed c fault refl (record { front = []; are = refl; whole = tt }) few refl refl sends.cause;
+        by = at_feed c fault refl (record { prefix = []; are = refl; whole = tt }) few refl refl sends.cause;
       };
       once = tt;
     }
@@ -245,9 +245,9 @@ capped_few false n few = grind arith
 heard_by : (r : Round) (t : Talking) (fault : Option TalkFault) (result : Result (Unit {0}) WireFault) (w old new : Wiring) (tally : Tally) → r.heard.fault ≡ fault → r.sending ≡ result → tally.unread ≤ most_unread
     → w.faults ≤ old.faults → (given : List Reply) → SendsAll old new given result → GoesOrStops (hears r ∷ []) t t w new new tally (behind_text fault result tally.unread)
 heard_by r t (Some f) result w old new tally failed sending few later given sends =
-    at_text r f refl (record { front = []; are = refl; whole = tt }) few failed refl
+    at_text r f refl (record { prefix = []; are = refl; whole = tt }) few failed refl
 heard_by r t None (Err f) w old new tally failed sending few later given sends =
-    at_reply r f refl (record { front = []; are = refl; whole = tt }) few sending failed refl (cause_later w old new f later sends.cause)
+    at_reply r f refl (record { prefix = []; are = refl; whole = tt }) few sending failed refl (cause_later w old new f later sends.cause)
 heard_by r t None (Ok done) w old new tally failed sending few later given sends = by (nat_le most_unread tally.unread) refl
   where
     by : (b : Bool) → nat_le most_unread tally.unread ≡ b → GoesOrStops (hears r ∷ []) t t w new new tally (if b then Err (Abused tally.unread) else Ok tt)

@@ -53,10 +53,10 @@ goes_then p q r a b first second = record {
   mine = second.mine ∙ ap (λ l. l ++ b) first.mine ∙ append_assoc p.mine a b;
 }
 
--- what was seen at first is a front of what is seen at last
+-- what was seen at first is a prefix of what is seen at last
 pub found_prefix : (number : ℕ) (failed : Option TalkFault) (seen now : List (Numbered Step)) (done : List Did) → AreFound number failed seen now done → IsPrefix seen now
 found_prefix number None seen now [] same = ([], same ∙ sym (append-nil seen))
-found_prefix number (Some fault) seen now [] front = front
+found_prefix number (Some fault) seen now [] prefix = prefix
 found_prefix number failed seen now (d ∷ done) (first, rest) =
     prefix_trans seen (seen_behind number d) now (prefix-append seen d.found (map (by_seat number) d.added) first)
     (found_prefix number failed (seen_behind number d) now done rest)
@@ -152,10 +152,10 @@ slice-none o n = let none : n - n ≡ 0 = omega arith in ap (λ k. take k (drop 
 
 pub slice-grows : (o more : List Message) (from to : ℕ) → 0 < from → from ≤ to → to ≤ length o + 1 → slice (o ++ more) from to ≡ slice o from to
 slice-grows o more from to first ordered last =
-    let front : from - 1 ≤ length o = omega arith in
+    let prefix : from - 1 ≤ length o = omega arith in
     let long : length (drop (from - 1) o) ≡ length o - (from - 1) = length-drop (from - 1) o in
     let short : to - from ≤ length (drop (from - 1) o) = omega arith in
-    ap (λ l. take (to - from) l) (drop-append-le (from - 1) o more front) ∙ take-append-le (to - from) (drop (from - 1) o) more short
+    ap (λ l. take (to - from) l) (drop-append-le (from - 1) o more prefix) ∙ take-append-le (to - from) (drop (from - 1) o) more short
 
 slice-joins : (o : List Message) (a b c : ℕ) → 0 < a → a ≤ b → b ≤ c → slice o a b ++ slice o b c ≡ slice o a c
 slice-joins o a b c first ab bc =

@@ -82,9 +82,9 @@ sends_more replies i reply old mid new below is first second =
     subst (λ l. Passes (out_texts l) old new) more
     (subst (λ l. Passes l old new) (sym (map-append (λ r. Out (reply_printed r)) (take i replies) (reply ∷ []))) (passes_then _ _ old mid new first second))
 
-pub sends_front : (replies : List Reply) (i : ℕ) (reply : Reply) (old mid new : Wiring) (fault : WireFault)
+pub sends_prefix : (replies : List Reply) (i : ℕ) (reply : Reply) (old mid new : Wiring) (fault : WireFault)
     → Passes (out_texts (take i replies)) old mid → SendsOne mid new reply (Err fault) → SendsAll old new replies (Err fault)
-sends_front replies i reply old mid new fault first one = record {
+sends_prefix replies i reply old mid new fault first one = record {
   sent = take i replies;
   is_sent = (drop i replies, sym (take-append-drop i replies));
   passes = subst (λ l. Passes l old new) (append-nil _) (passes_then _ _ old mid new first one.passes);

@@ -31,9 +31,9 @@ use Rattle.fluid_talk.specs.Doing.{Did, AreDone, acts_in, ends_in, steps_in}
 use Rattle.fluid_talk.specs.Hearing.{Does}
 use Rattle.fluid_session.specs.Events.{Event, Stand, Round, IsRound, AreWhole, AreEvents, behind}
 use Rattle.fluid_session.specs.Events.Event.{brings, hears}
-use Rattle.fluid_session.specs.Lines.{entered, tried_in, subs_in, AreFronts, MayBreakLast}
+use Rattle.fluid_session.specs.Lines.{entered, tried_in, subs_in, ArePrefixes, MayBreakLast}
 use Rattle.fluid_session.proofs.Passes.{goes_on}
-use Rattle.fluid_session.proofs.Fronts.{front_behind, front_last}
+use Rattle.fluid_session.proofs.Prefixes.{prefix_behind, prefix_last}
 
 -- ---- acts of one that is connected
 
@@ -89,9 +89,9 @@ no_connects (Reading name next) text moment joined = of_read_reading name next m
 no_connects (Writing name own next) text moment joined = of_read_writing name own next moment (event_spelled text)
 no_connects Used text moment joined = absurd (false≢true joined)
 
-front_connects : (a b : List Act) → NoConnects (a ++ b) → NoConnects a
-front_connects [] b none = tt
-front_connects (x ∷ a) b (here, rest) = (here, front_connects a b rest)
+prefix_connects : (a b : List Act) → NoConnects (a ++ b) → NoConnects a
+prefix_connects [] b none = tt
+prefix_connects (x ∷ a) b (here, rest) = (here, prefix_connects a b rest)
 
 -- ---- what one text enters
 
@@ -142,15 +142,15 @@ none_tail (Given reply) ends none = none
 added_none : (added rest : List Step) → added ≡ [] → entered (added ++ rest) ≡ entered rest
 added_none added rest none = ap (λ l. entered (l ++ rest)) none
 
-cons_front : (raw : Raw) (a b : List Raw) → IsPrefix a b → IsPrefix (raw ∷ a) (raw ∷ b)
-cons_front raw a b (rest, is) = (rest, ap (λ l. raw ∷ l) is)
+cons_prefix : (raw : Raw) (a b : List Raw) → IsPrefix a b → IsPrefix (raw ∷ a) (raw ∷ b)
+cons_prefix raw a b (rest, is) = (rest, ap (λ l. raw ∷ l) is)
 
-nil_front : (a b : List Raw) → a ≡ [] → IsPrefix a b
-nil_front a b none = (b, ap (λ l. l ++ b) (sym none))
+nil_prefix : (a b : List Raw) → a ≡ [] → IsPrefix a b
+nil_prefix a b none = (b, ap (λ l. l ++ b) (sym none))
 
-fronts : (done : List Did) → AreDone done → NoConnects (acts_in done) → FullBehind (ends_in done) → IsPrefix (entered (steps_in done)) (entries_in (acts_in done))
-fronts [] are none full = prefix_refl []
-fronts (d ∷ done) (is, are) (here, none) full = by d.act d.end here is.suits is.adds (fronts done are none (full_tail d.end (ends_in done) full)) full
+prefixes : (done : List Did) → AreDone done → NoConnects (acts_in done) → FullBehind (ends_in done) → IsPrefix (entered (steps_in done)) (entries_in (acts_in done))
+prefixes [] are none full = prefix_refl []
+prefixes (d ∷ done) (is, are) (here, none) full = by d.act d.end here is.suits is.adds (prefixes done are none (full_tail d.end (ends_in done) full)) full
   where
     skips : (added : List Step) → added ≡ [] → IsPrefix (entered (steps_in done)) (entries_in (acts_in done)) → IsPrefix (entered (added ++ steps_in done)) (entries_in (acts_in done))
     skips added nothing rest = subst (λ l. IsPrefix l (entries_in (acts_in done))) (sym (added_none added (steps_in done) nothing)) rest
@@ -167,9 +167,9 @@ fronts (d ∷ done) (is, are) (here, none) full = by d.act d.end here is.suits i
     by (act.Enter raw) (Joined id number) h suits adds rest full_here = absurd suits
     by (act.Enter raw) (Told last) h suits adds rest full_here = absurd suits
     by (act.Enter raw) (EndsEntered verdict) h suits adds rest full_here =
-        subst (λ l. IsPrefix (entered (l ++ steps_in done)) (raw ∷ entries_in (acts_in done))) (sym adds) (cons_front raw (entered (steps_in done)) (entries_in (acts_in done)) rest)
+        subst (λ l. IsPrefix (entered (l ++ steps_in done)) (raw ∷ entries_in (acts_in done))) (sym adds) (cons_prefix raw (entered (steps_in done)) (entries_in (acts_in done)) rest)
     by (act.Enter raw) FullNow h suits adds rest full_here =
-        nil_front (entered (d.added ++ steps_in done)) (raw ∷ entries_in (acts_in done)) (added_none d.added (steps_in done) adds ∙ all_full done are none full_here)
+        nil_prefix (entered (d.added ++ steps_in done)) (raw ∷ entries_in (acts_in done)) (added_none d.added (steps_in done) adds ∙ all_full done are none full_here)
     by (act.Enter raw) TooMany h suits adds rest full_here = absurd suits
     by (act.Enter raw) (Given reply) h suits adds rest full_here = absurd suits
 
@@ -202,9 +202,9 @@ entries-append (x ∷ a) b = ap (λ l. entry_of x ++ l) (entries-append a b) ∙
 
 pub round_none : (r : Round) → is_connected r.from.voice ≡ true → IsRound r → NoConnects (acts_in r.done)
 round_none r joined is =
-    front_connects (acts_in r.done) is.hears_it.does.rest (subst NoConnects is.hears_it.does.asked (no_connects r.from.voice r.text r.moment joined))
+    prefix_connects (acts_in r.done) is.hears_it.does.rest (subst NoConnects is.hears_it.does.asked (no_connects r.from.voice r.text r.moment joined))
 
--- what was tried of a text is a front of what it spells
+-- what was tried of a text is a prefix of what it spells
 pub round_tried : (r : Round) → IsRound r → IsPrefix (entries_in (acts_in r.done)) (entries_under (client_id r.from.voice) r.text r.moment)
 round_tried r is =
     let does : Does r.from r.to r.before r.now r.text r.moment r.done r.heard.fault = is.hears_it.does in
@@ -224,21 +224,21 @@ all_tried (brings c ∷ es) s t (begins, (is, more)) (well, rest) = all_tried es
 all_tried (hears r ∷ es) s t (begins, (is, more)) (well, rest) =
     ap (λ l. l ++ tried_in es) (round_whole r is well.1) ∙ ap (λ l. entries_under (client_id r.from.voice) r.text r.moment ++ l) (all_tried es (behind (hears r) s) t more rest)
 
-pub tried_front : (es : List Event) (s t : Stand) → AreEvents s es t → MayBreakLast es → IsPrefix (tried_in es) (subs_in es)
-tried_front [] s t same may = prefix_refl []
-tried_front (brings c ∷ []) s t (begins, (is, more)) may = prefix_refl []
-tried_front (hears r ∷ []) s t (begins, (is, more)) may = front_last (entries_in (acts_in r.done)) _ (round_tried r is)
-tried_front (brings c ∷ e ∷ es) s t (begins, (is, more)) (well, rest) = tried_front (e ∷ es) (behind (brings c) s) t more rest
-tried_front (hears r ∷ e ∷ es) s t (begins, (is, more)) (well, rest) =
+pub tried_prefix : (es : List Event) (s t : Stand) → AreEvents s es t → MayBreakLast es → IsPrefix (tried_in es) (subs_in es)
+tried_prefix [] s t same may = prefix_refl []
+tried_prefix (brings c ∷ []) s t (begins, (is, more)) may = prefix_refl []
+tried_prefix (hears r ∷ []) s t (begins, (is, more)) may = prefix_last (entries_in (acts_in r.done)) _ (round_tried r is)
+tried_prefix (brings c ∷ e ∷ es) s t (begins, (is, more)) (well, rest) = tried_prefix (e ∷ es) (behind (brings c) s) t more rest
+tried_prefix (hears r ∷ e ∷ es) s t (begins, (is, more)) (well, rest) =
     subst (λ l. IsPrefix (l ++ tried_in (e ∷ es)) (subs_in (hears r ∷ e ∷ es))) (sym (round_whole r is well.1))
-    (front_behind (entries_under (client_id r.from.voice) r.text r.moment) (tried_in (e ∷ es)) (subs_in (e ∷ es)) (tried_front (e ∷ es) (behind (hears r) s) t more rest))
+    (prefix_behind (entries_under (client_id r.from.voice) r.text r.moment) (tried_in (e ∷ es)) (subs_in (e ∷ es)) (tried_prefix (e ∷ es) (behind (hears r) s) t more rest))
 
-pub each_front : (es : List Event) (s t : Stand) → is_connected s.talk.voice ≡ true → AreEvents s es t → AreFronts es
-each_front [] s t joined same = tt
-each_front (brings c ∷ es) s t joined (begins, (is, more)) =
-    each_front es (behind (brings c) s) t (goes_on (brings c ∷ []) s (behind (brings c) s) joined (begins, (is, refl))).still more
-each_front (hears r ∷ es) s t joined (begins, (is, more)) =
+pub each_prefix : (es : List Event) (s t : Stand) → is_connected s.talk.voice ≡ true → AreEvents s es t → ArePrefixes es
+each_prefix [] s t joined same = tt
+each_prefix (brings c ∷ es) s t joined (begins, (is, more)) =
+    each_prefix es (behind (brings c) s) t (goes_on (brings c ∷ []) s (behind (brings c) s) joined (begins, (is, refl))).still more
+each_prefix (hears r ∷ es) s t joined (begins, (is, more)) =
     let here : is_connected r.from.voice ≡ true = ap (λ (k : Talking). is_connected k.voice) begins.0 ∙ joined in (
-      fronts r.done is.hears_it.does.are_done (round_none r here is) is.hears_it.does.full,
-      each_front es (behind (hears r) s) t (goes_on (hears r ∷ []) s (behind (hears r) s) joined (begins, (is, refl))).still more,
+      prefixes r.done is.hears_it.does.are_done (round_none r here is) is.hears_it.does.full,
+      each_prefix es (behind (hears r) s) t (goes_on (hears r ∷ []) s (behind (hears r) s) joined (begins, (is, refl))).still more,
     )

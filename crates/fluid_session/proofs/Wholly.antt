@@ -29,7 +29,7 @@ use Rattle.fluid_session.specs.Running.Stops.{at_end, at_long, at_receive, at_fe
 use Rattle.fluid_session.specs.Lines.{MayBreakLast, GoesOn, Stretches, HasLeft, HasCounts, Joins, StaysApart, Lines, count_steps, steps_of, steps_of_round, unread_in, entered, entered_in, collected_in}
 use Rattle.fluid_session.specs.Whole.{Account, Concludes, Serves, HasNumbers}
 use Rattle.fluid_session.proofs.Passes.{Connected, Apart, Went, went, stretches, slice-grows, order-prefix, found_prefix, read_between, answered_later, are_read, are_reached, sound_behind}
-use Rattle.fluid_session.proofs.Fronts.{sends_in_order}
+use Rattle.fluid_session.proofs.Prefixes.{sends_in_order}
 use Rattle.fluid_session.proofs.Nacking.{nacks_in_order}
 use Rattle.fluid_session.proofs.Serving.{served_behind}
 use Rattle.fluid_session.proofs.Filling.{submits, submits_later}
@@ -45,13 +45,13 @@ whole_may [] whole = tt
 whole_may (e ∷ []) whole = tt
 whole_may (e ∷ other ∷ es) (here, rest) = (here, whole_may (other ∷ es) rest)
 
-front_may : (e : Event) (front : List Event) → AreWhole front → MayBreakLast (front ++ e ∷ [])
-front_may e [] whole = tt
-front_may e (f ∷ []) (here, rest) = (here, tt)
-front_may e (f ∷ g ∷ front) (here, rest) = (here, front_may e (g ∷ front) rest)
+prefix_may : (e : Event) (prefix : List Event) → AreWhole prefix → MayBreakLast (prefix ++ e ∷ [])
+prefix_may e [] whole = tt
+prefix_may e (f ∷ []) (here, rest) = (here, tt)
+prefix_may e (f ∷ g ∷ prefix) (here, rest) = (here, prefix_may e (g ∷ prefix) rest)
 
 ends_may : (e : Event) (es : List Event) → EndsIn e es → MayBreakLast es
-ends_may e es last = subst MayBreakLast (sym last.are) (front_may e last.front last.whole)
+ends_may e es last = subst MayBreakLast (sym last.are) (prefix_may e last.prefix last.whole)
 
 stops_may : (es : List Event) (m t : Talking) (old mid new : Wiring) (tally : Tally) (end : SessionEnd) → Stops es m t old mid new tally end → MayBreakLast es
 stops_may es m t old mid new tally end (at_end is whole few same reached none) = whole_may es whole
@@ -163,10 +163,10 @@ joins s u t moment report tally events end j may closes numbers counted few clos
       joined = connected_as j.connect j.name j.is j.still j.connected j.reaches;
       named = closes.goes.same.name ∙ on.goes.same.name ∙ j.reaches.named;
       handed = λ handed.
-          let front : IsPrefix j.connect.from.handed.seen j.reaches.first = j.reaches.begins (ap (λ (k : Knowing). k.name) j.same ∙ handed) in
+          let prefix : IsPrefix j.connect.from.handed.seen j.reaches.first = j.reaches.begins (ap (λ (k : Knowing). k.name) j.same ∙ handed) in
           let first : IsPrefix j.reaches.first j.connect.to.pass.seen = found_prefix j.connect.to.pass.number j.connect.heard.fault j.reaches.first j.connect.to.pass.seen j.connect.done j.reaches.found in
           subst (λ (k : Knowing). IsPrefix k.seen u.pass.seen) j.same
-          (prefix_trans j.connect.from.handed.seen j.connect.to.pass.seen u.pass.seen (prefix_trans j.connect.from.handed.seen j.reaches.first j.connect.to.pass.seen front first) seen);
+          (prefix_trans j.connect.from.handed.seen j.connect.to.pass.seen u.pass.seen (prefix_trans j.connect.from.handed.seen j.reaches.first j.connect.to.pass.seen prefix first) seen);
       left = closes.left;
       mine =
           ap entered (closes.goes.mine ∙ ap (λ l. l ++ closes.added) mine ∙ append_assoc (steps_of_round j.connect) (steps_of j.later) closes.added)

@@ -153,25 +153,25 @@ IsFull p = p.limits.entries ≤ counted (ledger_of p.seen)
 abbrev pub HasManyClients : Knowing → Type 0
 HasManyClients p = p.limits.clients ≤ length (joined (ledger_of p.seen))
 
--- of each text a front of what it asked to enter
-abbrev pub AreFronts : List Event → Type 0
-AreFronts [] = ⊤
-AreFronts (brings c ∷ es) = AreFronts es
-AreFronts (hears r ∷ es) = IsPrefix (entered (steps_in r.done)) (entries_in (acts_in r.done)) × AreFronts es
+-- of each text a prefix of what it asked to enter
+abbrev pub ArePrefixes : List Event → Type 0
+ArePrefixes [] = ⊤
+ArePrefixes (brings c ∷ es) = ArePrefixes es
+ArePrefixes (hears r ∷ es) = IsPrefix (entered (steps_in r.done)) (entries_in (acts_in r.done)) × ArePrefixes es
 
--- Over a keeper that tells its content: a front of what the texts spell. Where nothing failed it is all of it, and before each text all
+-- Over a keeper that tells its content: a prefix of what the texts spell. Where nothing failed it is all of it, and before each text all
 -- that the texts before it spell, unless the document is full
 pub record SubmitsTold (p : Knowing) (events : List Event) : Type 0 where
-  pub front : IsPrefix (entered_in events) (subs_in events)
+  pub prefix : IsPrefix (entered_in events) (subs_in events)
   pub all : AreWhole events → (entered_in events ≡ subs_in events) ⊎ IsFull p
-  pub before : (front : List Event) (r : Round) (behind : List Event) → events ≡ front ++ hears r ∷ behind → (entered_in front ≡ subs_in front) ⊎ IsFull p
+  pub before : (prefix : List Event) (r : Round) (behind : List Event) → events ≡ prefix ++ hears r ∷ behind → (entered_in prefix ≡ subs_in prefix) ⊎ IsFull p
 
--- What a client's texts enter, in their order. What was tried is a front of the submissions that they spell under its id, and all of
--- them where nothing failed. Of each text a front of what was tried was entered
+-- What a client's texts enter, in their order. What was tried is a prefix of the submissions that they spell under its id, and all of
+-- them where nothing failed. Of each text a prefix of what was tried was entered
 pub record Submits (p : Knowing) (events : List Event) : Type 0 where
   pub tried : IsPrefix (tried_in events) (subs_in events)
   pub all_tried : AreWhole events → tried_in events ≡ subs_in events
-  pub fronts : AreFronts events
+  pub prefixes : ArePrefixes events
   pub told : p.told ≡ true → SubmitsTold p events
 
 -- who writes entered its join, as the client of its id, and gets the join's message first; who reads entered nothing, and gets first
@@ -213,12 +213,12 @@ HasLeft (Some raw) left p end = (left ≡ raw ∷ []) ⊎ ((left ≡ []) × Miss
 
 -- ---- what replies are read from
 
--- each act found a list that begins with one and is a front of the other
+-- each act found a list that begins with one and is a prefix of the other
 abbrev pub AreReadBetween : (first last : List (Numbered Step)) → List Did → Type 0
 AreReadBetween first last [] = ⊤
 AreReadBetween first last (d ∷ done) = (IsPrefix first d.found × IsPrefix d.found last) × AreReadBetween first last done
 
--- Each act found a list that begins with all that was seen before its text and is a front of what is seen now, and its end is read out
+-- Each act found a list that begins with all that was seen before its text and is a prefix of what is seen now, and its end is read out
 -- of that list's ledger where its keeper tells its content, or out of what the store held where that tells it
 abbrev pub AreRead : Knowing → List Event → Type 0
 AreRead q [] = ⊤
@@ -281,16 +281,16 @@ AreLastDoors (hears r ∷ es) p = IsLastDoor r es p × AreLastDoors es p
 
 -- ---- what is sent
 
--- what is sent is a front of what was collected and of the replies, in their order, and all of it where nothing failed
+-- what is sent is a prefix of what was collected and of the replies, in their order, and all of it where nothing failed
 pub record SendsInOrder (events : List Event) : Type 0 where
   pub feed : IsPrefix (fed_in events) (collected_in events)
   pub answers : IsPrefix (answered_in events) (owed_in events)
   pub all_fed : AreWhole events → fed_in events ≡ collected_in events
   pub all_answered : AreWhole events → answered_in events ≡ owed_in events
 
--- the nacks of entries that are sent are those that the entries got, in their order; where something failed, a front of them
+-- the nacks of entries that are sent are those that the entries got, in their order; where something failed, a prefix of them
 pub record NacksInOrder (events : List Event) : Type 0 where
-  pub front : IsPrefix (nacks_in (answered_in events)) (nacks_of (steps_of events))
+  pub prefix : IsPrefix (nacks_in (answered_in events)) (nacks_of (steps_of events))
   pub all : AreWhole events → nacks_in (answered_in events) ≡ nacks_of (steps_of events)
 
 -- the texts ended, one was too long, or too many were unread

@@ -18,9 +18,9 @@ use Rattle.fluid_session.specs.Events.Event.{brings, hears}
 
 -- all but the last are whole, and the last is this one
 pub record EndsIn (e : Event) (events : List Event) : Type 0 where
-  pub front : List Event
-  pub are : events ≡ front ++ e ∷ []
-  pub whole : AreWhole front
+  pub prefix : List Event
+  pub are : events ≡ prefix ++ e ∷ []
+  pub whole : AreWhole prefix
 
 -- What ends a session, behind these events, the last of which left the wire as `mid`. The wire: its texts are at their end, while all
 -- that was seen is delivered; the next one is too long; or it failed while a text was received or one was sent. The connection: it

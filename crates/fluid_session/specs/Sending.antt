@@ -41,7 +41,7 @@ abbrev pub HasWireCause : Wiring → Wiring → Result (Unit {0}) WireFault → 
 HasWireCause old new (Ok done) = ⊤
 HasWireCause old new (Err fault) = IsWireCause old new fault
 
--- all replies are sent, or a front of them
+-- all replies are sent, or a prefix of them
 abbrev pub IsSent : Result (Unit {0}) WireFault → (sent replies : List Reply) → Type 0
 IsSent (Ok done) sent replies = sent ≡ replies
 IsSent (Err fault) sent replies = IsPrefix sent replies

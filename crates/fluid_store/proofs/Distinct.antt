@@ -46,23 +46,23 @@ found_here ps acc p out = found_still ps (step acc p) p.0 out ∙ find-put byte_
 
 -- ---- what is held of all is held of each
 
-front_holds : (held : Held) (a b : List StoredObject) → Holds held (a ++ b) → Holds held a
-front_holds held [] b h = tt
-front_holds held (o ∷ os) b h = (h.0, front_holds held os b h.1)
+prefix_holds : (held : Held) (a b : List StoredObject) → Holds held (a ++ b) → Holds held a
+prefix_holds held [] b h = tt
+prefix_holds held (o ∷ os) b h = (h.0, prefix_holds held os b h.1)
 
 pub back_holds : (held : Held) (a b : List StoredObject) → Holds held (a ++ b) → Holds held b
 back_holds held [] b h = h
 back_holds held (o ∷ os) b h = back_holds held os b h.1
 
 pub both_hold : (held : Held) (a b : List StoredObject) → Holds held (a ++ b) → Holds held a × Holds held b
-both_hold held a b h = (front_holds held a b h, back_holds held a b h)
+both_hold held a b h = (prefix_holds held a b h, back_holds held a b h)
 
 found_holds : (held : Held) (ms : Keyed) (k : List ℕ) (os : List StoredObject) → Holds held (joined ms) → find byte_order k ms ≡ Some os → Holds held os
 found_holds held [] k os h is = cc
 found_holds held (m ∷ ms) k os h is = by_first (eq_by_cmp byte_order k m.0) (found_holds held ms k os (back_holds held m.1 (joined ms) h)) is
   where
     by_first : (b : Bool) → (find byte_order k ms ≡ Some os → Holds held os) → cond b (Some m.1) (find byte_order k ms) ≡ Some os → Holds held os
-    by_first true rest e = let same : m.1 ≡ os = cc in subst (Holds held) same (front_holds held m.1 (joined ms) h)
+    by_first true rest e = let same : m.1 ≡ os = cc in subst (Holds held) same (prefix_holds held m.1 (joined ms) h)
     by_first false rest e = rest e
 
 abbrev pub EachHolds : Held → Keyed → Type 0

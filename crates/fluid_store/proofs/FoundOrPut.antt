@@ -5,7 +5,7 @@ use Rattle.std.specs.FinMap.{get, insert}
 use Rattle.fluid_io.specs.Causes.{Tells}
 use Rattle.fluid_store.specs.Held.{Held}
 use Rattle.fluid_store.specs.Storing.{Storing, IsPut}
-use Rattle.fluid_store.specs.Keeping.{Looks, Places, Compares, Adds, AddsFront, StoresObject}
+use Rattle.fluid_store.specs.Keeping.{Looks, Places, Compares, Adds, AddsPrefix, StoresObject}
 use Rattle.fluid_store.specs.declared.listing.StoredObject.{StoredObject}
 use Rattle.fluid_store.specs.declared.fault.StoreFault.{StoreFault}
 use Rattle.fluid_store.specs.declared.fault.StoreFault.TheVariants.{StoreFailed, Clash, Missing, BadObject, Tree, NoPath, NoMemory}
@@ -15,17 +15,17 @@ module _ (id bytes : List ℕ) where
   abbrev one : StoredObject
   one = record { id = id; bytes = bytes }
 
-  none_of : (old new : Option Held) → new ≡ old → AddsFront (one ∷ []) old new
-  none_of old new same = record { front = []; behind = one ∷ []; splits = refl; adds = subst (Adds [] old) (sym same) (adds_nothing old) }
+  none_of : (old new : Option Held) → new ≡ old → AddsPrefix (one ∷ []) old new
+  none_of old new same = record { prefix = []; behind = one ∷ []; splits = refl; adds = subst (Adds [] old) (sym same) (adds_nothing old) }
 
-  one_of : (old new : Option Held) → Adds (one ∷ []) old new → AddsFront (one ∷ []) old new
-  one_of old new adds = record { front = one ∷ []; behind = []; splits = refl; adds = adds }
+  one_of : (old new : Option Held) → Adds (one ∷ []) old new → AddsPrefix (one ∷ []) old new
+  one_of old new adds = record { prefix = one ∷ []; behind = []; splits = refl; adds = adds }
 
   module _ (old mid new : Storing) (looks : Looks id old mid (Ok None)) where
     put_new : IsPut id bytes mid new → Adds (one ∷ []) old.content new.content
     put_new put = adds_new id bytes old.content new.content looks.says (put ∙ ap (option_map (λ held. insert held id bytes)) looks.content)
 
-    perhaps : (new.content ≡ mid.content) ⊎ IsPut id bytes mid new → AddsFront (one ∷ []) old.content new.content
+    perhaps : (new.content ≡ mid.content) ⊎ IsPut id bytes mid new → AddsPrefix (one ∷ []) old.content new.content
     perhaps (inl same) = none_of old.content new.content (same ∙ looks.content)
     perhaps (inr put) = one_of old.content new.content (put_new put)
 
@@ -55,7 +55,7 @@ module _ (id bytes : List ℕ) where
     compared (Err (StoreFailed note)) h = absurd h
     compared (Err (Clash other was is)) h = record {
       stores = record {
-        front = [];
+        prefix = [];
         behind = [];
         splits = let same : one ≡ record { id = other; bytes = is } = cc in ap (λ o. o ∷ []) same;
         adds = subst (Adds [] old.content) (sym looks.content) (adds_nothing old.content);

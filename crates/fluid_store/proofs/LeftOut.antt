@@ -9,8 +9,8 @@ use Rattle.fluid_store.specs.declared.listing.StoredObject.{StoredObject}
 use Rattle.fluid_store.proofs.Added.{put_keeps, put_again}
 
 module _ (o : StoredObject) (after : List StoredObject) where
-  at_front : (held : Held) → get held o.id ≡ Some o.bytes → IsLeftOut (putting held (o ∷ after)) (putting held after)
-  at_front held has =
+  at_prefix : (held : Held) → get held o.id ≡ Some o.bytes → IsLeftOut (putting held (o ∷ after)) (putting held after)
+  at_prefix held has =
       let again : insert held o.id o.bytes ≡ held = put_again held o.id o.bytes has in
       let same : putting held (o ∷ after) ≡ behind o (putting held after) =
       ap (λ found. put_first held o found (putting (insert held o.id o.bytes) after)) has
@@ -39,5 +39,5 @@ module _ (o : StoredObject) (after : List StoredObject) where
     by_found held (Some kept) is has = by_same held kept (bytes_eq kept b.bytes) refl is has
 
 pub left_out : HeldOnesAreLeftOut
-left_out held [] after o has = at_front o after held has
+left_out held [] after o has = at_prefix o after held has
 left_out held (b ∷ before) after o has = by_found o after b before (λ h here. left_out h before after o here) held (get held b.id) refl has

@@ -241,7 +241,7 @@ first_of_any (Err e) = tt
 
 nothing_added : (base : Option (List ℕ)) (node : Summary) (old new : Storing) → new.content ≡ old.content → AddsSome base node old new
 nothing_added base node old new same = record {
-  front = [];
+  prefix = [];
   adds = subst (λ c. Adds [] old.content c) (sym same) (adds_nothing old.content);
   are_first = tells_all old.content _ (λ held. first_of_any (part_over held base node));
 }

@@ -269,19 +269,19 @@ module _ (trees : ℕ) (level left next : List (List ℕ)) (old mid new : Storin
       ∙ and-false (list_all (is_complete held trees) looked.done) (list_all (is_complete held trees) left))
       (tells_of old.content mid.content (λ held. is_complete held trees id ≡ false) looked.reads.content f.says)
 
-apart_front : (done left : List (List ℕ)) → AreApart (done ++ left) → AreApart done
-apart_front [] left h = tt
-apart_front (k ∷ ks) left h = (front_apart ks h.0, apart_front ks left h.1)
+apart_prefix : (done left : List (List ℕ)) → AreApart (done ++ left) → AreApart done
+apart_prefix [] left h = tt
+apart_prefix (k ∷ ks) left h = (prefix_apart ks h.0, apart_prefix ks left h.1)
   where
-    front_apart : (ks : List (List ℕ)) → AllByRecursion (λ y. eq_by_cmp byte_order k y ≡ false) (ks ++ left) → AllByRecursion (λ y. eq_by_cmp byte_order k y ≡ false) ks
-    front_apart [] g = tt
-    front_apart (y ∷ ys) g = (g.0, front_apart ys g.1)
+    prefix_apart : (ks : List (List ℕ)) → AllByRecursion (λ y. eq_by_cmp byte_order k y ≡ false) (ks ++ left) → AllByRecursion (λ y. eq_by_cmp byte_order k y ≡ false) ks
+    prefix_apart [] g = tt
+    prefix_apart (y ∷ ys) g = (g.0, prefix_apart ys g.1)
 
 -- no more gets than one more than the objects held
 pub looked_bound : (trees : ℕ) (level left next : List (List ℕ)) (old mid new : Storing) → IsStrictlySortedBy byte_order level → Looked trees level left next old mid → new.gets ≤ mid.gets + 1
     → Tells old.content (λ held. new.gets ≤ old.gets + (len held + 1))
 looked_bound trees level left next old mid new sorted looked most =
-    let apart = apart_front looked.done left (subst AreApart looked.splits (apart_from level sorted)) in
+    let apart = apart_prefix looked.done left (subst AreApart looked.splits (apart_from level sorted)) in
     tells_then old.content (λ held. AllHeld held looked.done) _ (λ held h. omega (arith, few_held looked.done held apart h, looked.gets, most)) looked.are_held
 
 -- ---- level by level

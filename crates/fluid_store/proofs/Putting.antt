@@ -32,21 +32,21 @@ is_first held more o (Some kept) later is keeps holds =
     let same : kept ≡ o.bytes = cc (sym (keeps o.id kept is) ∙ holds) in rw ((bytes_eq-Decides kept o.bytes).1 same) refl
 
 abbrev in_front : List StoredObject → Putting → Putting
-in_front front p = record p { put = front ++ p.put }
+in_front prefix p = record p { put = prefix ++ p.put }
 
 -- those that were added stand in front
-front_put : (held : Held) (front rest : List StoredObject) → Keeps held (with_all held front) → Holds (with_all held front) front →
-    putting held (front ++ rest) ≡ in_front front (putting (with_all held front) rest)
-front_put held [] rest keeps holds = refl
-front_put held (o ∷ os) rest keeps holds =
+prefix_put : (held : Held) (prefix rest : List StoredObject) → Keeps held (with_all held prefix) → Holds (with_all held prefix) prefix →
+    putting held (prefix ++ rest) ≡ in_front prefix (putting (with_all held prefix) rest)
+prefix_put held [] rest keeps holds = refl
+prefix_put held (o ∷ os) rest keeps holds =
     let more = with_all (insert held o.id o.bytes) os in
     is_first held more o (get held o.id) (putting (insert held o.id o.bytes) (os ++ rest)) refl keeps holds.0
-    ∙ ap (behind o) (front_put (insert held o.id o.bytes) os rest (keeps_put held more o.id o.bytes keeps holds.0) holds.1)
+    ∙ ap (behind o) (prefix_put (insert held o.id o.bytes) os rest (keeps_put held more o.id o.bytes keeps holds.0) holds.1)
 
 all_put : (held : Held) (os : List StoredObject) → Keeps held (with_all held os) → Holds (with_all held os) os →
     putting held os ≡ record { held = with_all held os; put = os; clash = None }
 all_put held os keeps holds =
-    ap (putting held) (sym (append-nil os)) ∙ front_put held os [] keeps holds ∙ ap (λ put. record { held = with_all held os; put = put; clash = None }) (append-nil os)
+    ap (putting held) (sym (append-nil os)) ∙ prefix_put held os [] keeps holds ∙ ap (λ put. record { held = with_all held os; put = put; clash = None }) (append-nil os)
 
 differ_eq : (a b : List ℕ) → a ≢ b → bytes_eq a b ≡ false
 differ_eq a b differ = ⊎_elim (λ same. absurd (differ ((bytes_eq-Decides a b).0 same))) (λ other. other) (cases_Bool (bytes_eq a b))
@@ -70,12 +70,12 @@ clash_by : (old new : Option Held) (os : List StoredObject) (id kept bytes : Lis
 clash_by None new os id kept bytes clash = tt
 clash_by (Some held) new os id kept bytes clash =
     let o : StoredObject = record { id = id; bytes = bytes } in
-    let before = with_all held clash.front in
+    let before = with_all held clash.prefix in
     let was : get before id ≡ Some kept = subst (λ c. Tells c (λ h. get h id ≡ Some kept)) clash.adds.content clash.was in
-    let is : putting held os ≡ record { held = before; put = clash.front ++ []; clash = Some (record { id = id; kept = kept; bytes = bytes }) } =
+    let is : putting held os ≡ record { held = before; put = clash.prefix ++ []; clash = Some (record { id = id; kept = kept; bytes = bytes }) } =
     ap (putting held) clash.splits
-    ∙ front_put held clash.front (o ∷ clash.behind) clash.adds.kept clash.adds.added
-    ∙ ap (in_front clash.front) (stops_at before o clash.behind kept was clash.differ) in
+    ∙ prefix_put held clash.prefix (o ∷ clash.behind) clash.adds.kept clash.adds.added
+    ∙ ap (in_front clash.prefix) (stops_at before o clash.behind kept was clash.differ) in
     (ap (λ p. p.clash) is, holds_all new before (putting held os) clash.adds.content (sym (ap (λ p. p.held) is)))
 
 anything : (told : Option Held) → Tells told (λ held. Unit {0})

@@ -4,32 +4,32 @@ use Rattle.std.specs.Result.{IsErrAnd}
 use Rattle.std.proofs.lemmas.List.{at_drop_more, take_more, take-append-drop}
 use Rattle.fluid_store.specs.Held.{Held}
 use Rattle.fluid_store.specs.Storing.{Storing}
-use Rattle.fluid_store.specs.Keeping.{Counts, Adds, AddsFront, StopsBy, Stores}
+use Rattle.fluid_store.specs.Keeping.{Counts, Adds, AddsPrefix, StopsBy, Stores}
 use Rattle.fluid_store.specs.declared.listing.StoredObject.{StoredObject}
 use Rattle.fluid_store.specs.declared.fault.StoreFault.{StoreFault}
 use Rattle.fluid_store.specs.declared.fault.StoreFault.TheVariants.{StoreFailed, Clash, Missing, BadObject, Tree, NoPath, NoMemory}
 use Rattle.fluid_store.proofs.Added.{adds_nothing, adds_more}
 
-regroup : (done front behind rest : List StoredObject) → done ++ ((front ++ behind) ++ rest) ≡ (done ++ front) ++ (behind ++ rest)
-regroup done front behind rest = ap (λ l. done ++ l) (append_assoc front behind rest) ∙ sym (append_assoc done front (behind ++ rest))
+regroup : (done prefix behind rest : List StoredObject) → done ++ ((prefix ++ behind) ++ rest) ≡ (done ++ prefix) ++ (behind ++ rest)
+regroup done prefix behind rest = ap (λ l. done ++ l) (append_assoc prefix behind rest) ∙ sym (append_assoc done prefix (behind ++ rest))
 
 module _ (all done os rest : List StoredObject) (splits : all ≡ done ++ (os ++ rest)) (old mid new : Storing) (counts : Counts old mid) (adds : Adds done old.content mid.content) where
-  front_later : AddsFront os mid.content new.content → AddsFront all old.content new.content
-  front_later f = record {
-    front = done ++ f.front;
+  prefix_later : AddsPrefix os mid.content new.content → AddsPrefix all old.content new.content
+  prefix_later f = record {
+    prefix = done ++ f.prefix;
     behind = f.behind ++ rest;
-    splits = splits ∙ ap (λ l. done ++ (l ++ rest)) f.splits ∙ regroup done f.front f.behind rest;
-    adds = adds_more done f.front old.content mid.content new.content adds f.adds;
+    splits = splits ∙ ap (λ l. done ++ (l ++ rest)) f.splits ∙ regroup done f.prefix f.behind rest;
+    adds = adds_more done f.prefix old.content mid.content new.content adds f.adds;
   }
 
   -- a fault in some objects that stand behind others is one in all of them
   pub stops_later : (fault : StoreFault) → StopsBy os mid new fault → StopsBy all old new fault
-  stops_later (StoreFailed note) h = (record { before = omega (arith, counts.faults, h.0.before); after = h.0.after; rose = h.0.rose }, front_later h.1)
+  stops_later (StoreFailed note) h = (record { before = omega (arith, counts.faults, h.0.before); after = h.0.after; rose = h.0.rose }, prefix_later h.1)
   stops_later (Clash id kept bytes) h = record {
-    front = done ++ h.front;
+    prefix = done ++ h.prefix;
     behind = h.behind ++ rest;
-    splits = splits ∙ ap (λ l. done ++ (l ++ rest)) h.splits ∙ regroup done h.front (record { id = id; bytes = bytes } ∷ h.behind) rest;
-    adds = adds_more done h.front old.content mid.content new.content adds h.adds;
+    splits = splits ∙ ap (λ l. done ++ (l ++ rest)) h.splits ∙ regroup done h.prefix (record { id = id; bytes = bytes } ∷ h.behind) rest;
+    adds = adds_more done h.prefix old.content mid.content new.content adds h.adds;
     was = h.was;
     differ = h.differ;
   }
@@ -37,11 +37,11 @@ module _ (all done os rest : List StoredObject) (splits : all ≡ done ++ (os ++
   stops_later (BadObject other place) h = absurd h
   stops_later (Tree fault) h = absurd h
   stops_later (NoPath path) h = absurd h
-  stops_later NoMemory h = front_later h
+  stops_later NoMemory h = prefix_later h
 
 -- nothing was put yet
-pub nothing_put : (os : List StoredObject) (content : Option Held) → AddsFront os content content
-nothing_put os content = record { front = []; behind = os; splits = refl; adds = adds_nothing content }
+pub nothing_put : (os : List StoredObject) (content : Option Held) → AddsPrefix os content content
+nothing_put os content = record { prefix = []; behind = os; splits = refl; adds = adds_nothing content }
 
 -- ---- one more object of a list
 

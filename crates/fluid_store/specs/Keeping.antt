@@ -90,30 +90,30 @@ pub record Adds (os : List StoredObject) (old new : Option Held) : Type 0 where
   pub added : Tells old (λ held. Holds (with_all held os) os)
 
 -- some of them from the front were added
-pub record AddsFront (os : List StoredObject) (old new : Option Held) : Type 0 where
-  pub front : List StoredObject
+pub record AddsPrefix (os : List StoredObject) (old new : Option Held) : Type 0 where
+  pub prefix : List StoredObject
   pub behind : List StoredObject
-  pub splits : os ≡ front ++ behind
-  pub adds : Adds front old new
+  pub splits : os ≡ prefix ++ behind
+  pub adds : Adds prefix old new
 
 -- those before one of them were added, and under its id other bytes were held then
 pub record Clashes (os : List StoredObject) (old new : Option Held) (id kept bytes : List ℕ) : Type 0 where
-  pub front : List StoredObject
+  pub prefix : List StoredObject
   pub behind : List StoredObject
-  pub splits : os ≡ front ++ record { id = id; bytes = bytes } ∷ behind
-  pub adds : Adds front old new
+  pub splits : os ≡ prefix ++ record { id = id; bytes = bytes } ∷ behind
+  pub adds : Adds prefix old new
   pub was : Tells new (λ held. get held id ≡ Some kept)
   pub differ : kept ≢ bytes
 
 -- what a call that adds these objects did, by its fault
 abbrev pub StopsBy : List StoredObject → Storing → Storing → StoreFault → Type 0
-StopsBy os old new (StoreFailed note) = IsNoted old new note × AddsFront os old.content new.content
+StopsBy os old new (StoreFailed note) = IsNoted old new note × AddsPrefix os old.content new.content
 StopsBy os old new (Clash id kept bytes) = Clashes os old.content new.content id kept bytes
 StopsBy os old new (Missing other) = ⊥
 StopsBy os old new (BadObject other place) = ⊥
 StopsBy os old new (Tree fault) = ⊥
 StopsBy os old new (NoPath path) = ⊥
-StopsBy os old new NoMemory = AddsFront os old.content new.content
+StopsBy os old new NoMemory = AddsPrefix os old.content new.content
 
 -- the same by the answer: at Ok all of them were added
 abbrev pub Stores : {A : Type 0} → List StoredObject → Storing → Storing → Result A StoreFault → Type 0

@@ -61,9 +61,9 @@ pub record ClashesIn (base : Option (List ℕ)) (node : Summary) (old new : Stor
 
 -- some of them from the front were added, perhaps none
 pub record AddsSome (base : Option (List ℕ)) (node : Summary) (old new : Storing) : Type 0 where
-  pub front : List StoredObject
-  pub adds : Adds front old.content new.content
-  pub are_first : Tells old.content (λ held. IfOk (part_over held base node) (λ part. (behind : List StoredObject) × (part.objects ≡ front ++ behind)))
+  pub prefix : List StoredObject
+  pub adds : Adds prefix old.content new.content
+  pub are_first : Tells old.content (λ held. IfOk (part_over held base node) (λ part. (behind : List StoredObject) × (part.objects ≡ prefix ++ behind)))
 
 -- the tree is refused by this fault, and nothing was put
 pub record Refused (base : Option (List ℕ)) (node : Summary) (old new : Storing) (fault : StoreFault) : Type 0 where

@@ -141,7 +141,7 @@ pub record Does (s t : Talking) (before now : Storing) (text : List ℕ) (moment
   pub apart : is_connected s.voice ≡ false → HearsApart s t before (acts_of s.voice text moment) done failed
   pub store : LeavesStore before now (acts_of s.voice text moment) (acts_in done) rest failed
 
--- the replies are those to what was done, and for want of memory a front of these
+-- the replies are those to what was done, and for want of memory a prefix of these
 abbrev pub AreReplies : Option TalkFault → (all replies : List Reply) → Type 0
 AreReplies (Some NoMemory) all replies = IsPrefix replies all
 AreReplies failed all replies = replies ≡ all

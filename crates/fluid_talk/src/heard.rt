@@ -6,7 +6,7 @@ use fluid_voice::Replies;
 #[derive(Drop)]
 pub struct Heard {
     /// The replies, in the order in which they are to be sent. Behind a fault they are those of what was done before it, and for want
-    /// of memory a front of these.
+    /// of memory a prefix of these.
     pub replies: Replies,
     pub sequenced: u64,
     pub dropped: u64,

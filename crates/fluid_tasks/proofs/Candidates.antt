@@ -103,10 +103,10 @@ abbrev pub Among : ℕ → List ℕ → List Volunteering → Type 0
 Among k c [] = ⊥
 Among k c (v ∷ vs) = ((v.number ≡ k) × (v.client ≡ c)) ⊎ Among k c vs
 
-among-front : (k : ℕ) (c : List ℕ) (vs ws : List Volunteering) → Among k c vs → Among k c (vs ++ ws)
-among-front k c [] ws is = absurd is
-among-front k c (v ∷ vs) ws (inl is) = inl is
-among-front k c (v ∷ vs) ws (inr is) = inr (among-front k c vs ws is)
+among-prefix : (k : ℕ) (c : List ℕ) (vs ws : List Volunteering) → Among k c vs → Among k c (vs ++ ws)
+among-prefix k c [] ws is = absurd is
+among-prefix k c (v ∷ vs) ws (inl is) = inl is
+among-prefix k c (v ∷ vs) ws (inr is) = inr (among-prefix k c vs ws is)
 
 among-last : (k : ℕ) (c : List ℕ) (vs : List Volunteering) → Among k c (vs ++ record { number = k; client = c } ∷ [])
 among-last k c [] = inl (refl, refl)
@@ -131,8 +131,8 @@ stood_among (m ∷ past) u c k is = subst (Among k c) (sym (volunteerings-step m
     step : (d : Said) → said m ≡ d → since_behind m.number d u (holder past u) c (standing_since past u c) ≡ Some k
     step d at = sym (since-step m past d at u c) ∙ is
 
-    front : Before → standing_since past u c ≡ Some k → (ws : List Volunteering) → Among k c (volunteerings past u ++ ws)
-    front before at ws = among-front k c (volunteerings past u) ws (before at)
+    prefix : Before → standing_since past u c ≡ Some k → (ws : List Volunteering) → Among k c (volunteerings past u ++ ws)
+    prefix before at ws = among-prefix k c (volunteerings past u) ws (before at)
 
     -- a volunteering of this client, where it didn't stand, and another one
     began : Before → (e : List ℕ) (o : Option ℕ) → standing_since past u c ≡ o → bytes_eq e c ≡ true → cond (is_none o) (Some m.number) o ≡ Some k → Among k c (volunteerings past u ++ record { number = m.number; client = e } ∷ [])
@@ -141,24 +141,24 @@ stood_among (m ∷ past) u c k is = subst (Among k c) (sym (volunteerings-step m
         let client_is : e ≡ c = (bytes_eq-Decides e c).0 same in
         subst (λ n. Among n c (volunteerings past u ++ record { number = m.number; client = e } ∷ [])) number_is
         (subst (λ d. Among m.number d (volunteerings past u ++ record { number = m.number; client = e } ∷ [])) client_is (among-last m.number e (volunteerings past u)))
-    began before e (Some j) at same now = front before (at ∙ now) _
+    began before e (Some j) at same now = prefix before (at ∙ now) _
 
     volunteered : Before → (e own : List ℕ) (a b : Bool) → bytes_eq own u ≡ a → bytes_eq e c ≡ b → cond (a && (b && is_none (standing_since past u c))) (Some m.number) (standing_since past u c) ≡ Some k
         → Among k c (volunteerings past u ++ numbered m.number (cond a (Some e) None))
     volunteered before e own true true at same now = began before e (standing_since past u c) refl same now
-    volunteered before e own true false at same now = front before now _
-    volunteered before e own false b at same now = front before now _
+    volunteered before e own true false at same now = prefix before now _
+    volunteered before e own false b at same now = prefix before now _
 
     of : Before → (d : Said) → said m ≡ d → Among k c (volunteerings past u ++ numbered m.number (volunteering u d))
-    of before (Does e (Add q v)) at = front before (step _ at) _
-    of before (Does e (Acquire q)) at = front before (step _ at) _
-    of before (Does e (Complete q i)) at = front before (step _ at) _
-    of before (Does e (Release q i)) at = front before (step _ at) _
+    of before (Does e (Add q v)) at = prefix before (step _ at) _
+    of before (Does e (Acquire q)) at = prefix before (step _ at) _
+    of before (Does e (Complete q i)) at = prefix before (step _ at) _
+    of before (Does e (Release q i)) at = prefix before (step _ at) _
     of before (Does e (Volunteer own)) at = volunteered before e own (bytes_eq own u) (bytes_eq e c) refl refl (step _ at)
-    of before (Does e (Abandon own)) at = front before (left_in (bytes_eq own u && bytes_eq e c) _ k (step _ at)) _
-    of before (Does e (Finish own)) at = front before (left_in (bytes_eq own u && is_text (holder past u) e) _ k (step _ at)) _
-    of before (Leaves e) at = front before (left_in (bytes_eq e c) _ k (step _ at)) _
-    of before Nothing at = front before (step _ at) _
+    of before (Does e (Abandon own)) at = prefix before (left_in (bytes_eq own u && bytes_eq e c) _ k (step _ at)) _
+    of before (Does e (Finish own)) at = prefix before (left_in (bytes_eq own u && is_text (holder past u) e) _ k (step _ at)) _
+    of before (Leaves e) at = prefix before (left_in (bytes_eq e c) _ k (step _ at)) _
+    of before Nothing at = prefix before (step _ at) _
 
 -- a client stands since a number that was given
 pub stood_below : (past : Past) → IsNumbered past → (u c : List ℕ) (k : ℕ) → standing_since past u c ≡ Some k → k < length past + 1

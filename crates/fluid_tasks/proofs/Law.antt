@@ -714,9 +714,9 @@ few_messages (Nacked nack) = omega arith
 few_messages Dropped = omega arith
 few_messages Absorbed = omega arith
 
-told_front : (l : Ledger) (entry : Entry) → AllByRecursion IsToldSo (l ++ entry ∷ []) → AllByRecursion IsToldSo l × IsToldSo entry
-told_front [] entry all = (tt, all.0)
-told_front (e ∷ l) entry all = let rest = told_front l entry all.1 in ((all.0, rest.0), rest.1)
+told_prefix : (l : Ledger) (entry : Entry) → AllByRecursion IsToldSo (l ++ entry ∷ []) → AllByRecursion IsToldSo l × IsToldSo entry
+told_prefix [] entry all = (tt, all.0)
+told_prefix (e ∷ l) entry all = let rest = told_prefix l entry all.1 in ((all.0, rest.0), rest.1)
 
 pub record Each (l : Ledger) : Type 0 where
   pub told : Told l
@@ -738,7 +738,7 @@ one_holder_at_a_time l legal all = (legal-induction (λ k. AllByRecursion IsTold
 
     step : (k : Ledger) (entry : Entry) → IsLegal k → (AllByRecursion IsToldSo k → Each k) → entry.1 ≡ verdict k entry.0 → AllByRecursion IsToldSo (k ++ entry ∷ []) → Each (k ++ entry ∷ [])
     step k entry legal before is all =
-        let parts = told_front k entry all in
+        let parts = told_prefix k entry all in
         let old = before parts.0 in
         let now : Told (k ++ entry ∷ []) = entry_told k old.told entry.0 entry.1 parts.1 is in
         record {

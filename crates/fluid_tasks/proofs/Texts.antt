@@ -135,13 +135,13 @@ named_task (m ∷ past) u is = of (λ h. named_still (task_in (said m)) (tasks p
     step : (d : Said) → said m ≡ d → is_any (volunteerings past u ++ numbered m.number (volunteering u d)) ≡ true
     step d at = ap (λ l. is_any l) (sym (volunteerings-step m past d at u)) ∙ is
 
-    front : (vs : List Volunteering) → is_any (vs ++ []) ≡ true → is_any vs ≡ true
-    front [] h = h
-    front (v ∷ vs) h = refl
+    prefix : (vs : List Volunteering) → is_any (vs ++ []) ≡ true → is_any vs ≡ true
+    prefix [] h = h
+    prefix (v ∷ vs) h = refl
 
     volunteered : (b : Bool) (c own : List ℕ) → bytes_eq own u ≡ b → is_any (volunteerings past u ++ numbered m.number (cond b (Some c) None)) ≡ true → (bytes_eq own u ≡ true) ⊎ (is_any (volunteerings past u) ≡ true)
     volunteered true c own at h = inl at
-    volunteered false c own at h = inr (front (volunteerings past u) h)
+    volunteered false c own at h = inr (prefix (volunteerings past u) h)
 
     of : Before → (d : Said) → said m ≡ d → has_id u (with_name (task_in (said m)) (tasks past)) ≡ true
     of before (Does c (Volunteer own)) at = elim (volunteered (bytes_eq own u) c own refl (step _ at)) [
@@ -150,14 +150,14 @@ named_task (m ∷ past) u is = of (λ h. named_still (task_in (said m)) (tasks p
           ∙ or_left (bytes_eq u own) (has_id u (tasks past)) (subst (λ w. bytes_eq u w ≡ true) (sym ((bytes_eq-Decides own u).0 here)) (own_id u))
       | inr old ↦ before old
     ]
-    of before (Does c (Add queue value)) at = before (front (volunteerings past u) (step _ at))
-    of before (Does c (Acquire queue)) at = before (front (volunteerings past u) (step _ at))
-    of before (Does c (Complete queue own)) at = before (front (volunteerings past u) (step _ at))
-    of before (Does c (Release queue own)) at = before (front (volunteerings past u) (step _ at))
-    of before (Does c (Abandon task)) at = before (front (volunteerings past u) (step _ at))
-    of before (Does c (Finish task)) at = before (front (volunteerings past u) (step _ at))
-    of before (Leaves c) at = before (front (volunteerings past u) (step _ at))
-    of before Nothing at = before (front (volunteerings past u) (step _ at))
+    of before (Does c (Add queue value)) at = before (prefix (volunteerings past u) (step _ at))
+    of before (Does c (Acquire queue)) at = before (prefix (volunteerings past u) (step _ at))
+    of before (Does c (Complete queue own)) at = before (prefix (volunteerings past u) (step _ at))
+    of before (Does c (Release queue own)) at = before (prefix (volunteerings past u) (step _ at))
+    of before (Does c (Abandon task)) at = before (prefix (volunteerings past u) (step _ at))
+    of before (Does c (Finish task)) at = before (prefix (volunteerings past u) (step _ at))
+    of before (Leaves c) at = before (prefix (volunteerings past u) (step _ at))
+    of before Nothing at = before (prefix (volunteerings past u) (step _ at))
 
 -- ---- what is looked up is named
 

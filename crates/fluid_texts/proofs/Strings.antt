@@ -13,9 +13,9 @@ abbrev pub OnText : List ℕ → Option (List ℕ) → Type 0
 OnText p None = ⊤
 OnText p (Some c) = IsUtf8 (p ++ c)
 
-with_front : (p : List ℕ) (o : Option (List ℕ)) → IsUtf8 p → OnText [] o → OnText p o
-with_front p None u h = tt
-with_front p (Some c) u h = IsUtf8-append p c u h
+with_prefix : (p : List ℕ) (o : Option (List ℕ)) → IsUtf8 p → OnText [] o → OnText p o
+with_prefix p None u h = tt
+with_prefix p (Some c) u h = IsUtf8-append p c u h
 
 prepended : (bytes : List ℕ) (o : Option (List ℕ)) → IsUtf8 bytes → OnText [] o → OnText [] (prepend bytes o)
 prepended bytes None u h = tt
@@ -139,7 +139,7 @@ inside_by : (x : ℕ) (xs p : List ℕ) → Contents xs → IsUtf8 (p ++ x ∷ x
 inside_by x xs p h u true b s is_q is_b = subst IsUtf8 (sym (append-nil p)) (before p xs x (omega (arith, eqb-true x 34 is_q)) u)
 inside_by x xs p h u false true s is_q is_b =
     let small : x < 128 = omega (arith, eqb-true x 92 is_b) in
-    with_front p (content after_backslash xs) (before p xs x small u) (h.escaped (behind p xs x small u))
+    with_prefix p (content after_backslash xs) (before p xs x small u) (h.escaped (behind p xs x small u))
 inside_by x xs p h u false false true is_q is_b = tt
 inside_by x xs p h u false false false is_q is_b = moved p x (content plain xs) (h.inside (p ++ x ∷ []) (subst IsUtf8 (sym (append_assoc p (x ∷ []) xs)) u))
 

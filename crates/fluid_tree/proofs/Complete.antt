@@ -94,12 +94,12 @@ named_read b name id more good utf8 size =
     let behind : take 20 (drop (length name + 1) s) ≡ id = ap (take 20) (drop-append-add name (0 ∷ (id ++ more)) 1) ∙ ap (λ k. take k (id ++ more)) (sym size) ∙ take-append_seam id more in
     rw (no_zero name (id ++ more) good, lt-ltb (length name + 20) (length s) long, take-append_seam name (0 ∷ (id ++ more)), is_utf8-from_IsUtf8 name utf8, behind) refl
 
-entry_front : (tree : Bool) (name id more : List ℕ) → list_any (λ x. x == 47 || x == 0) name ≡ false → IsUtf8 name → length id ≡ 20
+entry_prefix : (tree : Bool) (name id more : List ℕ) → list_any (λ x. x == 47 || x == 0) name ≡ false → IsUtf8 name → length id ≡ 20
     → entry_at (entry_bytes (record { name = name; tree = tree; id = id }) ++ more) ≡ Some (record { name = name; tree = tree; id = id })
 unfolding entry_at entry_bytes common
-entry_front true name id more good utf8 size =
+entry_prefix true name id more good utf8 size =
     ap (λ t. named_at true (position_or_len (λ x. x == 0) t) t) (append_assoc name (0 ∷ id) more) ∙ named_read true name id more good utf8 size
-entry_front false name id more good utf8 size =
+entry_prefix false name id more good utf8 size =
     ap (λ t. named_at false (position_or_len (λ x. x == 0) t) t) (append_assoc name (0 ∷ id) more) ∙ named_read false name id more good utf8 size
 
 not_true : (b : Bool) → not b ≡ true → b ≡ false
@@ -112,7 +112,7 @@ entry_read before e more fit utf8 size =
     let named = not_true _ (and_parts _ _ fit).0 in
     let good = (or_parts (is_bad e.name) _ named).0 in
     let a = or_parts _ _ good in
-    entry_front e.tree e.name e.id more a.1 utf8 size
+    entry_prefix e.tree e.name e.id more a.1 utf8 size
 
 fit_goes : (f : List ObjectEntry → List ℕ → Result (List ObjectEntry) TreeFault) (place : ℕ) (before : List ObjectEntry) (e : ObjectEntry) (s : List ℕ) (o : Option ObjectEntry) → o ≡ Some e → fits_behind before e ≡ true
     → entry_or f place before s o ≡ f (before ++ e ∷ []) (drop (length (entry_bytes e)) s)

@@ -29,19 +29,19 @@ bind_ok (Err e) f b h = cc
 
 -- ---- the word
 
-front_step : (b : Bool) (x y : ℕ) (xs ys : List ℕ) → (x == y) ≡ b → cond b (1 + common_prefix_len (λ u v. u == v) xs ys) 0 ≡ suc (length xs)
+prefix_step : (b : Bool) (x y : ℕ) (xs ys : List ℕ) → (x == y) ≡ b → cond b (1 + common_prefix_len (λ u v. u == v) xs ys) 0 ≡ suc (length xs)
     → (common_prefix_len (λ u v. u == v) xs ys ≡ length xs → ys ≡ xs ++ drop (length xs) ys) → y ∷ ys ≡ x ∷ (xs ++ drop (length xs) ys)
-front_step true x y xs ys is h more = ap₂ (λ u l. u ∷ l) (sym (eqb-true x y is)) (more (omega arith))
-front_step false x y xs ys is h more = absurd (omega arith)
+prefix_step true x y xs ys is h more = ap₂ (λ u l. u ∷ l) (sym (eqb-true x y is)) (more (omega arith))
+prefix_step false x y xs ys is h more = absurd (omega arith)
 
-front : (w s : List ℕ) → common_prefix_len (λ u v. u == v) w s ≡ length w → s ≡ w ++ drop (length w) s
-front [] s h = refl
-front (x ∷ xs) [] h = absurd (omega arith)
-front (x ∷ xs) (y ∷ ys) h = front_step (x == y) x y xs ys refl h (front xs ys)
+prefix : (w s : List ℕ) → common_prefix_len (λ u v. u == v) w s ≡ length w → s ≡ w ++ drop (length w) s
+prefix [] s h = refl
+prefix (x ∷ xs) [] h = absurd (omega arith)
+prefix (x ∷ xs) (y ∷ ys) h = prefix_step (x == y) x y xs ys refl h (prefix xs ys)
 
-front_of : (w s : List ℕ) → common w s ≡ length w → s ≡ w ++ drop (length w) s
+prefix_of : (w s : List ℕ) → common w s ≡ length w → s ≡ w ++ drop (length w) s
 unfolding common
-front_of w s h = front w s h
+prefix_of w s h = prefix w s h
 
 word_by : (p q : Bool) (e : TreeFault) (b : Bool) → cond p (Ok false) (cond q (Ok true) (Err e)) ≡ Ok b → ((p ≡ true) × (b ≡ false)) ⊎ ((q ≡ true) × (b ≡ true))
 word_by true q e b h = inl (refl, cc)
@@ -57,8 +57,8 @@ unfolding word_of
 word_is s b h = go (word_by (common (codes "blob ") s == 5) (common (codes "tree ") s == 5) _ b h)
   where
     go : ((common (codes "blob ") s == 5) ≡ true) × (b ≡ false) ⊎ ((common (codes "tree ") s == 5) ≡ true) × (b ≡ true) → s ≡ word b ++ drop 5 s
-    go (inl p) = front_of (codes "blob ") s (eqb-true _ 5 p.0) ∙ ap (λ c. word c ++ drop 5 s) (sym p.1)
-    go (inr p) = front_of (codes "tree ") s (eqb-true _ 5 p.0) ∙ ap (λ c. word c ++ drop 5 s) (sym p.1)
+    go (inl p) = prefix_of (codes "blob ") s (eqb-true _ 5 p.0) ∙ ap (λ c. word c ++ drop 5 s) (sym p.1)
+    go (inr p) = prefix_of (codes "tree ") s (eqb-true _ 5 p.0) ∙ ap (λ c. word c ++ drop 5 s) (sym p.1)
 
 -- ---- the length
 
@@ -149,8 +149,8 @@ named_is b t e h =
       all ∙ sym (append_assoc (take end t) (0 ∷ take 20 (drop (end + 1) t)) (rest_of t)) ∙ ap (λ f. (f.name ++ (0 ∷ f.id)) ++ rest_of t) by.1,
     )
 
-behind_front : (s x rest : List ℕ) → s ≡ x ++ rest → s ≡ x ++ drop (length x) s
-behind_front s x rest h = h ∙ ap (λ l. x ++ l) (sym (ap (drop (length x)) h ∙ drop-append_seam x rest))
+behind_prefix : (s x rest : List ℕ) → s ≡ x ++ rest → s ≡ x ++ drop (length x) s
+behind_prefix s x rest h = h ∙ ap (λ l. x ++ l) (sym (ap (drop (length x)) h ∙ drop-append_seam x rest))
 
 joined : (e : ObjectEntry) (tree : Bool) (t : List ℕ) → (e.tree ≡ tree) × (t ≡ (e.name ++ (0 ∷ e.id)) ++ rest_of t) → mode tree ++ (codes " " ++ t) ≡ entry_bytes e ++ rest_of t
 unfolding entry_bytes
@@ -165,8 +165,8 @@ entry_is s e h = go (mode_by (common (codes "40000 ") s == 6) (common (codes "10
     go : ((common (codes "40000 ") s == 6) ≡ true) × (named_at true (position_or_len (λ x. x == 0) (drop 6 s)) (drop 6 s) ≡ Some e)
         ⊎ ((common (codes "100644 ") s == 7) ≡ true) × (named_at false (position_or_len (λ x. x == 0) (drop 7 s)) (drop 7 s) ≡ Some e)
         → s ≡ entry_bytes e ++ drop (length (entry_bytes e)) s
-    go (inl p) = behind_front s (entry_bytes e) (rest_of (drop 6 s)) (front_of (codes "40000 ") s (eqb-true _ 6 p.0) ∙ joined e true (drop 6 s) (named_is true (drop 6 s) e p.1))
-    go (inr p) = behind_front s (entry_bytes e) (rest_of (drop 7 s)) (front_of (codes "100644 ") s (eqb-true _ 7 p.0) ∙ joined e false (drop 7 s) (named_is false (drop 7 s) e p.1))
+    go (inl p) = behind_prefix s (entry_bytes e) (rest_of (drop 6 s)) (prefix_of (codes "40000 ") s (eqb-true _ 6 p.0) ∙ joined e true (drop 6 s) (named_is true (drop 6 s) e p.1))
+    go (inr p) = behind_prefix s (entry_bytes e) (rest_of (drop 7 s)) (prefix_of (codes "100644 ") s (eqb-true _ 7 p.0) ∙ joined e false (drop 7 s) (named_is false (drop 7 s) e p.1))
 
 -- ---- the entries of a body
 

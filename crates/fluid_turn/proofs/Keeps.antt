@@ -16,7 +16,7 @@ use Rattle.fluid_turn.specs.Entries.{IsPrefix, IsSigned, by_seat, by_nobody, of_
 use Rattle.fluid_turn.specs.Seats.{Stood, IsHistory}
 use Rattle.fluid_turn.specs.Rule.{Homes, HasTicket, ticket_of, tickets, InHand, tickets_out, Knows, Fits, Placed, Kept}
 use Rattle.fluid_turn.specs.Steps.{opening_view, newcomer, waiting, holding, idle, noting, adding, told_of, drew, looked, noticed, added, passed, rang, recalled, started, HasArrived}
-use Rattle.fluid_turn.proofs.Lists.{at_here, at_below, at_front, prefix_refl, prefix-append, each_prefix-append, entries-append, entries-of_nobody, made_by-append, made_by-of_nobody, made_by-own, made_by-other, made_by-prefix, made_by-signed, signed-more, signed-push, signed-of_nobody}
+use Rattle.fluid_turn.proofs.Lists.{at_here, at_below, at_prefix, prefix_refl, prefix-append, each_prefix-append, entries-append, entries-of_nobody, made_by-append, made_by-of_nobody, made_by-own, made_by-other, made_by-prefix, made_by-signed, signed-more, signed-push, signed-of_nobody}
 
 some_is : {A : Type 0} {a b : A} → Some a ≡ Some b → a ≡ b
 some_is e = cc
@@ -415,7 +415,7 @@ module _ {T E : Type 0} (stands : T → List E → Type 0) (began : List E) wher
           (λ (is : newcomer l ≡ v). subst (Fits stands began r.ticket r.serving s.homes r.log by) is
           record { saw = p; told = tt; own = sym none_made; own_seen = sym (made_by-prefix by l r.log p none_made); knows = tt })
           (at_snoc s.views (newcomer l) v by e))
-          (λ front. r.fits by v (at_front s.views (newcomer l ∷ []) by v (lt_of_not-le front) e))
+          (λ prefix. r.fits by v (at_prefix s.views (newcomer l ∷ []) by v (lt_of_not-le prefix) e))
 
   pub cuts : (id : ℕ) (v : View E) → Splits (Kept stands began) id v v (newcomer v.seen)
   cuts id v s r at = subst (λ (vs : List (View E)). Kept stands began record { words = s.words; homes = s.homes; views = vs ++ newcomer v.seen ∷ [] }) (sym (set_again s.views id v at)) (joined s r v.seen (r.fits id v at).saw)

@@ -32,10 +32,10 @@ module _ {X : Type 0} where
   at_below (x ∷ xs) zero a e = omega arith
   at_below (x ∷ xs) (suc i) a e = let r = at_below xs i a e in omega arith
 
-  pub at_front : (l m : List X) (i : ℕ) (a : X) → i < length l → get_elem? (l ++ m) i ≡ some a → get_elem? l i ≡ some a
-  at_front [] m i a h e = absurd (omega arith)
-  at_front (x ∷ xs) m zero a h e = e
-  at_front (x ∷ xs) m (suc i) a h e = at_front xs m i a (omega arith) e
+  pub at_prefix : (l m : List X) (i : ℕ) (a : X) → i < length l → get_elem? (l ++ m) i ≡ some a → get_elem? l i ≡ some a
+  at_prefix [] m i a h e = absurd (omega arith)
+  at_prefix (x ∷ xs) m zero a h e = e
+  at_prefix (x ∷ xs) m (suc i) a h e = at_prefix xs m i a (omega arith) e
 
 module _ {E : Type 0} where
   pub each_prefix-append : (ls : List (List (Numbered E))) (l more : List (Numbered E)) → EachPrefix ls l → EachPrefix ls (l ++ more)
@@ -63,8 +63,8 @@ module _ {E : Type 0} where
   made_by-other by other e apart = rw (ne_eqb other by (λ same. apart (sym same))) refl
 
   -- a seat whose number no entry of the list bears has none in a prefix of it
-  pub made_by-prefix : (by : ℕ) (front whole : List (Numbered E)) → IsPrefix front whole → made_by by whole ≡ [] → made_by by front ≡ []
-  made_by-prefix by front whole p none = nil_of_append (made_by by front) (made_by by p.0) (sym (made_by-append by front p.0) ∙ ap (made_by by) (sym p.1) ∙ none)
+  pub made_by-prefix : (by : ℕ) (prefix whole : List (Numbered E)) → IsPrefix prefix whole → made_by by whole ≡ [] → made_by by prefix ≡ []
+  made_by-prefix by prefix whole p none = nil_of_append (made_by by prefix) (made_by by p.0) (sym (made_by-append by prefix p.0) ∙ ap (made_by by) (sym p.1) ∙ none)
 
   bearing_less : (seats by : ℕ) (l : List (Numbered E)) → seats ≤ by → AllBySeats seats l → made_by by l ≡ []
   bearing_less seats by [] le all = refl

@@ -2,9 +2,9 @@
 use Rattle.std.specs.Prelude.{◌≡◌, ◌==◌, ℕ, ◌<◌, Bool, false, Option, Some, None, List, [], ◌∷◌, ◌++◌, map, filter}
 use Rattle.fluid_turn.specs.declared.view.Numbered.{Numbered}
 
--- the whole list begins with the front
+-- the whole list begins with the prefix
 abbrev pub IsPrefix : {X : Type 0} → List X → List X → Type 0
-IsPrefix {X} front whole = (rest : List X) × (whole ≡ front ++ rest)
+IsPrefix {X} prefix whole = (rest : List X) × (whole ≡ prefix ++ rest)
 
 -- the number is this one; an entry with which the turn began has none
 abbrev pub is_number : ℕ → Option ℕ → Bool

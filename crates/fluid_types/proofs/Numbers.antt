@@ -26,9 +26,9 @@ numbered_take [] n (suc k) numbered = tt
 numbered_take (m ∷ ms) n (suc k) numbered = (numbered.0, numbered_take ms (suc n) k numbered.1)
 
 pub numbered_append : (xs ys : List Message) (n : ℕ) → AreNumberedFrom n xs → AreNumberedFrom (n + length xs) ys → AreNumberedFrom n (xs ++ ys)
-numbered_append [] ys n front behind = numbered_same ys (n + 0) n (omega arith) behind
-numbered_append (x ∷ xs) ys n front behind =
-    (front.0, numbered_append xs ys (suc n) front.1 (numbered_same ys (n + suc (length xs)) (suc n + length xs) (omega arith) behind))
+numbered_append [] ys n prefix behind = numbered_same ys (n + 0) n (omega arith) behind
+numbered_append (x ∷ xs) ys n prefix behind =
+    (prefix.0, numbered_append xs ys (suc n) prefix.1 (numbered_same ys (n + suc (length xs)) (suc n + length xs) (omega arith) behind))
 
 -- one more at the end
 pub numbered_more : (ms : List Message) (m : Message) (n : ℕ) → AreNumberedFrom n ms → m.number ≡ n + length ms → AreNumberedFrom n (ms ++ m ∷ [])

@@ -27,11 +27,11 @@ unfolding object_bytes
 tree_object bytes entries is = ap object_of is
 
 -- those of a version are the blobs', the tree's and the version's
-pub listed : (app : List ℕ) (blobs : List (List ℕ × List ℕ)) (own version : StoredObject) (front : List StoredObject) → front ≡ map (λ b. object_of (object_bytes (Blob b.1))) blobs → own ≡ object_of (object_bytes (Tree (map blob_entry blobs)))
-    → version ≡ object_of (object_bytes (Tree (tree_entry (codes ".app") app ∷ tree_entry (codes ".protocol") own.id ∷ []))) → (front ++ own ∷ []) ++ version ∷ [] ≡ version_objects app blobs
+pub listed : (app : List ℕ) (blobs : List (List ℕ × List ℕ)) (own version : StoredObject) (prefix : List StoredObject) → prefix ≡ map (λ b. object_of (object_bytes (Blob b.1))) blobs → own ≡ object_of (object_bytes (Tree (map blob_entry blobs)))
+    → version ≡ object_of (object_bytes (Tree (tree_entry (codes ".app") app ∷ tree_entry (codes ".protocol") own.id ∷ []))) → (prefix ++ own ∷ []) ++ version ∷ [] ≡ version_objects app blobs
 unfolding protocol_id
-listed app blobs own version front fronts is_own is_version =
-    append_assoc front (own ∷ []) (version ∷ [])
-    ∙ ap (λ f. f ++ own ∷ version ∷ []) fronts
+listed app blobs own version prefix prefixes is_own is_version =
+    append_assoc prefix (own ∷ []) (version ∷ [])
+    ∙ ap (λ f. f ++ own ∷ version ∷ []) prefixes
     ∙ ap (λ v. map (λ b. object_of (object_bytes (Blob b.1))) blobs ++ own ∷ v ∷ []) (is_version ∙ ap (λ o. object_of (object_bytes (Tree (tree_entry (codes ".app") app ∷ tree_entry (codes ".protocol") o ∷ [])))) (ap (λ (o : StoredObject). o.id) is_own))
     ∙ ap (λ o. map (λ b. object_of (object_bytes (Blob b.1))) blobs ++ o ∷ object_of (object_bytes (version_tree app blobs)) ∷ []) is_own

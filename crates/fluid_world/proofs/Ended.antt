@@ -6,7 +6,7 @@ use Rattle.std.specs.FinMap.{FinMap, get, empty, get-empty, len-empty}
 use Rattle.fluid_table.specs.Table.{byte_order, Values}
 use Rattle.fluid_io.specs.Causes.{Rose, Tells}
 use Rattle.fluid_io.specs.declared.lines.TheConstants.{MOST_LINES}
-use Rattle.fluid_io.specs.Streams.{Reading, Writing, Appends, AppendsFront}
+use Rattle.fluid_io.specs.Streams.{Reading, Writing, Appends, AppendsPrefix}
 use Rattle.fluid_log.specs.Shelving.{Shelving, keeper_under}
 use Rattle.fluid_store.specs.Held.{Held, IsShort}
 use Rattle.fluid_store.specs.Storing.{Storing}
@@ -153,7 +153,7 @@ pub last_shows : (told : Told) (old new : Writing) (s : Scripting) (line : List 
 last_shows told old new s line end.Done parts says is = (parts, subst (λ ls. Appends (written ls) old.written new.written) (sym says) is.1)
 last_shows told old new s line (end.BadLine number why) parts says is = absurd is
 last_shows told old new s line end.ReadFault parts says is = absurd is
-last_shows told old new s line end.WriteFault parts says is = subst (λ ls. AppendsFront (written ls) old.written new.written) (sym says) is.1
+last_shows told old new s line end.WriteFault parts says is = subst (λ ls. AppendsPrefix (written ls) old.written new.written) (sym says) is.1
 last_shows told old new s line (end.KeeperFault note) parts says is = absurd is
 last_shows told old new s line (end.StoreFault note) parts says is = absurd is
 last_shows told old new s line (end.BadStored fault) parts says is = absurd is
@@ -203,18 +203,18 @@ line_behind limits w document (Some input) old mid new before all h more = (
 )
 
 line_cut : (limits : Limits) (w : World) (document : List ℕ) (left old mid new : Option (List ℕ)) (before : List (List ℕ)) → Tells left (λ bytes. lines bytes ≡ before) → Wrote (IsWhole (means false limits w)) left old mid
-    → AppendsFront (written (loaded_last limits (behind limits w before) document).lines) mid new
+    → AppendsPrefix (written (loaded_last limits (behind limits w before) document).lines) mid new
     → Wrote (λ bytes output. IsCut (means false limits w) bytes output ⊎ IsCutWith limits w document bytes output) left old new
 line_cut limits w document None old mid new before all h more = tt
 line_cut limits w document (Some input) old mid new before all h more = (
-  h.0 ++ more.front,
-  appends-both h.0 more.front old mid new h.1 more.appends,
+  h.0 ++ more.prefix,
+  appends-both h.0 more.prefix old mid new h.1 more.appends,
   inr (record {
     rest = more.behind;
     goes_on = record {
       accepted = h.2.accepted;
       text =
-          append_assoc h.0 more.front more.behind ∙ ap (λ b. h.0 ++ b) (sym more.splits)
+          append_assoc h.0 more.prefix more.behind ∙ ap (λ b. h.0 ++ b) (sym more.splits)
           ∙ ap (λ b. b ++ written (loaded_last limits (behind limits w before) document).lines) h.2.text
           ∙ ap (λ ls. written (loaded_last limits (behind limits w ls) document).lines) (sym all);
     };
@@ -492,5 +492,5 @@ shows_at s w h = stands_at s.lanes s.store s.names w h.stands
 pub last_written : (line bytes : List ℕ) (old new : Writing) → bytes ≡ written (line ∷ []) → new.faults ≡ old.faults → Appends bytes old.written new.written → LastWrites line old new end.Done
 last_written line bytes old new is quiet more = (quiet, subst (λ b. Appends b old.written new.written) is more)
 
-pub last_unwritten : (line bytes : List ℕ) (old new : Writing) → bytes ≡ written (line ∷ []) → Rose old.faults new.faults → AppendsFront bytes old.written new.written → LastWrites line old new end.WriteFault
-last_unwritten line bytes old new is rose more = (rose, subst (λ b. AppendsFront b old.written new.written) is more)
+pub last_unwritten : (line bytes : List ℕ) (old new : Writing) → bytes ≡ written (line ∷ []) → Rose old.faults new.faults → AppendsPrefix bytes old.written new.written → LastWrites line old new end.WriteFault
+last_unwritten line bytes old new is rose more = (rose, subst (λ b. AppendsPrefix b old.written new.written) is more)

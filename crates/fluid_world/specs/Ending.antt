@@ -2,7 +2,7 @@
 use Rattle.std.specs.Prelude.{◌≡◌, ◌⊎◌, ◌+◌, ℕ, Bool, true, false, List, [], ◌∷◌, ◌++◌, length, Option, Some, None, is_none}
 use Rattle.std.specs.Str.Lines.{lines}
 use Rattle.fluid_io.specs.Causes.{Rose, Tells}
-use Rattle.fluid_io.specs.Streams.{Reading, Writing, Appends, AppendsFront}
+use Rattle.fluid_io.specs.Streams.{Reading, Writing, Appends, AppendsPrefix}
 use Rattle.fluid_log.specs.Shelving.{Shelving}
 use Rattle.fluid_store.specs.Held.{IsShort}
 use Rattle.fluid_store.specs.Keeping.{IsNoted}
@@ -194,14 +194,14 @@ pub record PartsStand (s : Scripting) (w : World) : Type 0 where
 -- the line of the last container
 abbrev pub LastWrites : (line : List ℕ) → (old new : Writing) → ScriptEnd → Type 0
 LastWrites line old new Done = (new.faults ≡ old.faults) × Appends (written (line ∷ [])) old.written new.written
-LastWrites line old new WriteFault = Rose old.faults new.faults × AppendsFront (written (line ∷ [])) old.written new.written
+LastWrites line old new WriteFault = Rose old.faults new.faults × AppendsPrefix (written (line ∷ [])) old.written new.written
 LastWrites line old new NoMemory = new ≡ old
 LastWrites line old new end = ⊥
 
 -- it is loaded and shown
 abbrev pub ShowsBy : Told → (old new : Writing) → Scripting → ScriptEnd → Type 0
 ShowsBy told old new s Done = PartsStand s told.world × Appends (written told.lines) old.written new.written
-ShowsBy told old new s WriteFault = AppendsFront (written told.lines) old.written new.written
+ShowsBy told old new s WriteFault = AppendsPrefix (written told.lines) old.written new.written
 ShowsBy told old new s (KeeperFault note) = new ≡ old
 ShowsBy told old new s (StoreFault note) = new ≡ old
 ShowsBy told old new s (BadStored fault) = (fault ≡ Lane Worn) × (IsLong told.world × (new ≡ old))

@@ -1,7 +1,7 @@
 -- How a run ends that shows a text.
 use Rattle.std.proofs.Common.{◌≡◌, ◌⊎◌, inl, inr, ℕ, List, refl, arith}
 use Rattle.fluid_io.specs.Causes.{Rose}
-use Rattle.fluid_io.specs.Streams.{Writing, Appends, AppendsFront}
+use Rattle.fluid_io.specs.Streams.{Writing, Appends, AppendsPrefix}
 use Rattle.fluidd.specs.Output.{Shows}
 use Rattle.fluidd.specs.Tasks.{IsPage}
 
@@ -24,13 +24,13 @@ shown number text output sink page appends quiet = record {
 }
 
 -- the sink failed
-pub failed : (shown : ℕ) (text : List ℕ) (output sink : Writing) → IsPage shown → AppendsFront text output.written sink.written →
+pub failed : (shown : ℕ) (text : List ℕ) (output sink : Writing) → IsPage shown → AppendsPrefix text output.written sink.written →
     Rose output.faults sink.faults → Shows shown text output sink 5
-failed number text output sink page front rose = record {
+failed number text output sink page prefix rose = record {
   known = inr (inl refl);
   written = λ e. absurd (not_page 5 number page e (inl refl));
   no_fault = λ e. absurd (not_page 5 number page e (inl refl));
   write_fault = λ e. rose;
-  cut = λ e. front;
+  cut = λ e. prefix;
   nothing = λ e. absurd (omega arith);
 }

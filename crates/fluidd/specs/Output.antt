@@ -4,7 +4,7 @@ use Rattle.std.specs.List.{flat_map}
 use Rattle.std.specs.Str.Lines.{lines}
 use Rattle.fluid_io.specs.Causes.{Rose, Tells}
 use Rattle.fluid_io.specs.Lines.{EndsInLineFeed}
-use Rattle.fluid_io.specs.Streams.{Reading, Writing, Appends, AppendsFront}
+use Rattle.fluid_io.specs.Streams.{Reading, Writing, Appends, AppendsPrefix}
 use Rattle.fluid_json.specs.declared.memory.NoMemory.{NoMemory}
 use Rattle.fluid_types.specs.Ledger.{Ledger}
 use Rattle.fluid_types.specs.Printed.{verdict_line}
@@ -125,5 +125,5 @@ pub record Shows (shown : ℕ) (text : List ℕ) (output sink : Writing) (status
   pub written : status ≡ shown → Appends text output.written sink.written
   pub no_fault : status ≡ shown → sink.faults ≡ output.faults
   pub write_fault : status ≡ 5 → Rose output.faults sink.faults
-  pub cut : status ≡ 5 → AppendsFront text output.written sink.written
+  pub cut : status ≡ 5 → AppendsPrefix text output.written sink.written
   pub nothing : status ≡ 6 → sink ≡ output

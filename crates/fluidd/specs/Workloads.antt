@@ -1,7 +1,7 @@
 -- What the exit status of `workload` says.
 use Rattle.std.specs.Prelude.{◌≡◌, ◌≤◌, ◌⊎◌, ℕ, Option, Some}
 use Rattle.fluid_io.specs.Causes.{Rose}
-use Rattle.fluid_io.specs.Streams.{AppendsFront}
+use Rattle.fluid_io.specs.Streams.{AppendsPrefix}
 use Rattle.fluid_log.specs.Shelving.{AreWhole}
 use Rattle.fluid_lane.specs.declared.fault.LaneFault.TheVariants.{Worn}
 use Rattle.fluid_transcript.specs.World.{World}
@@ -32,7 +32,7 @@ pub record SummarizesAs (w : World) (number clients ops : ℕ) (before now : Out
   -- and its last line is `loaded same`
   pub same : status ≡ 0 → EndsSame full w number clients ops
   -- 5: a beginning of it
-  pub cut : status ≡ 5 → AppendsFront (written_by full w number clients ops) before.sink.written now.sink.written
+  pub cut : status ≡ 5 → AppendsPrefix (written_by full w number clients ops) before.sink.written now.sink.written
   -- 6, 7, 8, 11: nothing
   pub nothing : (status ≡ 6) ⊎ ((status ≡ 7) ⊎ ((status ≡ 8) ⊎ (status ≡ 11))) → now.sink ≡ before.sink
   -- 11: a document is worn: it had so many entries before that with those of a workload it comes to the end of all numbers

@@ -48,20 +48,20 @@ one_then raw rest p m q one others = record {
 
 -- ---- lists that were seen
 
-same_front : {X : Type 0} (l a b : List X) → (l ++ a) ++ b ≡ l → l ++ a ≡ l
-same_front l a b is =
+same_prefix : {X : Type 0} (l a b : List X) → (l ++ a) ++ b ≡ l → l ++ a ≡ l
+same_prefix l a b is =
     let none = append_cancel_left l (a ++ b) [] (sym (append_assoc l a b) ∙ is ∙ sym (append-nil l)) in
     ap (λ x. l ++ x) (nil_of_append a b none) ∙ append-nil l
 
 -- who has entered as much in a longer list as in a shorter one has entered so much in each list between them
 pub between : (number : ℕ) (a b c : List (Numbered Step)) (mine : List Step) → IsPrefix a b → IsPrefix b c → mine ≡ made_by number a → mine ≡ made_by number c
     → made_by number b ≡ mine
-between number a b c mine front back short long =
-    let of_b : made_by number b ≡ mine ++ made_by number front.0 =
-    ap (made_by number) front.1 ∙ made_by-append number a front.0 ∙ ap (λ l. l ++ made_by number front.0) (sym short) in
-    let of_c : (mine ++ made_by number front.0) ++ made_by number back.0 ≡ mine =
+between number a b c mine prefix back short long =
+    let of_b : made_by number b ≡ mine ++ made_by number prefix.0 =
+    ap (made_by number) prefix.1 ∙ made_by-append number a prefix.0 ∙ ap (λ l. l ++ made_by number prefix.0) (sym short) in
+    let of_c : (mine ++ made_by number prefix.0) ++ made_by number back.0 ≡ mine =
     sym (long ∙ ap (made_by number) back.1 ∙ made_by-append number b back.0 ∙ ap (λ l. l ++ made_by number back.0) of_b) in
-    of_b ∙ same_front mine (made_by number front.0) (made_by number back.0) of_c
+    of_b ∙ same_prefix mine (made_by number prefix.0) (made_by number back.0) of_c
 
 -- who knows its own steps in a list
 abbrev pub KnowsOwn : APass → Type 0
@@ -71,12 +71,12 @@ KnowsOwn p = p.mine ≡ made_by p.number p.seen
 pub record IsLater (p later : APass) (seen : List (Numbered Step)) : Type 0 where
   pub number : later.number ≡ p.number
   pub mine : later.mine ≡ p.mine
-  pub front : IsPrefix p.seen seen
+  pub prefix : IsPrefix p.seen seen
   pub back : IsPrefix seen later.seen
 
 own_between : (p later : APass) (seen : List (Numbered Step)) → KnowsOwn p → KnowsOwn later → IsLater p later seen → made_by p.number seen ≡ p.mine
 own_between p later seen short long is =
-    between p.number p.seen seen later.seen p.mine is.front is.back short (sym is.mine ∙ long ∙ ap (λ n. made_by n later.seen) is.number)
+    between p.number p.seen seen later.seen p.mine is.prefix is.back short (sym is.mine ∙ long ∙ ap (λ n. made_by n later.seen) is.number)
 
 -- what both had seen when they met
 pub both : (p q p_later q_later : APass) (seen : List (Numbered Step)) → IsLegalHistory seen → KnowsOwn p → KnowsOwn q → KnowsOwn p_later → KnowsOwn q_later

@@ -275,16 +275,16 @@ fn often(rt: &impl Abort, alloc: Global, text: &str, count: u64) -> MemoryWire {
     wire(rt, alloc, texts, 0, 0)
 }
 
-// The same of each front of a text.
-fn fronts(rt: &impl Abort, alloc: Global, text: &str) -> MemoryWire {
+// The same of each prefix of a text.
+fn prefixes(rt: &impl Abort, alloc: Global, text: &str) -> MemoryWire {
     let mut texts = VecDeque::new(alloc);
     push(rt, alloc, &mut texts, CONNECT);
-    let mut front = String::new(alloc);
+    let mut prefix = String::new(alloc);
     for c in text.chars() {
-        push(rt, alloc, &mut texts, front.as_str());
-        front.push(c).expect(rt, "memory");
+        push(rt, alloc, &mut texts, prefix.as_str());
+        prefix.push(c).expect(rt, "memory");
     }
-    drop(front);
+    drop(prefix);
     wire(rt, alloc, texts, 0, 0)
 }
 
@@ -361,7 +361,7 @@ fn hostile_wires_end(rt: HostRuntime) -> Result<(), Fail> {
         &rt,
         alloc,
         full,
-        fronts(&rt, alloc, SUBMIT),
+        prefixes(&rt, alloc, SUBMIT),
         "closed 0 0 0 0 265",
         None,
         2,

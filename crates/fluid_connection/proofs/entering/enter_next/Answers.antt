@@ -17,7 +17,7 @@ returns-then-told-clause-does g c =
     subst (λ f. NextDoes c.args.voice.now c.args.told.now c.say-said.new.self p p c.args.act f) (sym c.lost.ensures)
     (subst (λ a. NextDoes c.args.voice.now c.args.told.now c.say-said.new.self p p a (lost c.say-said.result)) (sym c.entry_of-raw.ensures.is)
     (next_told c.args.voice.now c.args.told.now c.say-said.new.self p p c.entry_of-raw.result is FullNow (unasked p c.entry_of-raw.result (c.requires.full c.if-told.true) (submit_counts c.entry_of-raw.result is))
-    (λ full. refl) c.say-said.ensures.counts c.say-said.ensures.full c.say-said.result c.say-said.ensures.said c.say-said.ensures.front))
+    (λ full. refl) c.say-said.ensures.counts c.say-said.ensures.full c.say-said.result c.say-said.ensures.said c.say-said.ensures.prefix))
 
 pub returns-in-Ok-clause-does : goal.returns-in-Ok-clause-does
 returns-in-Ok-clause-does g c =
@@ -28,7 +28,7 @@ returns-in-Ok-clause-does g c =
     subst (λ f. NextDoes c.args.voice.now c.args.told.now c.say-said-in-Ok.new.self p q c.args.act f) (sym c.lost-in-Ok.ensures)
     (subst (λ a. NextDoes c.args.voice.now c.args.told.now c.say-said-in-Ok.new.self p q a (lost c.say-said-in-Ok.result)) (sym c.entry_of-raw.ensures.is)
     (next_told c.args.voice.now c.args.told.now c.say-said-in-Ok.new.self p q c.entry_of-raw.result is c.in-Ok.end one
-    (λ full. never (sym full ∙ c.if-told.false)) c.say-said-in-Ok.ensures.counts c.say-said-in-Ok.ensures.full c.say-said-in-Ok.result c.say-said-in-Ok.ensures.said c.say-said-in-Ok.ensures.front))
+    (λ full. never (sym full ∙ c.if-told.false)) c.say-said-in-Ok.ensures.counts c.say-said-in-Ok.ensures.full c.say-said-in-Ok.result c.say-said-in-Ok.ensures.said c.say-said-in-Ok.ensures.prefix))
 
 pub returns-in-Err-clause-does : goal.returns-in-Err-clause-does
 returns-in-Err-clause-does g c =

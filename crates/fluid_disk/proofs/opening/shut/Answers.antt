@@ -29,9 +29,9 @@ returns-clause-crash g c records value told short place =
     (c.put.ensures.crash (spelled records ++ value ∷ []) told alone)
 
 pub returns-then-closed-clause-closed : goal.returns-then-closed-clause-closed
-returns-then-closed-clause-closed g c front value told closed place = told ∙ ap (λ (v : ℕ). Some (front ++ v ∷ [])) (closed c.if-closed.true)
+returns-then-closed-clause-closed g c prefix value told closed place = told ∙ ap (λ (v : ℕ). Some (prefix ++ v ∷ [])) (closed c.if-closed.true)
 
 pub returns-clause-closed : goal.returns-clause-closed
-returns-clause-closed g c front value told closed place =
-    mapped_at (overwritten c.args.gate (0 ∷ [])) (g.D.Disk.seen c.args.disk.now).bytes (g.D.Disk.seen c.put.new.disk).bytes (front ++ value ∷ []) c.in_ok-put.ensures.does.bytes told
-    ∙ ap (λ (n : ℕ). Some (overwritten n (0 ∷ []) (front ++ value ∷ []))) place ∙ ap (λ (l : List ℕ). Some l) (one_written front value 0 [])
+returns-clause-closed g c prefix value told closed place =
+    mapped_at (overwritten c.args.gate (0 ∷ [])) (g.D.Disk.seen c.args.disk.now).bytes (g.D.Disk.seen c.put.new.disk).bytes (prefix ++ value ∷ []) c.in_ok-put.ensures.does.bytes told
+    ∙ ap (λ (n : ℕ). Some (overwritten n (0 ∷ []) (prefix ++ value ∷ []))) place ∙ ap (λ (l : List ℕ). Some l) (one_written prefix value 0 [])

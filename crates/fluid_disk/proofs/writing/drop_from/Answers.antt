@@ -4,12 +4,12 @@ use Rattle.fluid_disk.specs.Disk.{Torn, LeavesOnly, Overwrites}
 use Rattle.fluid_disk.specs.Files.{settled, Stands}
 use Rattle.fluid_disk.specs.declared.owed.Owed.TheVariants as debts
 use Rattle.fluid_disk.proofs.Standing.{at_rest, only}
-use Rattle.fluid_disk.proofs.Mending.{drop_failed, drop_run, dropped, front_shorter}
+use Rattle.fluid_disk.proofs.Mending.{drop_failed, drop_run, dropped, prefix_shorter}
 use Rattle.fluid_disk.proofs.Rows.{length_gates}
 use Rattle.fluid_disk.proofs.writing.drop_from.Goals as goal
 
 pub put-requires : goal.put-requires
-put-requires g c = let s = c.requires.stands in omega (arith, c.gate_of-gate.ensures s.0 (c.deref.ensures.value ∙ s.1.gates_are), s.1.room, front_shorter c.args.count s.0)
+put-requires g c = let s = c.requires.stands in omega (arith, c.gate_of-gate.ensures s.0 (c.deref.ensures.value ∙ s.1.gates_are), s.1.room, prefix_shorter c.args.count s.0)
 
 pub returns-in_err-put-clause-does : goal.returns-in_err-put-clause-does
 returns-in_err-put-clause-does g c records s =

@@ -5,7 +5,7 @@ use Rattle.fluid_disk.specs.Disk.{Torn, LeavesOnly, Overwrites}
 use Rattle.fluid_disk.specs.Files.{cutting, Keeps, Cutting}
 use Rattle.fluid_disk.proofs.Moments.{chained}
 use Rattle.fluid_disk.proofs.Runs.{quiet_run}
-use Rattle.fluid_disk.proofs.Mending.{quieter, reads_run, reads_kept, alone, reopen_failed, reopen_run, reopened_whole, front_shorter}
+use Rattle.fluid_disk.proofs.Mending.{quieter, reads_run, reads_kept, alone, reopen_failed, reopen_run, reopened_whole, prefix_shorter}
 use Rattle.fluid_disk.proofs.Rows.{length_gates}
 use Rattle.fluid_disk.proofs.writing.repair_cut.Goals as goal
 
@@ -13,7 +13,7 @@ pub gate_of-gate-requires : goal.gate_of-gate-requires
 gate_of-gate-requires g c = let s = c.requires in omega (arith, ap length s.1.gates_are, length_gates 0 s.0, s.1.fits)
 
 pub put-requires : goal.put-requires
-put-requires g c = let s = c.requires in omega (arith, c.gate_of-gate.ensures s.0 s.1.gates_are, s.1.room, front_shorter c.args.count s.0, c.sync.ensures.same.size)
+put-requires g c = let s = c.requires in omega (arith, c.gate_of-gate.ensures s.0 s.1.gates_are, s.1.room, prefix_shorter c.args.count s.0, c.sync.ensures.same.size)
 
 pub returns-in_err-sync-clause-does : goal.returns-in_err-sync-clause-does
 returns-in_err-sync-clause-does g c records s =

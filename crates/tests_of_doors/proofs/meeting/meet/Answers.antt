@@ -16,13 +16,13 @@ returns-clause-first c =
     (record {
       number = c.meet-one_later.ensures.second.0.1 ∙ ap (λ k. k.number) one.same ∙ met.first.0.1;
       mine = c.meet-one_later.ensures.second.0.2 ∙ ap (λ k. k.mine) one.same ∙ met.first.0.2;
-      front = subst (IsPrefix c.args.first.seen) (sym seen) met.first.0.3;
+      prefix = subst (IsPrefix c.args.first.seen) (sym seen) met.first.0.3;
       back = subst (λ l. IsPrefix l c.meet-one_later.result.1.seen) (ap (λ k. k.seen) one.same ∙ sym seen) c.meet-one_later.ensures.second.0.3;
     })
     (record {
       number = c.meet-other_later.ensures.second.0.1 ∙ ap (λ k. k.number) c.fork-as_other.ensures.same ∙ met.second.0.1;
       mine = c.meet-other_later.ensures.second.0.2 ∙ ap (λ k. k.mine) c.fork-as_other.ensures.same ∙ met.second.0.2;
-      front = subst (IsPrefix c.args.second.seen) (sym seen) met.first.1;
+      prefix = subst (IsPrefix c.args.second.seen) (sym seen) met.first.1;
       back = subst (λ l. IsPrefix l c.meet-other_later.result.1.seen) (c.fork-told_one.ensures.second.1.0 ∙ sym (ap (λ k. k.seen) same)) c.meet-other_later.ensures.second.1;
     })
 
@@ -38,12 +38,12 @@ returns-clause-second c =
     (record {
       number = c.meet-one_later.ensures.second.0.1 ∙ ap (λ k. k.number) c.fork-as_one.ensures.same ∙ met.first.0.1;
       mine = c.meet-one_later.ensures.second.0.2 ∙ ap (λ k. k.mine) c.fork-as_one.ensures.same ∙ met.first.0.2;
-      front = subst (IsPrefix c.args.first.seen) (sym seen) met.second.1;
+      prefix = subst (IsPrefix c.args.first.seen) (sym seen) met.second.1;
       back = subst (λ l. IsPrefix l c.meet-one_later.result.1.seen) (c.fork-told_other.ensures.second.1.0 ∙ sym (ap (λ k. k.seen) same)) c.meet-one_later.ensures.second.1;
     })
     (record {
       number = c.meet-other_later.ensures.second.0.1 ∙ ap (λ k. k.number) other.same ∙ met.second.0.1;
       mine = c.meet-other_later.ensures.second.0.2 ∙ ap (λ k. k.mine) other.same ∙ met.second.0.2;
-      front = subst (IsPrefix c.args.second.seen) (sym seen) met.second.0.3;
+      prefix = subst (IsPrefix c.args.second.seen) (sym seen) met.second.0.3;
       back = subst (λ l. IsPrefix l c.meet-other_later.result.1.seen) (ap (λ k. k.seen) other.same ∙ sym seen) c.meet-other_later.ensures.second.0.3;
     })

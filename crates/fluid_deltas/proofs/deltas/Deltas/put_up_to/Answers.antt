@@ -3,7 +3,7 @@ use Rattle.std.proofs.lemmas.Result.{err_from_is_err_and}
 use Rattle.fluid_deltas.specs.Pushed.{pushed}
 use Rattle.fluid_deltas.specs.Flushes.{lacking_up_to}
 use Rattle.fluid_deltas.proofs.Putting.{HasPut, puts_nothing, puts_more, puts_on, puts_all}
-use Rattle.fluid_deltas.proofs.Slices.{put_stands, front_put_stands, lacking_length, lacking_at}
+use Rattle.fluid_deltas.proofs.Slices.{put_stands, prefix_put_stands, lacking_length, lacking_at}
 use Rattle.fluid_deltas.proofs.deltas.Deltas.put_up_to.Goals as goal
 
 pub put-requires-clause-next : goal.put-requires-clause-next
@@ -70,7 +70,7 @@ returns-in_err-put-clause-stands g c = λ order stands.
     let behind = rw start at c.loop-place.auto.place in
     let size = lacking_length d kept c.args.end c.requires.reached c.requires.pushed in
     let so_far = rw start at c.loop-place.invariant in
-    front_put_stands d order _ _ c.args.end (g.K.Keeper.sized c.args.keeper.now)
+    prefix_put_stands d order _ _ c.args.end (g.K.Keeper.sized c.args.keeper.now)
     (record {
       count = c.loop-place.place - kept;
       within = omega (arith, size, c.loop-place-test.true, behind);

@@ -6,7 +6,7 @@ use Rattle.fluid_disk.specs.Disk.{LeavesOnly}
 use Rattle.fluid_disk.specs.Records.{gate_before}
 use Rattle.fluid_disk.specs.Files.{Recording, StandsFor, Opens}
 use Rattle.fluid_disk.proofs.Kept.{gate_behind_it, there_any}
-use Rattle.fluid_disk.proofs.Mending.{front_shorter, reads_kept}
+use Rattle.fluid_disk.proofs.Mending.{prefix_shorter, reads_kept}
 use Rattle.fluid_disk.proofs.Promise.{opens_reading}
 use Rattle.fluid_disk.proofs.Rows.{length_gates}
 use Rattle.fluid_disk.proofs.Standing.{tells_from}
@@ -50,7 +50,7 @@ piece-requires g c =
     let one = c.gate_of-gate.ensures records (c.deref.ensures.value ∙ inv.1.gates_are) in
     let two = c.gate_of-next.ensures records (c.deref-2.ensures.value ∙ inv.1.gates_are) in
     let after : gate_before (c.args.place + 1) records ≡ gate_before c.args.place records + 5 + length (get_or records c.args.place []) = gate_behind_it c.args.place records lt in
-    omega (arith, one, two, after, inv.1.room, front_shorter (c.args.place + 1) records)
+    omega (arith, one, two, after, inv.1.room, prefix_shorter (c.args.place + 1) records)
 
 pub returns-in_err-bytes-clause-crash : goal.returns-in_err-bytes-clause-crash
 returns-in_err-bytes-clause-crash g c row s =

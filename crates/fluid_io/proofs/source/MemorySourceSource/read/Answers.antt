@@ -1,6 +1,6 @@
 use Rattle.std.proofs.Common.{◌≡◌, ◌+◌, ◌-◌, drop, Some, ap, sym, ◌∙◌, arith, length-drop, length-append}
 use Rattle.std.proofs.lemmas.List.{nil_from_length}
-use Rattle.fluid_io.proofs.Fronts.{IsCopied, copied_length, front_and_rest}
+use Rattle.fluid_io.proofs.Prefixes.{IsCopied, copied_length, prefix_and_rest}
 use Rattle.fluid_io.proofs.source.MemorySourceSource.read.Goals as goal
 
 -- src/source.rt:74:5
@@ -16,7 +16,7 @@ returns-clause-does c =
       copied = c.copy_from_slice.ensures.after ∙ rw (same, c.deref.ensures.value);
     } in record {
       within = rw length-append (omega (arith, copied_length bytes c.copy_from_slice.new.self start count copied));
-      gives = ap Some (left ∙ front_and_rest bytes c.copy_from_slice.new.self (drop count c.args.into.now) start count copied);
+      gives = ap Some (left ∙ prefix_and_rest bytes c.copy_from_slice.new.self (drop count c.args.into.now) start count copied);
       ended = λ none room. left ∙ nil_from_length (drop start bytes) (rw length-drop (omega (
         arith,
         c.self.invariant.1,

@@ -1,7 +1,7 @@
 use Rattle.std.proofs.Common.{refl, sym, ap, subst, ◌∙◌, arith}
 use Rattle.fluid_types.specs.Printed.{raw_printed}
 use Rattle.fluid_lane.specs.Standing.{IsOwn, is_worn}
-use Rattle.fluid_lane.proofs.Stands.{goes_from, goes_to, front_some, goes_some, goes_broken, enters, quietly, failed}
+use Rattle.fluid_lane.proofs.Stands.{goes_from, goes_to, prefix_some, goes_some, goes_broken, enters, quietly, failed}
 use Rattle.fluid_lane.proofs.Safe.{safe_beside, safe_entered, safe_torn, not_worn}
 use Rattle.fluid_lane.proofs.lane.Lane.add.Goals as goal
 
@@ -48,7 +48,7 @@ returns-in-Err-DeltaFailed-clause-goes g c =
     let e = (rw c.in-Err-DeltaFailed.field-0-is at c.in-Err-DeltaFailed.ensures).enters in
     goes_to _ _ _ _ c.failed-in-Err-DeltaFailed.ensures
     (goes_from _ _ _ _ c.self.view_is
-    (goes_some _ _ _ _ (failed _ _ c.in-Err-DeltaFailed.note refl refl e.cause.last) (front_some _ _ _ e.does.1) e.later e.does.0 refl refl refl e.stands))
+    (goes_some _ _ _ _ (failed _ _ c.in-Err-DeltaFailed.note refl refl e.cause.last) (prefix_some _ _ _ e.does.1) e.later e.does.0 refl refl refl e.stands))
 
 pub returns-in-Err-NoMemory-clause-goes : goal.returns-in-Err-NoMemory-clause-goes
 returns-in-Err-NoMemory-clause-goes g c =

@@ -1,5 +1,5 @@
 use Rattle.std.proofs.Common.{rules, ◌≡◌, suc, ◌∷◌, length, ap, arith}
-use Rattle.fluid_loader.proofs.Behind.{front_more, next_ones, next_number, stops_in_front}
+use Rattle.fluid_loader.proofs.Behind.{prefix_more, next_ones, next_number, stops_in_prefix}
 use Rattle.fluid_loader.proofs.container.Container.take_all.Goals as goal
 
 pub loop-message-preserved : goal.loop-message-preserved
@@ -13,12 +13,12 @@ loop-message-preserved c =
     let number = next_number c.args.own.now now c.take.new.self ahead rest m left c.in_ok-take.ensures.taken c.loop-message.invariant.next in
     record {
       len = search rules;
-      front = front_more c.args.own.now c.args.self.now now c.take.new.self c.args.messages ahead rest m left c.in_ok-take.ensures.taken c.loop-message.invariant.front;
+      prefix = prefix_more c.args.own.now c.args.self.now now c.take.new.self c.args.messages ahead rest m left c.in_ok-take.ensures.taken c.loop-message.invariant.prefix;
       next = next_ones c.args.own.now now c.take.new.self ahead rest m left c.in_ok-take.ensures.taken c.loop-message.invariant.next;
       fit = omega (arith, c.loop-message.invariant.fit, long, number);
     }
 
 pub returns-in_err-take-clause-fault : goal.returns-in_err-take-clause-fault
 returns-in_err-take-clause-fault c =
-    stops_in_front c.from_residual.result c.args.own.now c.args.self.now c.loop-message.self c.take.new.self c.args.messages c.loop-message.message-iterator.rest.items c.next.new.self.rest.items
-    c.in-Some.message c.in-Some.ensures.steps.0 c.in_err-take.ensures.fault c.loop-message.invariant.front
+    stops_in_prefix c.from_residual.result c.args.own.now c.args.self.now c.loop-message.self c.take.new.self c.args.messages c.loop-message.message-iterator.rest.items c.next.new.self.rest.items
+    c.in-Some.message c.in-Some.ensures.steps.0 c.in_err-take.ensures.fault c.loop-message.invariant.prefix

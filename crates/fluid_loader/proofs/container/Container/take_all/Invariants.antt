@@ -8,7 +8,7 @@ use Rattle.fluid_loader.proofs.container.Container.take_all.Given as goal
 abbrev pub invariant-loop-message : goal.invariant-loop-message
 invariant-loop-message l = record {
   len : l.message-iterator.rest.len ≡ length l.message-iterator.rest.items;
-  front : (front : List Message) × ((l.fn.messages ≡ front ++ l.message-iterator.rest.items) × (l.self ≡ behind l.own l.fn.self front));
+  prefix : (prefix : List Message) × ((l.fn.messages ≡ prefix ++ l.message-iterator.rest.items) × (l.self ≡ behind l.own l.fn.self prefix));
   next : AreNumberedFrom (l.self.number + 1) l.message-iterator.rest.items;
   fit : l.self.number + length l.message-iterator.rest.items < 2 ^ 53;
 }

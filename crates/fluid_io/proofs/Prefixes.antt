@@ -12,8 +12,8 @@ pub copied_length : (bytes copy : List ℕ) (start count : ℕ) → IsCopied byt
 copied_length bytes copy start count h = ap length h.copied ∙ length-take-le count (drop start bytes) h.few
 
 -- the bytes that were copied to the front of the buffer and those behind them are the bytes that were left
-pub front_and_rest : (bytes copy tail : List ℕ) (start count : ℕ) → IsCopied bytes copy start count
+pub prefix_and_rest : (bytes copy tail : List ℕ) (start count : ℕ) → IsCopied bytes copy start count
     → drop start bytes ≡ take count (copy ++ tail) ++ drop (start + count) bytes
-front_and_rest bytes copy tail start count h =
+prefix_and_rest bytes copy tail start count h =
     rw (take_at copy tail count (copied_length bytes copy start count h), ← drop-drop count start bytes, h.copied)
     (sym (take-append-drop count (drop start bytes)))

@@ -1,5 +1,5 @@
 use Rattle.std.proofs.Common.{◌≡◌, drop}
-use Rattle.fluid_scribe.proofs.tail.drop_front.Given as goal
+use Rattle.fluid_scribe.proofs.tail.drop_prefix.Given as goal
 
 -- so many are gone
 abbrev pub invariant-loop-index : goal.invariant-loop-index

@@ -14,21 +14,21 @@ fed-append : (a b : List Reply) → fed (a ++ b) ≡ fed a ++ fed b
 fed-append [] b = refl
 fed-append (reply ∷ a) b = ap (λ l. brought reply ++ l) (fed-append a b) ∙ sym (append_assoc (brought reply) (fed a) (fed b))
 
-pub sent_front : (result : Result (Unit {0}) WireFault) (sent replies : List Reply) → IsSent result sent replies → IsPrefix sent replies
-sent_front (Ok done) sent replies same = subst (λ l. IsPrefix l replies) (sym same) (prefix_refl replies)
-sent_front (Err fault) sent replies front = front
+pub sent_prefix : (result : Result (Unit {0}) WireFault) (sent replies : List Reply) → IsSent result sent replies → IsPrefix sent replies
+sent_prefix (Ok done) sent replies same = subst (λ l. IsPrefix l replies) (sym same) (prefix_refl replies)
+sent_prefix (Err fault) sent replies prefix = prefix
 
 pub sent_whole : (result : Result (Unit {0}) WireFault) (sent replies : List Reply) → result ≡ Ok tt → IsSent result sent replies → sent ≡ replies
 sent_whole result sent replies well is = subst (λ r. IsSent r sent replies) well is
 
-fed_front : (a b : List Reply) → IsPrefix a b → IsPrefix (fed a) (fed b)
-fed_front a b (rest, is) = (fed rest, ap fed is ∙ fed-append a rest)
+fed_prefix : (a b : List Reply) → IsPrefix a b → IsPrefix (fed a) (fed b)
+fed_prefix a b (rest, is) = (fed rest, ap fed is ∙ fed-append a rest)
 
-pub front_behind : {X : Type 0} (a b c : List X) → IsPrefix b c → IsPrefix (a ++ b) (a ++ c)
-front_behind a b c (rest, is) = (rest, ap (λ l. a ++ l) is ∙ sym (append_assoc a b rest))
+pub prefix_behind : {X : Type 0} (a b c : List X) → IsPrefix b c → IsPrefix (a ++ b) (a ++ c)
+prefix_behind a b c (rest, is) = (rest, ap (λ l. a ++ l) is ∙ sym (append_assoc a b rest))
 
-pub front_last : {X : Type 0} (a b : List X) → IsPrefix a b → IsPrefix (a ++ []) (b ++ [])
-front_last a b (rest, is) = (rest, append-nil b ∙ is ∙ ap (λ l. l ++ rest) (sym (append-nil a)))
+pub prefix_last : {X : Type 0} (a b : List X) → IsPrefix a b → IsPrefix (a ++ []) (b ++ [])
+prefix_last a b (rest, is) = (rest, append-nil b ∙ is ∙ ap (λ l. l ++ rest) (sym (append-nil a)))
 
 all_fed : (es : List Event) (s t : Stand) → AreEvents s es t → AreWhole es → fed_in es ≡ collected_in es
 all_fed [] s t same whole = refl
@@ -42,27 +42,27 @@ all_answered (brings c ∷ es) s t (begins, (is, more)) (well, rest) = all_answe
 all_answered (hears r ∷ es) s t (begins, (is, more)) (well, rest) =
     ap (λ l. l ++ answered_in es) (sent_whole r.sending r.sent r.heard.replies well.0 is.is_sent) ∙ ap (λ l. r.heard.replies ++ l) (all_answered es (behind (hears r) s) t more rest)
 
-feed_front : (es : List Event) (s t : Stand) → AreEvents s es t → MayBreakLast es → IsPrefix (fed_in es) (collected_in es)
-feed_front [] s t same may = prefix_refl []
-feed_front (brings c ∷ []) s t (begins, (is, more)) may = front_last (fed c.sent) (fed c.given) (fed_front c.sent c.given (sent_front c.sending c.sent c.given is.is_sent))
-feed_front (hears r ∷ []) s t (begins, (is, more)) may = prefix_refl []
-feed_front (brings c ∷ e ∷ es) s t (begins, (is, more)) (well, rest) =
+feed_prefix : (es : List Event) (s t : Stand) → AreEvents s es t → MayBreakLast es → IsPrefix (fed_in es) (collected_in es)
+feed_prefix [] s t same may = prefix_refl []
+feed_prefix (brings c ∷ []) s t (begins, (is, more)) may = prefix_last (fed c.sent) (fed c.given) (fed_prefix c.sent c.given (sent_prefix c.sending c.sent c.given is.is_sent))
+feed_prefix (hears r ∷ []) s t (begins, (is, more)) may = prefix_refl []
+feed_prefix (brings c ∷ e ∷ es) s t (begins, (is, more)) (well, rest) =
     subst (λ l. IsPrefix (fed l ++ fed_in (e ∷ es)) (collected_in (brings c ∷ e ∷ es))) (sym (sent_whole c.sending c.sent c.given well is.is_sent))
-    (front_behind (fed c.given) (fed_in (e ∷ es)) (collected_in (e ∷ es)) (feed_front (e ∷ es) (behind (brings c) s) t more rest))
-feed_front (hears r ∷ e ∷ es) s t (begins, (is, more)) (well, rest) = feed_front (e ∷ es) (behind (hears r) s) t more rest
+    (prefix_behind (fed c.given) (fed_in (e ∷ es)) (collected_in (e ∷ es)) (feed_prefix (e ∷ es) (behind (brings c) s) t more rest))
+feed_prefix (hears r ∷ e ∷ es) s t (begins, (is, more)) (well, rest) = feed_prefix (e ∷ es) (behind (hears r) s) t more rest
 
 answers_front : (es : List Event) (s t : Stand) → AreEvents s es t → MayBreakLast es → IsPrefix (answered_in es) (owed_in es)
 answers_front [] s t same may = prefix_refl []
 answers_front (brings c ∷ []) s t (begins, (is, more)) may = prefix_refl []
-answers_front (hears r ∷ []) s t (begins, (is, more)) may = front_last r.sent r.heard.replies (sent_front r.sending r.sent r.heard.replies is.is_sent)
+answers_front (hears r ∷ []) s t (begins, (is, more)) may = prefix_last r.sent r.heard.replies (sent_prefix r.sending r.sent r.heard.replies is.is_sent)
 answers_front (brings c ∷ e ∷ es) s t (begins, (is, more)) (well, rest) = answers_front (e ∷ es) (behind (brings c) s) t more rest
 answers_front (hears r ∷ e ∷ es) s t (begins, (is, more)) (well, rest) =
     subst (λ l. IsPrefix (l ++ answered_in (e ∷ es)) (owed_in (hears r ∷ e ∷ es))) (sym (sent_whole r.sending r.sent r.heard.replies well.0 is.is_sent))
-    (front_behind r.heard.replies (answered_in (e ∷ es)) (owed_in (e ∷ es)) (answers_front (e ∷ es) (behind (hears r) s) t more rest))
+    (prefix_behind r.heard.replies (answered_in (e ∷ es)) (owed_in (e ∷ es)) (answers_front (e ∷ es) (behind (hears r) s) t more rest))
 
 pub sends_in_order : (es : List Event) (s t : Stand) → AreEvents s es t → MayBreakLast es → SendsInOrder es
 sends_in_order es s t are may = record {
-  feed = feed_front es s t are may;
+  feed = feed_prefix es s t are may;
   answers = answers_front es s t are may;
   all_fed = all_fed es s t are;
   all_answered = all_answered es s t are;
