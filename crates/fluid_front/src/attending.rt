@@ -142,7 +142,7 @@ where
             let Some(place) = station.due() else {
                 break;
             };
-            turn::<R, W, B, S, H>(rt, &mut station, &mut jobs, handler, place);
+            cycle::<R, W, B, S, H>(rt, &mut station, &mut jobs, handler, place);
         }
     }
 }
@@ -225,7 +225,7 @@ where
 }
 
 // The job of this place has one step, and ends where it was its last.
-fn turn<R, W, B, S, H>(rt: &R, station: &mut S, jobs: &mut Jobs<H::Job>, handler: &H, place: usize)
+fn cycle<R, W, B, S, H>(rt: &R, station: &mut S, jobs: &mut Jobs<H::Job>, handler: &H, place: usize)
 where
     R: Wait,
     S: Station<W, B>,
@@ -241,7 +241,7 @@ where
             jobs.leave(place);
             handler.end(rt, job);
         }
-        None => station.turned(place),
+        None => station.cycled(place),
     }
 }
 
@@ -254,7 +254,7 @@ where
 {
     match seat {
         Some(job) => {
-            if handler.turn(rt, job) {
+            if handler.cycle(rt, job) {
                 return None;
             }
         }

@@ -16,7 +16,7 @@ pub trait Handler<W> {
         requires { 0 < number };
 
     /// One step, in which it may wait as its wire does. It says whether there is one more.
-    fn turn<R: Wait>(&self, rt: &R, job: &mut Self::Job) -> bool
+    fn cycle<R: Wait>(&self, rt: &R, job: &mut Self::Job) -> bool
         ensures { result ≡ false → is_over job.new ≡ true };
 
     /// Ends the work behind its last step.
@@ -29,7 +29,7 @@ pub trait Handler<W> {
     {
         let mut job = self.begin(rt, number, wire);
         for _ in rt.forever() {
-            if !self.turn(rt, &mut job) {
+            if !self.cycle(rt, &mut job) {
                 self.end(rt, job);
                 return;
             }

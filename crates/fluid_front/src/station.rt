@@ -24,8 +24,8 @@ pub trait Station<W, B> {
     /// The wire of this place goes.
     fn remove(&mut self, place: usize);
 
-    /// The wire of this place had a turn.
-    fn turned(&mut self, place: usize);
+    /// The wire of this place had a cycle.
+    fn cycled(&mut self, place: usize);
 
     /// Waits until there may be something to do for some of its wires, or until it is rung.
     fn wait<R: Wait>(&mut self, rt: &R);
@@ -90,7 +90,7 @@ impl<W> Station<W, MemoryBell> for MemoryStation<W> {
         self.places.retain(|one| *one != place);
     }
 
-    fn turned(&mut self, _place: usize) {}
+    fn cycled(&mut self, _place: usize) {}
 
     fn wait<R: Wait>(&mut self, rt: &R) {
         if self.places.is_empty() {

@@ -1,2 +1,2 @@
 mod Visits
-mod Turned
+mod Cycled

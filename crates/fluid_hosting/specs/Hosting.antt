@@ -19,8 +19,8 @@ use Rattle.fluid_session.specs.contracts.tally.Tally as tallies
 use Rattle.fluid_session.specs.Counted.{nothing}
 use Rattle.fluid_session.specs.Ends.{most_unread}
 use Rattle.fluid_session.specs.Events.{Stand}
-use Rattle.fluid_session.specs.Running.{Runs, TurnsOnce}
-use Rattle.fluid_session.specs.Lines.{Lines}
+use Rattle.fluid_session.specs.Running.{Runs, CyclesOnce}
+use Rattle.fluid_session.specs.Outcome.{SessionOutcome}
 use Rattle.fluid_session.specs.Whole.{Concludes, Serves}
 
 -- connected to nothing, with a key and perhaps a visit that serves for its document
@@ -32,15 +32,15 @@ unconnected key visit = record { voice = Fresh; key = key; visit = None; handed 
 pub record Hosts (key : AKey) (visit : Option Visiting) (before now : Storing) (old new : Wiring) (report : Report) (key_back : AKey) (visit_back : Option Visiting) : Type 0 where
   pub left : Talked
   pub serves : Serves (talking (unconnected key visit)) (talking left) before now old new report
-  pub lines : Lines (talking (unconnected key visit)) serves.account.runs.behind_them (talking left) serves.account.moment report serves.account.runs.events
+  pub outcome : SessionOutcome (talking (unconnected key visit)) serves.account.runs.behind_them (talking left) serves.account.moment report serves.account.runs.events
   pub key_is : key_back ≡ left.key
   pub visit_is : visit_back ≡ option_or left.visit left.handed
   -- the visit is one of the service's documents, where the one was so that was handed in
   pub served : MayBeServed (keyed key) (pass_of visit) → MayBeServed (keyed key) (pass_of visit_back)
 
--- ---- turn by turn
+-- ---- cycle by cycle
 
--- a session between two of its turns: the service to which its key belongs, its connection, what it counted, and whether it is over
+-- a session between two of its cycles: the service to which its key belongs, its connection, what it counted, and whether it is over
 pub record Hosting : Type 0 where
   pub service : Serving
   pub talk : Talked
@@ -63,23 +63,23 @@ MayHear h = h.is_over ≡ false → (is_used h.talk.voice ≡ false) × (h.tally
 abbrev pub standing : Talked → Storing → Stand
 standing t store = record { talk = talking t; store = store }
 
--- the turn that ended it: why, and behind it one leave was tried, and this is reported
-pub record LastTurn (t u : Talked) (before now : Storing) (old new : Wiring) (had has : Tally) (report : Report) : Type 0 where
+-- the cycle that ended it: why, and behind it one leave was tried, and this is reported
+pub record LastCycle (t u : Talked) (before now : Storing) (old new : Wiring) (had has : Tally) (report : Report) : Type 0 where
   pub last : Talking
   pub end : SessionEnd
-  pub turns : TurnsOnce (standing t before) (record { talk = last; store = now }) old new had has (Err end)
+  pub cycles : CyclesOnce (standing t before) (record { talk = last; store = now }) old new had has (Err end)
   pub concludes : Concludes last (talking u) has end report
 
--- what one turn did: the session went on, or this was its last turn
-abbrev pub Turns : (t u : Talked) (before now : Storing) (old new : Wiring) (had has : Tally) → Option Report → Type 0
-Turns t u before now old new had has None = TurnsOnce (standing t before) (standing u now) old new had has (Ok tt)
-Turns t u before now old new had has (Some report) = LastTurn t u before now old new had has report
+-- what one cycle did: the session went on, or this was its last cycle
+abbrev pub Cycles : (t u : Talked) (before now : Storing) (old new : Wiring) (had has : Tally) → Option Report → Type 0
+Cycles t u before now old new had has None = CyclesOnce (standing t before) (standing u now) old new had has (Ok tt)
+Cycles t u before now old new had has (Some report) = LastCycle t u before now old new had has report
 
--- this is what the turns so far made of a new session, over a store and a wire that stood so when it began
+-- this is what the cycles so far made of a new session, over a store and a wire that stood so when it began
 abbrev pub HasCome : (key : AKey) (visit : Option Visiting) (before now : Storing) (old new : Wiring) → Talked → Tally → Type 0
 HasCome key visit before now old new t tally = Runs (standing (unconnected key visit) before) (standing t now) old new nothing tally (Ok tt)
 
--- with one turn more: it has come further, or all of it is a whole session
+-- with one cycle more: it has come further, or all of it is a whole session
 abbrev pub ComesTo : (key : AKey) (visit : Option Visiting) (before now : Storing) (old new : Wiring) → Talked → Tally → Option Report → Type 0
 ComesTo key visit before now old new t tally None = HasCome key visit before now old new t tally
 ComesTo key visit before now old new t tally (Some report) = Hosts key visit before now old new report t.key (option_or t.visit t.handed)

@@ -1,4 +1,5 @@
-//! A session that is turned: where it waits for many wires, whoever works on them turns each when there may be something to do.
+//! A session that goes cycle by cycle: where many wires are waited for, whoever works on them runs a cycle of a session when there
+//! may be something for it to do.
 ghost use Rattle.std.specs.Prelude.{◌≡◌, ◌<◌, true, false, None, is_some};
 ghost use Rattle.std.specs.Option.{option_or};
 ghost use Rattle.fluid_store.specs.Storing.{Storing};
@@ -6,20 +7,20 @@ ghost use Rattle.fluid_lines.specs.Wires.{Wiring};
 ghost use Rattle.fluid_voice.specs.States.{is_used};
 ghost use Rattle.fluid_session.specs.Counted.{nothing};
 ghost use Rattle.fluid_session.specs.Ends.{most_unread};
-ghost use Rattle.fluid_hosting.specs.Hosting.{ComesFurther, HasCome, Turns, unconnected};
+ghost use Rattle.fluid_hosting.specs.Hosting.{ComesFurther, HasCome, Cycles, unconnected};
 
 use fluid_connection::Talk;
 use fluid_io::Clock;
 use fluid_lines::Wire;
 use fluid_log::Shelves;
 use fluid_service::{Key, Service, Visit};
-use fluid_session::{Report, Tally, conclude, turn};
+use fluid_session::{Report, Tally, conclude, cycle};
 use fluid_store::Objects;
 use std::alloc::Global;
 use std::marker::Model;
 use std::sync::Wait;
 
-/// A session between two of its turns.
+/// A session between two of its cycles.
 #[derive(Drop)]
 pub struct Hosted<'a, B: Shelves> {
     service: &'a Service<B>,
@@ -68,9 +69,9 @@ where
         self.is_over
     }
 
-    /// One turn: what wasn't delivered is collected and sent, and one text is heard, where one has come in. Where that ends the session,
+    /// One cycle: what wasn't delivered is collected and sent, and one text is heard, where one has come in. Where that ends the session,
     /// one leave is tried, and what came of it is answered.
-    pub fn turn<R: Wait, O: Objects, W: Wire, C: Clock>(
+    pub fn cycle<R: Wait, O: Objects, W: Wire, C: Clock>(
         &mut self,
         rt: &R,
         alloc: Global,
@@ -81,10 +82,10 @@ where
         requires { self.old.is_over ≡ false }
         ensures service { self.new.service ≡ self.old.service }
         ensures over { self.new.is_over ≡ is_some result }
-        ensures does { Turns self.old.talk self.new.talk (O.seen objects.old) (O.seen objects.new) (W.seen wire.old) (W.seen wire.new) self.old.tally self.new.tally result }
+        ensures does { Cycles self.old.talk self.new.talk (O.seen objects.old) (O.seen objects.new) (W.seen wire.old) (W.seen wire.new) self.old.tally self.new.tally result }
         ensures session { ComesFurther self.old self.new (O.seen objects.old) (O.seen objects.new) (W.seen wire.old) (W.seen wire.new) result }
     {
-        let report = turn_once(
+        let report = cycle_once(
             rt,
             alloc,
             self.service,
@@ -111,8 +112,8 @@ where
     }
 }
 
-// One turn, and where it ends the session, what concludes that.
-fn turn_once<R: Wait, B: Shelves, O: Objects, W: Wire, C: Clock>(
+// One cycle, and where it ends the session, what concludes that.
+fn cycle_once<R: Wait, B: Shelves, O: Objects, W: Wire, C: Clock>(
     rt: &R,
     alloc: Global,
     service: &Service<B>,
@@ -129,9 +130,9 @@ where
     requires few { tally.old.unread < most_unread }
     ensures service { talk.new.key.turn ≡ service.now }
     ensures hears { result ≡ None → (is_used talk.new.voice ≡ false) × (tally.new.unread < most_unread) }
-    ensures does { Turns talk.old talk.new (O.seen objects.old) (O.seen objects.new) (W.seen wire.old) (W.seen wire.new) tally.old tally.new result }
+    ensures does { Cycles talk.old talk.new (O.seen objects.old) (O.seen objects.new) (W.seen wire.old) (W.seen wire.new) tally.old tally.new result }
 {
-    match turn(rt, alloc, service, objects, wire, clock, talk, tally) {
+    match cycle(rt, alloc, service, objects, wire, clock, talk, tally) {
         Ok(()) => None,
         Err(end) => Some(conclude(rt, alloc, clock, talk, *tally, end)),
     }

@@ -1,4 +1,4 @@
--- A session of `serve` between two of its turns may be sent to another thread.
+-- A session of `serve` between two of its cycles may be sent to another thread.
 use denote.RattleType.{RattleType}
 use denote.Ref.{NamedLft}
 use denote.Struct.Field.{row_field}

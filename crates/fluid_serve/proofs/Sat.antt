@@ -1,4 +1,4 @@
--- A session of `serve` behind one turn more.
+-- A session of `serve` behind one cycle more.
 use Rattle.std.proofs.Common.{◌≡◌, Bool, true, false, Option, Some, None, is_some, refl, sym, subst, ◌∙◌}
 use Rattle.std.proofs.lemmas.Bool.{false≢true}
 use Rattle.fluid_lines.specs.Wires.{Wiring}
@@ -19,16 +19,16 @@ told s h counts began ended wire result from to further =
     (subst (λ (c : Counts). ComesFurther s.hosting h (store_of c) (store_of ended) s.wire wire result) from further)
 
 module _ (s : Sat) (h : Hosting) (counts began ended : Counts) (wire : Wiring) (way : IsUnderWay s) (going : s.hosting.is_over ≡ false) (same : h.service ≡ s.hosting.service) (from : began ≡ s.counts) (to : counts ≡ ended) where
-  by_turn : (result : Option Report) → h.is_over ≡ is_some result → ComesFurther s.hosting h (store_of s.counts) (store_of counts) s.wire wire result → IsUnderWay (behind s h counts wire)
-  by_turn None over further = record { service = way.service ∙ sym same; new = way.new; comes = λ again. further s.key None untouched s.first (way.comes going) }
-  by_turn (Some report) over further = record { service = way.service ∙ sym same; new = way.new; comes = λ again. absurd (false≢true (sym again ∙ over)) }
+  by_cycle : (result : Option Report) → h.is_over ≡ is_some result → ComesFurther s.hosting h (store_of s.counts) (store_of counts) s.wire wire result → IsUnderWay (behind s h counts wire)
+  by_cycle None over further = record { service = way.service ∙ sym same; new = way.new; comes = λ again. further s.key None untouched s.first (way.comes going) }
+  by_cycle (Some report) over further = record { service = way.service ∙ sym same; new = way.new; comes = λ again. absurd (false≢true (sym again ∙ over)) }
 
   by_last : (result : Option Report) → ComesFurther s.hosting h (store_of s.counts) (store_of counts) s.wire wire result → IsSession (behind s h counts wire) result
   by_last None further = tt
   by_last (Some report) further = record { service = way.service ∙ sym same; new = way.new; hosts = further s.key None untouched s.first (way.comes going) }
 
   pub goes_on : (result : Option Report) → h.is_over ≡ is_some result → ComesFurther s.hosting h (store_of began) (store_of ended) s.wire wire result → IsUnderWay (behind s h counts wire)
-  goes_on result over further = by_turn result over (told s h counts began ended wire result from to further)
+  goes_on result over further = by_cycle result over (told s h counts began ended wire result from to further)
 
   pub is_session : (result : Option Report) → ComesFurther s.hosting h (store_of began) (store_of ended) s.wire wire result → IsSession (behind s h counts wire) result
   is_session result further = by_last result (told s h counts began ended wire result from to further)

@@ -1,4 +1,4 @@
--- A session of `serve` on its wire, turn by turn.
+-- A session of `serve` on its wire, cycle by cycle.
 use Rattle.std.specs.Prelude.{◌≡◌, ⊤, ℕ, false, List, [], Option, Some, None, refl}
 use Rattle.std.specs.Coded.{Coded, code_by, coded×, coded_ℕ, coded_list, coded_option}
 use Rattle.std.specs.Option.{option_or}
@@ -28,7 +28,7 @@ store_of counts = locked counts.faults counts.gets
 abbrev pub untouched : Storing
 untouched = locked 0 0
 
--- its key was one of its service, which had entered nothing. Where it isn't over, turns brought it so far, without a visit at the beginning
+-- its key was one of its service, which had entered nothing. Where it isn't over, cycles brought it so far, without a visit at the beginning
 pub record IsUnderWay (s : Sat) : Type 0 where
   pub service : s.key.turn ≡ s.hosting.service
   pub new : s.key.mine ≡ []

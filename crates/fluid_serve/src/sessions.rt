@@ -36,13 +36,13 @@ where
     }
 
     /// However the session ends, nothing else does. Where the peer hasn't taken what it was sent, there is nothing to do. Behind the last
-    /// turn the wire stays until the peer has taken all.
-    fn turn<R: Wait>(&self, rt: &R, job: &mut Sitting<'a, B, W>) -> bool {
+    /// cycle the wire stays until the peer has taken all.
+    fn cycle<R: Wait>(&self, rt: &R, job: &mut Sitting<'a, B, W>) -> bool {
         if !job.is_over() {
             if !job.is_free(rt) {
                 return true;
             }
-            let _report = job.turn(rt, self.alloc, self.objects, self.clock);
+            let _report = job.cycle(rt, self.alloc, self.objects, self.clock);
         }
         !job.is_over() || !job.is_handed_on(rt)
     }

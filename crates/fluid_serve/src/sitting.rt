@@ -1,4 +1,4 @@
-//! A session on a wire, for whoever turns it.
+//! A session on a wire, for whoever runs its cycles.
 ghost use Rattle.std.specs.Prelude.{◌≡◌, false, is_some};
 ghost use Rattle.fluid_serve.specs.Sittings.{IsSession};
 
@@ -15,7 +15,7 @@ use std::marker::Model;
 use std::snapshot::Snapshot;
 use std::sync::{Mutex, Wait};
 
-/// A session on a wire, between two of its turns.
+/// A session on a wire, between two of its cycles.
 #[derive(Drop)]
 pub(crate) struct Sitting<'a, B: Shelves, W: Wire> {
     hosted: Hosted<'a, B>,
@@ -69,7 +69,7 @@ where
         self.hosted.is_over()
     }
 
-    /// Whether the wire is free for one more turn.
+    /// Whether the wire is free for one more cycle.
     pub(crate) fn is_free<R: Wait>(&mut self, rt: &R) -> bool
         ensures { self.new ≡ self.old }
     {
@@ -83,8 +83,8 @@ where
         self.wire.is_handed_on(rt)
     }
 
-    /// One turn. Where it is the last one, all of them are one whole session of the wire, and what came of that is answered.
-    pub(crate) fn turn<R: Wait, O: Objects, C: Clock>(
+    /// One cycle. Where it is the last one, all of them are one whole session of the wire, and what came of that is answered.
+    pub(crate) fn cycle<R: Wait, O: Objects, C: Clock>(
         &mut self,
         rt: &R,
         alloc: Global,
@@ -99,7 +99,7 @@ where
         let mut store = LockedObjects::behind(rt, objects, self.counts);
         let report = self
             .hosted
-            .turn(rt, alloc, &mut store, &mut self.wire, clock);
+            .cycle(rt, alloc, &mut store, &mut self.wire, clock);
         self.counts = store.counts();
         report
     }

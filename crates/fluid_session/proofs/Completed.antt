@@ -52,7 +52,7 @@ use Rattle.fluid_session.specs.Events.{Event, Stand, Round, IsRound, AreEvents, 
 use Rattle.fluid_session.specs.Events.Event.{brings, hears}
 use Rattle.fluid_session.specs.Running.{EndsIn, Stops}
 use Rattle.fluid_session.specs.Running.Stops.{at_end, at_long, at_receive, at_feed, at_reply, at_text, at_collection, at_count}
-use Rattle.fluid_session.specs.Lines.{HasNote}
+use Rattle.fluid_session.specs.Outcome.{HasNote}
 use Rattle.fluid_session.specs.Whole.{Account}
 use Rattle.fluid_session.specs.Complete.{HasRefusal, IsCarried, NothingFailed, EndsWithItsWire}
 use Rattle.fluid_session.proofs.Sent.{rose_later}

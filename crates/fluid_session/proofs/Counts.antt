@@ -31,7 +31,7 @@ use Rattle.fluid_session.specs.declared.tally.Tally.{Tally}
 use Rattle.fluid_session.specs.Counted.{plus, capped, counts_of}
 use Rattle.fluid_session.specs.Events.{Event, Stand, Round, IsRound, AreEvents, behind, counted_behind}
 use Rattle.fluid_session.specs.Events.Event.{brings, hears}
-use Rattle.fluid_session.specs.Lines.{count_steps, steps_of, steps_of_round, unread_in}
+use Rattle.fluid_session.specs.Outcome.{count_steps, steps_of, steps_of_round, unread_in}
 use Rattle.fluid_session.proofs.Passes.{AllApart, goes_on}
 use Rattle.fluid_session.proofs.Submitted.{IsNoConnect, NoConnects, round_none}
 

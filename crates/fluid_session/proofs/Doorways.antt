@@ -32,7 +32,7 @@ use Rattle.fluid_talk.specs.Doing.{Did, AreDone, AreFound, AreAnswered, IsAnswer
 use Rattle.fluid_talk.specs.Hearing.{IsConnectTo, Reaches, ReachesBy}
 use Rattle.fluid_session.specs.Events.{Event, Stand, Round, IsRound, AreEvents, behind}
 use Rattle.fluid_session.specs.Events.Event.{brings, hears}
-use Rattle.fluid_session.specs.Lines.{IsConnectedAs, IsLimitOf, NoneReached, IsLastDoor, AreLastDoors, GoesOn}
+use Rattle.fluid_session.specs.Outcome.{IsConnectedAs, IsLimitOf, NoneReached, IsLastDoor, AreLastDoors, GoesOn}
 use Rattle.fluid_session.proofs.Passes.{goes_on}
 use Rattle.fluid_session.proofs.Filling.{nothing_held}
 

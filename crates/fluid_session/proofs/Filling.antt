@@ -36,7 +36,7 @@ use Rattle.fluid_talk.specs.Doing.{Did, AreDone, AreFound, AreAnswered, IsAnswer
 use Rattle.fluid_talk.specs.Hearing.{HearsConnected}
 use Rattle.fluid_session.specs.Events.{Event, Stand, Round, IsRound, AreWhole, AreEvents, behind}
 use Rattle.fluid_session.specs.Events.Event.{brings, hears}
-use Rattle.fluid_session.specs.Lines.{entered, entered_in, subs_in, IsFull, SubmitsTold, Submits, MayBreakLast, GoesOn}
+use Rattle.fluid_session.specs.Outcome.{entered, entered_in, subs_in, IsFull, SubmitsTold, Submits, MayBreakLast, GoesOn}
 use Rattle.fluid_session.proofs.Passes.{goes_on, ledger-more, found_prefix}
 use Rattle.fluid_session.proofs.Prefixes.{prefix_behind, prefix_last}
 use Rattle.fluid_session.proofs.Submitted.{IsNoConnect, NoConnects, round_none, round_tried, round_whole, each_prefix, all_in, HasNoFull, tried_prefix, all_tried}

@@ -26,7 +26,7 @@ use Rattle.fluid_talk.specs.Doing.{Did, acts_in}
 use Rattle.fluid_talk.specs.Hearing.{KeyBehind, ReachesBy, IsConnectEnd, AreConnectEnds}
 use Rattle.fluid_session.specs.Events.{Event, Stand, Collection, Round, IsCollection, IsRound, AreEvents, behind}
 use Rattle.fluid_session.specs.Events.Event.{brings, hears}
-use Rattle.fluid_session.specs.Lines.{EachBeyond, AreBeyond, IsBeyond}
+use Rattle.fluid_session.specs.Outcome.{EachBeyond, AreBeyond, IsBeyond}
 use Rattle.fluid_voice.specs.Laws.{IsOneAnswer}
 use Rattle.fluid_voice.proofs.Ahead.{others_connect}
 use Rattle.fluid_session.proofs.Submitted.{IsNoConnect, NoConnects, round_none}

@@ -32,7 +32,7 @@ use Rattle.fluid_session.specs.Ends.{end_of, wire_end, unless_refused, behind_le
 use Rattle.fluid_session.specs.Events.{Event, AreWhole, IsReached}
 use Rattle.fluid_session.specs.Running.{Stops}
 use Rattle.fluid_session.specs.Running.Stops.{at_end, at_long, at_receive, at_feed, at_reply, at_text, at_collection, at_count}
-use Rattle.fluid_session.specs.Lines.{entered, entered_in, steps_of, steps_of_round, HasNote, MissesLeave, HasLeft, IsQuietEnd}
+use Rattle.fluid_session.specs.Outcome.{entered, entered_in, steps_of, steps_of_round, HasNote, MissesLeave, HasLeft, IsQuietEnd}
 use Rattle.fluid_session.specs.Events.Event.{brings, hears}
 use Rattle.fluid_session.proofs.Passes.{goes_refl, goes_then}
 

@@ -37,7 +37,7 @@ use Rattle.fluid_talk.specs.Doing.{Did, AreDone, acts_in, ended, steps_in, may_s
 use Rattle.fluid_talk.specs.Hearing.{AreReplies}
 use Rattle.fluid_session.specs.Events.{Event, Stand, Round, IsRound, AreWhole, AreEvents, behind}
 use Rattle.fluid_session.specs.Events.Event.{brings, hears}
-use Rattle.fluid_session.specs.Lines.{nacks_said, nacks_in, nacks_given, nacks_of, steps_of, steps_of_round, answered_in, MayBreakLast, NacksInOrder}
+use Rattle.fluid_session.specs.Outcome.{nacks_said, nacks_in, nacks_given, nacks_of, steps_of, steps_of_round, answered_in, MayBreakLast, NacksInOrder}
 use Rattle.fluid_session.proofs.Passes.{brings_on, hears_on}
 use Rattle.fluid_session.proofs.Prefixes.{prefix_behind, prefix_last, sent_prefix, sent_whole}
 

@@ -29,7 +29,7 @@ use Rattle.fluid_session.specs.Ends.{end_of, wire_end, behind_text, most_unread}
 use Rattle.fluid_session.specs.Sending.{Passes, SendsAll, out_texts}
 use Rattle.fluid_session.specs.Events.{Event, Stand, IsReached, AreEvents, AreWhole, texts_of, history_of, counted_with, counted_behind, Round, Collection, IsHeardApart, behind}
 use Rattle.fluid_session.specs.Events.Event.{brings, hears}
-use Rattle.fluid_session.specs.Running.{EndsIn, Stops, GoesOrStops, StaysBehind, Runs, IsFed, IsHeard, IsTurn, FeedsOnce, HearsOnce, TurnsOnce}
+use Rattle.fluid_session.specs.Running.{EndsIn, Stops, GoesOrStops, StaysBehind, Runs, IsFed, IsHeard, IsCycle, FeedsOnce, HearsOnce, CyclesOnce}
 use Rattle.fluid_session.specs.Running.Stops.{at_end, at_long, at_receive, at_feed, at_reply, at_text, at_collection, at_count}
 use Rattle.fluid_session.proofs.Sent.{passes_nothing, passes_by, passes_then, cause_later, rose_later}
 
@@ -98,9 +98,9 @@ runs_then s m t old mid new had have has result first second =
       by = by_then first.events second.events second.behind_them t.talk old mid second.mid new has result first.by.0 before.faults second.by;
     }
 
--- ---- one turn
+-- ---- one cycle
 
-one : (a b : List Event) (result : Result (Unit {0}) SessionEnd) (old mid new : Wiring) → old.quiets ≤ mid.quiets → IsFed a (Ok tt) → IsHeard b result mid new → IsTurn (a ++ b) result old new
+one : (a b : List Event) (result : Result (Unit {0}) SessionEnd) (old mid new : Wiring) → old.quiets ≤ mid.quiets → IsFed a (Ok tt) → IsHeard b result mid new → IsCycle (a ++ b) result old new
 one [] b result old mid new later fed heard = absurd fed
 one (brings c ∷ []) [] (Ok done) old mid new later fed heard = rose_later old.quiets mid.quiets new.quiets later heard
 one (brings c ∷ []) [] (Err end) old mid new later fed heard = tt
@@ -111,25 +111,25 @@ one (brings c ∷ e ∷ es) b result old mid new later fed heard = absurd fed
 one (hears r ∷ es) b result old mid new later fed heard = absurd fed
 
 -- what was collected, and then what was heard
-pub turned : (s m t : Stand) (old mid new : Wiring) (had have has : Tally) (result : Result (Unit {0}) SessionEnd)
-    → FeedsOnce s m old mid had have (Ok tt) → HearsOnce m t mid new have has result → TurnsOnce s t old new had has result
+pub cycled : (s m t : Stand) (old mid new : Wiring) (had have has : Tally) (result : Result (Unit {0}) SessionEnd)
+    → FeedsOnce s m old mid had have (Ok tt) → HearsOnce m t mid new have has result → CyclesOnce s t old new had has result
 unfolding runs_then
-turned s m t old mid new had have has result first second =
+cycled s m t old mid new had have has result first second =
     let later : old.quiets ≤ mid.quiets = subst (λ (w : Wiring). old.quiets ≤ w.quiets) (sym first.runs.by.1.1.1) first.runs.passes.quiets in
     record {
       runs = runs_then s m t old mid new had have has result first.runs second.runs;
       once = one first.runs.events second.runs.events result old mid new later first.once second.once;
     }
 
-fed_only : (events : List Event) (end : SessionEnd) (old new : Wiring) → IsFed events (Err end) → IsTurn events (Err end) old new
+fed_only : (events : List Event) (end : SessionEnd) (old new : Wiring) → IsFed events (Err end) → IsCycle events (Err end) old new
 fed_only [] end old new fed = tt
 fed_only (brings c ∷ []) end old new fed = tt
 fed_only (brings c ∷ e ∷ es) end old new fed = absurd fed
 fed_only (hears r ∷ es) end old new fed = absurd fed
 
 -- what was collected ended it
-pub turned_fed : (s t : Stand) (old new : Wiring) (had has : Tally) (end : SessionEnd) → FeedsOnce s t old new had has (Err end) → TurnsOnce s t old new had has (Err end)
-turned_fed s t old new had has end fed = record { runs = fed.runs; once = fed_only fed.runs.events end old new fed.once }
+pub cycled_fed : (s t : Stand) (old new : Wiring) (had has : Tally) (end : SessionEnd) → FeedsOnce s t old new had has (Err end) → CyclesOnce s t old new had has (Err end)
+cycled_fed s t old new had has end fed = record { runs = fed.runs; once = fed_only fed.runs.events end old new fed.once }
 
 -- ---- runs of no event
 

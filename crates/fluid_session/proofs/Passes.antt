@@ -31,7 +31,7 @@ use Rattle.fluid_talk.specs.Hearing.{HearsConnected, Reaches, ReachesBy}
 use Rattle.fluid_talk.specs.Collecting.{Feeds}
 use Rattle.fluid_session.specs.Events.{Event, Stand, Collection, Round, IsCollection, IsRound, IsHeardApart, AreEvents, behind}
 use Rattle.fluid_session.specs.Events.Event.{brings, hears}
-use Rattle.fluid_session.specs.Lines.{steps_of_round, steps_of, collected_in, entered, entered_in, AreReadBetween, AreRead, AreReached, GoesOn, Stretches}
+use Rattle.fluid_session.specs.Outcome.{steps_of_round, steps_of, collected_in, entered, entered_in, AreReadBetween, AreRead, AreReached, GoesOn, Stretches}
 
 -- ---- passes
 

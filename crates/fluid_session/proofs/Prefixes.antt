@@ -8,7 +8,7 @@ use Rattle.fluid_voice.specs.Feed.{fed, brought}
 use Rattle.fluid_session.specs.Sending.{IsSent}
 use Rattle.fluid_session.specs.Events.{Event, Stand, AreWhole, AreEvents, behind}
 use Rattle.fluid_session.specs.Events.Event.{brings, hears}
-use Rattle.fluid_session.specs.Lines.{collected_in, fed_in, owed_in, answered_in, SendsInOrder, MayBreakLast}
+use Rattle.fluid_session.specs.Outcome.{collected_in, fed_in, owed_in, answered_in, SendsInOrder, MayBreakLast}
 
 fed-append : (a b : List Reply) → fed (a ++ b) ≡ fed a ++ fed b
 fed-append [] b = refl

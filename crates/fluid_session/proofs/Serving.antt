@@ -14,7 +14,7 @@ use Rattle.fluid_talk.specs.Doing.{Did}
 use Rattle.fluid_talk.specs.Hearing.{KeyBehind, ReachesBy}
 use Rattle.fluid_session.specs.Events.{Event, Stand, Collection, Round, IsCollection, IsRound, AreEvents, behind}
 use Rattle.fluid_session.specs.Events.Event.{brings, hears}
-use Rattle.fluid_session.specs.Lines.{GoesOn}
+use Rattle.fluid_session.specs.Outcome.{GoesOn}
 use Rattle.fluid_session.proofs.Passes.{brings_on, hears_on}
 
 -- ---- keys of one service

@@ -31,7 +31,7 @@ use Rattle.fluid_talk.specs.Doing.{Did, AreDone, acts_in, ends_in, steps_in}
 use Rattle.fluid_talk.specs.Hearing.{Does}
 use Rattle.fluid_session.specs.Events.{Event, Stand, Round, IsRound, AreWhole, AreEvents, behind}
 use Rattle.fluid_session.specs.Events.Event.{brings, hears}
-use Rattle.fluid_session.specs.Lines.{entered, tried_in, subs_in, ArePrefixes, MayBreakLast}
+use Rattle.fluid_session.specs.Outcome.{entered, tried_in, subs_in, ArePrefixes, MayBreakLast}
 use Rattle.fluid_session.proofs.Passes.{goes_on}
 use Rattle.fluid_session.proofs.Prefixes.{prefix_behind, prefix_last}
 

@@ -26,7 +26,7 @@ use Rattle.fluid_session.specs.Events.{Event, Stand, Round, IsReached, AreWhole,
 use Rattle.fluid_session.specs.Events.Event.{brings, hears}
 use Rattle.fluid_session.specs.Running.{EndsIn, Runs, Stops}
 use Rattle.fluid_session.specs.Running.Stops.{at_end, at_long, at_receive, at_feed, at_reply, at_text, at_collection, at_count}
-use Rattle.fluid_session.specs.Lines.{MayBreakLast, GoesOn, Stretches, HasLeft, HasCounts, Joins, StaysApart, Lines, count_steps, steps_of, steps_of_round, unread_in, entered, entered_in, collected_in}
+use Rattle.fluid_session.specs.Outcome.{MayBreakLast, GoesOn, Stretches, HasLeft, HasCounts, Joins, StaysApart, SessionOutcome, count_steps, steps_of, steps_of_round, unread_in, entered, entered_in, collected_in}
 use Rattle.fluid_session.specs.Whole.{Account, Concludes, Serves, HasNumbers}
 use Rattle.fluid_session.proofs.Passes.{Connected, Apart, Went, went, stretches, slice-grows, order-prefix, found_prefix, read_between, answered_later, are_read, are_reached, sound_behind}
 use Rattle.fluid_session.proofs.Prefixes.{sends_in_order}
@@ -228,7 +228,7 @@ apart_so s u t moment report tally events a closes numbers counted few = record 
 -- ---- all of it
 
 pub serves : (s u : Talking) (before now : Storing) (old new : Wiring) (report : Report) → Account s u before now old new report → Serves s u before now old new report
-serves s u before now old new report account = record { account = account; lines = lines_of; sound = account.ends.sound }
+serves s u before now old new report account = record { account = account; outcome = outcome_of; sound = account.ends.sound }
   where
     from : Stand
     from = record { talk = s; store = before }
@@ -251,8 +251,8 @@ serves s u before now old new report account = record { account = account; lines
     key : IsPrefix account.runs.behind_them.key.seen u.key.seen
     key = subst (λ (k : Keyed). IsPrefix account.runs.behind_them.key.seen k.seen) (sym closing.key) (prefix_refl account.runs.behind_them.key.seen)
 
-    lines_of : is_connected s.voice ≡ false → Lines s account.runs.behind_them u account.moment report account.runs.events
-    lines_of apart = record {
+    outcome_of : is_connected s.voice ≡ false → SessionOutcome s account.runs.behind_them u account.moment report account.runs.events
+    outcome_of apart = record {
       joins = λ joined. split (went account.runs.events from to apart account.runs.are) joined;
       apart = λ still. stay (went account.runs.events from to apart account.runs.are) still;
       served = served_behind account.runs.events from to u account.runs.are closing.goes.same;
@@ -274,7 +274,7 @@ serves s u before now old new report account = record { account = account; lines
         stay (inl j) still = absurd (false≢true (sym still ∙ j.goes_on.still))
         stay (inr a) still = apart_so s u to account.moment report account.tally account.runs.events a closing account.numbers account.runs.counted few
 
--- turns, the last of which ended the session, and what concludes them
+-- cycles, the last of which ended the session, and what concludes them
 pub concluded : (s m u : Talking) (before now : Storing) (old new : Wiring) (tally : Tally) (end : SessionEnd) (report : Report)
     → Runs (record { talk = s; store = before }) (record { talk = m; store = now }) old new nothing tally (Err end) → Concludes m u tally end report → Serves s u before now old new report
 concluded s m u before now old new tally end report runs concludes =

@@ -16,7 +16,7 @@ use Rattle.fluid_session.specs.declared.report.SessionEnd.{SessionEnd}
 use Rattle.fluid_session.specs.declared.report.SessionEnd.TheVariants.{Closed, Other, NoMemory}
 use Rattle.fluid_session.specs.declared.report.Report.{Report}
 use Rattle.fluid_session.specs.Ends.{most_unread}
-use Rattle.fluid_session.specs.Lines.{HasNote}
+use Rattle.fluid_session.specs.Outcome.{HasNote}
 use Rattle.fluid_session.specs.Whole.{Serves}
 
 -- an opening that failed is noted among the steps

@@ -4,5 +4,5 @@ pub mod Ends
 pub mod Events
 pub mod Running
 pub mod Whole
-pub mod Lines
+pub mod Outcome
 pub mod Complete

@@ -58,7 +58,7 @@ pub record Runs (s t : Stand) (old new : Wiring) (had has : Tally) (result : Res
   pub counted : has ≡ counted_behind had events
   pub by : GoesOrStops events behind_them t.talk old mid new has result
 
--- ---- one turn
+-- ---- one cycle
 
 -- it collects; where that failed it does nothing
 abbrev pub IsFed : List Event → Result (Unit {0}) SessionEnd → Type 0
@@ -74,12 +74,12 @@ IsHeard (hears r ∷ []) result old new = ⊤
 IsHeard events result old new = ⊥
 
 -- one behind the other
-abbrev pub IsTurn : List Event → Result (Unit {0}) SessionEnd → (old new : Wiring) → Type 0
-IsTurn [] (Err end) old new = ⊤
-IsTurn (brings c ∷ []) (Ok done) old new = Rose old.quiets new.quiets
-IsTurn (brings c ∷ []) (Err end) old new = ⊤
-IsTurn (brings c ∷ hears r ∷ []) result old new = ⊤
-IsTurn events result old new = ⊥
+abbrev pub IsCycle : List Event → Result (Unit {0}) SessionEnd → (old new : Wiring) → Type 0
+IsCycle [] (Err end) old new = ⊤
+IsCycle (brings c ∷ []) (Ok done) old new = Rose old.quiets new.quiets
+IsCycle (brings c ∷ []) (Err end) old new = ⊤
+IsCycle (brings c ∷ hears r ∷ []) result old new = ⊤
+IsCycle events result old new = ⊥
 
 pub record FeedsOnce (s t : Stand) (old new : Wiring) (had has : Tally) (result : Result (Unit {0}) SessionEnd) : Type 0 where
   pub runs : Runs s t old new had has result
@@ -89,7 +89,7 @@ pub record HearsOnce (s t : Stand) (old new : Wiring) (had has : Tally) (result 
   pub runs : Runs s t old new had has result
   pub once : IsHeard runs.events result old new
 
--- what one turn did: one collection, and behind it one receive
-pub record TurnsOnce (s t : Stand) (old new : Wiring) (had has : Tally) (result : Result (Unit {0}) SessionEnd) : Type 0 where
+-- what one cycle did: one collection, and behind it one receive
+pub record CyclesOnce (s t : Stand) (old new : Wiring) (had has : Tally) (result : Result (Unit {0}) SessionEnd) : Type 0 where
   pub runs : Runs s t old new had has result
-  pub once : IsTurn runs.events result old new
+  pub once : IsCycle runs.events result old new

@@ -14,7 +14,7 @@ use Rattle.fluid_session.specs.Counted.{nothing}
 use Rattle.fluid_session.specs.Ends.{behind_leave}
 use Rattle.fluid_session.specs.Events.{Stand}
 use Rattle.fluid_session.specs.Running.{Runs}
-use Rattle.fluid_session.specs.Lines.{Lines}
+use Rattle.fluid_session.specs.Outcome.{SessionOutcome}
 
 -- one leave was tried, and its fault may be the end
 pub record Ends (t u : Talking) (moment : ℕ) (end last : SessionEnd) : Type 0 where
@@ -31,7 +31,7 @@ pub record HasNumbers (report : Report) (tally : Tally) : Type 0 where
   pub absorbed : report.absorbed ≡ tally.absorbed
   pub unread : report.unread ≡ tally.unread
 
--- behind the last turn, which ended so: one leave was tried, and this is what is reported
+-- behind the last cycle, which ended so: one leave was tried, and this is what is reported
 pub record Concludes (m u : Talking) (tally : Tally) (end : SessionEnd) (report : Report) : Type 0 where
   pub moment : ℕ
   pub timely : moment ≤ largest
@@ -54,20 +54,20 @@ pub record Serves (s u : Talking) (before now : Storing) (old new : Wiring) (rep
   -- what happened, event by event, what stopped it, and the leave
   pub account : Account s u before now old new report
   -- what it amounts to, of a connection that isn't connected yet
-  pub lines : is_connected s.voice ≡ false → Lines s account.runs.behind_them u account.moment report account.runs.events
+  pub outcome : is_connected s.voice ≡ false → SessionOutcome s account.runs.behind_them u account.moment report account.runs.events
   -- what holds of every connection holds of this one, the legality of all that it has seen among it
   pub sound : IsSound u
 
--- ---- turn by turn
+-- ---- cycle by cycle
 
 -- what happened between two moments, and then between the second and a third, happened between the first and the third
-abbrev pub TurnsGoOn : Type 0
-TurnsGoOn =
+abbrev pub CyclesGoOn : Type 0
+CyclesGoOn =
     (s m t : Stand) (old mid new : Wiring) (had have has : Tally) (result : Result (Unit {0}) SessionEnd) → Runs s m old mid had have (Ok tt) → Runs m t mid new have has result
     → Runs s t old new had has result
 
--- turns from a new count on, the last of which ended it, and what concludes them, are a whole session
-abbrev pub TurnsAreSessions : Type 0
-TurnsAreSessions =
+-- cycles from a new count on, the last of which ended it, and what concludes them, are a whole session
+abbrev pub CyclesAreSessions : Type 0
+CyclesAreSessions =
     (s m u : Talking) (before now : Storing) (old new : Wiring) (tally : Tally) (end : SessionEnd) (report : Report)
     → Runs (record { talk = s; store = before }) (record { talk = m; store = now }) old new nothing tally (Err end) → Concludes m u tally end report → Serves s u before now old new report

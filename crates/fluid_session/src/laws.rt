@@ -1,7 +1,7 @@
 //! What holds of every session, said by functions that do nothing.
-ghost use Rattle.fluid_session.specs.Lines.{FeedsHaveNoGap, TextsEnterInOrder};
+ghost use Rattle.fluid_session.specs.Outcome.{FeedsHaveNoGap, TextsEnterInOrder};
 ghost use Rattle.fluid_session.specs.Complete.{EndsWithItsWire};
-ghost use Rattle.fluid_session.specs.Whole.{TurnsAreSessions, TurnsGoOn};
+ghost use Rattle.fluid_session.specs.Whole.{CyclesAreSessions, CyclesGoOn};
 
 /// What a connected one collects is one stretch of its document's order, without a gap.
 pub fn feeds_have_no_gap()
@@ -19,12 +19,12 @@ pub fn sessions_end_with_their_wires()
     ensures { EndsWithItsWire }
 {}
 
-/// Turns of a session one behind another are one stretch of it.
-pub fn turns_go_on()
-    ensures { TurnsGoOn }
+/// Cycles of a session one behind another are one stretch of it.
+pub fn cycles_go_on()
+    ensures { CyclesGoOn }
 {}
 
-/// Turns until one of them ends the session, and what concludes them, are a whole session.
-pub fn turns_are_sessions()
-    ensures { TurnsAreSessions }
+/// Cycles until one of them ends the session, and what concludes them, are a whole session.
+pub fn cycles_are_sessions()
+    ensures { CyclesAreSessions }
 {}

@@ -7,9 +7,9 @@ ghost use Rattle.fluid_session.specs.Ends.{with_fault, unless_refused, most_unre
 ghost use Rattle.fluid_session.specs.Running.{Runs};
 ghost use Rattle.fluid_session.specs.Whole.{Concludes, Serves, Ends};
 
+use crate::cycling::{cycle, end_of};
 use crate::report::{Report, SessionEnd};
 use crate::tally::Tally;
-use crate::turning::{end_of, turn};
 use fluid_ends::TalkFault;
 use fluid_io::Clock;
 use fluid_lines::Wire;
@@ -38,7 +38,7 @@ pub fn converse<R: Wait, T: Conversation, O: Objects, W: Wire, C: Clock>(
     conclude(rt, alloc, clock, talk, tally, end)
 }
 
-/// Tries one leave behind the turn that ended a session, and reports.
+/// Tries one leave behind the cycle that ended a session, and reports.
 pub fn conclude<R: Wait, T: Conversation, C: Clock>(
     rt: &R,
     alloc: Global,
@@ -69,7 +69,7 @@ pub fn conclude<R: Wait, T: Conversation, C: Clock>(
     }
 }
 
-// Turns until one of them ends the session.
+// Cycles until one of them ends the session.
 fn run<R: Wait, T: Conversation, O: Objects, W: Wire, C: Clock>(
     rt: &R,
     alloc: Global,
@@ -86,8 +86,8 @@ fn run<R: Wait, T: Conversation, O: Objects, W: Wire, C: Clock>(
     ensures service { T.belongs talk.new service.now }
     ensures does { Runs (record { talk = T.seen talk.old; store = O.seen objects.old }) (record { talk = T.seen talk.new; store = O.seen objects.new }) (W.seen wire.old) (W.seen wire.new) tally.old tally.new (Err result) }
 {
-    'turns: for _ in rt.forever() {
-        match turn(rt, alloc, service, objects, wire, clock, talk, tally) {
+    'cycles: for _ in rt.forever() {
+        match cycle(rt, alloc, service, objects, wire, clock, talk, tally) {
             Ok(()) => {}
             Err(end) => return end,
         }

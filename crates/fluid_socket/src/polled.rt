@@ -1,4 +1,4 @@
-//! A connection that never waits: what is done at each of its turns. What comes in is taken as far as it is there, and what goes out
+//! A connection that never waits: what is done at each of its cycles. What comes in is taken as far as it is there, and what goes out
 //! is held until there is nothing more to take.
 
 use crate::connection::{Connection, Framing, LONGEST_REST};
@@ -9,7 +9,7 @@ use std::alloc::Global;
 use std::mem;
 use tungstenite::HandshakeError;
 
-// With so many bytes it doesn't wait for the end of its turn.
+// With so many bytes it doesn't wait for the end of its cycle.
 const MUCH_HELD: usize = 65_536;
 
 impl Connection {

@@ -26,7 +26,7 @@ pub(crate) struct Spot {
     called: AtomicBool,
     // how many ticks have passed since the wire looked last
     ticks: AtomicU64,
-    // the wire is to have a turn behind those that are due
+    // the wire is to have a cycle behind those that are due
     again: AtomicBool,
     // for how many ticks it may rest
     rest: AtomicU64,
@@ -107,7 +107,7 @@ impl Spot {
         ticks.min(u64::from(u32::MAX)) as u32
     }
 
-    /// The wire is to have another turn soon.
+    /// The wire is to have another cycle soon.
     pub(crate) fn call_again(&self) {
         self.again.store(true, Ordering::Relaxed);
     }

@@ -35,8 +35,8 @@ struct Seat {
 }
 
 impl Seat {
-    // Its wire had a turn. It says whether that asked for another one.
-    fn turned(&mut self) -> bool {
+    // Its wire had a cycle. It says whether that asked for another one.
+    fn cycled(&mut self) -> bool {
         self.is_due = false;
         self.left = self.spot.rest();
         self.spot.take_again()
@@ -51,7 +51,7 @@ impl Seat {
 }
 
 /// Waits for many sockets at once, for calls of the rooms of their documents, and for the time. A wire is due when its socket has or
-/// takes something, when its room calls, when it asked for another turn, and behind some ticks.
+/// takes something, when its room calls, when it asked for another cycle, and behind some ticks.
 #[derive(Drop)]
 pub struct TcpStation<N: Net + Clock> {
     alloc: Global,
@@ -61,7 +61,7 @@ pub struct TcpStation<N: Net + Clock> {
     hub: Arc<Hub>,
     seats: Vec<Option<Seat>>,
     due: VecDeque<usize>,
-    // those that asked for another turn
+    // those that asked for another cycle
     again: VecDeque<usize>,
     // the calls that it answers
     called: Vec<Arc<Circle>>,
@@ -279,9 +279,9 @@ impl<N: Net + Clock> Station<SocketWire, TcpBell> for TcpStation<N> {
         }
     }
 
-    fn turned(&mut self, place: usize) {
+    fn cycled(&mut self, place: usize) {
         if let Some(Some(seat)) = self.seats.get_mut(place) {
-            if seat.turned() {
+            if seat.cycled() {
                 let _ = self.again.push_back(place);
             }
         }

@@ -55,7 +55,7 @@ impl Default for Waits {
 
 /// A wire over TCP, with one message of a WebSocket for each text, or one line. It tells nothing of what comes and goes.
 /// It waits by itself, or, where its front gave a station before, it waits in none of its calls: it holds what it sends until its
-/// turn is over, and fails where no station waits for it.
+/// cycle is over, and fails where no station waits for it.
 /// Behind every answer but a text and `Quiet` only the end comes, and behind a send that failed too. A peer that keeps to the
 /// rules of its framing no more is told why it is left, where its framing has a word for that.
 #[derive(Drop)]

@@ -59,7 +59,7 @@ fn main(rt: HostRuntime) -> ExitCode {
     ExitCode::from(status)
 }
 
-// In how many threads sessions have their turns: half as many as there are processors, since those who talk to the service have
+// In how many threads sessions have their cycles: half as many as there are processors, since those who talk to the service have
 // something to do too; two at least, so that one session that waits doesn't stop all.
 fn stations(rt: &impl Threads) -> u32 {
     match thread::available_parallelism(rt) {

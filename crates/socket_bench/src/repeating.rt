@@ -104,7 +104,7 @@ impl<W: Wire + Drop> Handler<W> for Repeating {
         Session { wire, seen }
     }
 
-    fn turn<R: Wait>(&self, rt: &R, job: &mut Session<W>) -> bool {
+    fn cycle<R: Wait>(&self, rt: &R, job: &mut Session<W>) -> bool {
         if !job.wire.is_free(rt) {
             return true;
         }

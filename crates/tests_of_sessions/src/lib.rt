@@ -5,8 +5,8 @@
 #[cfg(test)]
 mod beside;
 #[cfg(test)]
+mod cycled;
+#[cfg(test)]
 mod rows;
 #[cfg(test)]
 mod sitting;
-#[cfg(test)]
-mod turned;

@@ -95,7 +95,7 @@ impl Handler<SocketWire> for Echo {
         (number, wire)
     }
 
-    fn turn<R: Wait>(&self, rt: &R, job: &mut (u64, SocketWire)) -> bool {
+    fn cycle<R: Wait>(&self, rt: &R, job: &mut (u64, SocketWire)) -> bool {
         let number = job.0;
         match job.1.recv(rt, self.alloc) {
             Ok(Recv::Text(text)) => {

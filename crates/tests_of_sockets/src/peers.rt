@@ -88,18 +88,18 @@ pub(crate) struct Tended<R: Net + Clock> {
 }
 
 impl<R: Host> Tended<R> {
-    /// What comes in next. At a station it has a turn when it is due, and is quiet while the peer has to take something first.
+    /// What comes in next. At a station it has a cycle when it is due, and is quiet while the peer has to take something first.
     pub(crate) fn recv(&mut self, rt: &R, alloc: Global) -> Result<Recv, WireFault> {
         let Some(station) = &mut self.station else {
             return self.wire.recv(rt, alloc);
         };
-        wait_for_turn(rt, station);
+        wait_for_cycle(rt, station);
         let answer = if self.wire.is_free(rt) {
             self.wire.recv(rt, alloc)
         } else {
             Ok(Recv::Quiet)
         };
-        station.turned(0);
+        station.cycled(0);
         answer
     }
 
@@ -124,7 +124,7 @@ impl<R: Host> Tended<R> {
         begun.elapsed(rt).expect(rt, "a clock")
     }
 
-    /// Sends a text. At a station it is held until the wire has a turn.
+    /// Sends a text. At a station it is held until the wire has a cycle.
     pub(crate) fn send(&mut self, rt: &R, alloc: Global, text: &str) -> Result<(), WireFault> {
         self.wire.send(rt, alloc, text)
     }
@@ -139,18 +139,18 @@ impl<R: Host> Tended<R> {
         if let Some(mut station) = station {
             for _ in rt.forever() {
                 let whole = wire.is_handed_on(rt);
-                station.turned(0);
+                station.cycled(0);
                 if whole {
                     break;
                 }
-                wait_for_turn(rt, &mut station);
+                wait_for_cycle(rt, &mut station);
             }
         }
         drop(wire);
     }
 }
 
-fn wait_for_turn<R: Host>(rt: &R, station: &mut TcpStation<R>) {
+fn wait_for_cycle<R: Host>(rt: &R, station: &mut TcpStation<R>) {
     for _ in rt.forever() {
         station.wait(rt);
         if station.due().is_some() {

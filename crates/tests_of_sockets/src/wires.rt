@@ -478,7 +478,7 @@ fn late_is_whole<R: Host>(
 }
 
 // Whether sending fails to one who reads nothing. A wire that waits by itself says it when it sends, one at a station at its next
-// turns.
+// cycles.
 fn send_fails<R: Host>(rt: &R, alloc: Global, wire: &mut Tended<R>, text: &str) -> bool {
     let mut failed = false;
     for _ in 0..2 {

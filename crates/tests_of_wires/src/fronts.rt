@@ -78,7 +78,7 @@ impl Handler<MemoryWire> for Notes {
         (number, wire)
     }
 
-    fn turn<R: Wait>(&self, rt: &R, job: &mut (u64, MemoryWire)) -> bool {
+    fn cycle<R: Wait>(&self, rt: &R, job: &mut (u64, MemoryWire)) -> bool {
         let number = job.0;
         match job.1.recv(rt, self.alloc) {
             Ok(Recv::Text(text)) => {
@@ -285,8 +285,8 @@ impl Station<MemoryWire, MemoryBell> for Narrow {
         self.station.remove(place);
     }
 
-    fn turned(&mut self, place: usize) {
-        self.station.turned(place);
+    fn cycled(&mut self, place: usize) {
+        self.station.cycled(place);
     }
 
     fn wait<R: Wait>(&mut self, rt: &R) {

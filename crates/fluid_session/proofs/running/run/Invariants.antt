@@ -4,10 +4,10 @@ use Rattle.fluid_session.specs.Ends.{most_unread}
 use Rattle.fluid_session.specs.Running.{Runs}
 use Rattle.fluid_session.proofs.running.run.Given as goal
 
--- all turns so far went on
-abbrev pub invariant-turns : goal.invariant-turns
-invariant-turns g l =
-    (goal.iterator-turns g).can_next l.iterator' × (goal.iterator-turns g).is_finite l.iterator'
+-- all cycles so far went on
+abbrev pub invariant-cycles : goal.invariant-cycles
+invariant-cycles g l =
+    (goal.iterator-cycles g).can_next l.iterator' × (goal.iterator-cycles g).is_finite l.iterator'
     × (is_used (g.T.Conversation.seen l.talk).voice ≡ false)
     × (g.T.Conversation.belongs l.talk l.service)
     × (l.tally.unread < most_unread)

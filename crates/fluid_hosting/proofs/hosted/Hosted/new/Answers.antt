@@ -1,5 +1,5 @@
 use Rattle.std.proofs.Common.{refl, arith}
-use Rattle.fluid_hosting.proofs.Turned.{comes_first}
+use Rattle.fluid_hosting.proofs.Cycled.{comes_first}
 use Rattle.fluid_hosting.proofs.hosted.Hosted.new.Goals as goal
 
 pub invariant_of-result : goal.invariant_of-result

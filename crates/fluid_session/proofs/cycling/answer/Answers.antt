@@ -1,5 +1,5 @@
 use Rattle.fluid_session.proofs.Onward.{answered}
-use Rattle.fluid_session.proofs.turning.answer.Goals as goal
+use Rattle.fluid_session.proofs.cycling.answer.Goals as goal
 
 pub returns-clause-does : goal.returns-clause-does
 returns-clause-does g c = λ w came later.

@@ -345,7 +345,7 @@ pub record StaysApart (s m u : Talking) (report : Report) (events : List Event) 
   pub counts : HasCounts report [] events
 
 -- What a session of a connection that isn't connected yet amounts to
-pub record Lines (s m u : Talking) (moment : ℕ) (report : Report) (events : List Event) : Type 0 where
+pub record SessionOutcome (s m u : Talking) (moment : ℕ) (report : Report) (events : List Event) : Type 0 where
   pub joins : is_connected m.voice ≡ true → Joins s m u moment report events
   pub apart : is_connected m.voice ≡ false → StaysApart s m u report events
   -- the pass that comes back is one of the service's documents, where those are so that it had, and that was handed to it

@@ -1,4 +1,4 @@
-// Sessions that are turned: they are the sessions that run to their end in one call.
+// Sessions that go cycle by cycle: they are the sessions that run to their end in one call.
 
 use crate::rows::{FIRST_SAID, TORN, WHOLE, WRITE, has_messages};
 use crate::sitting::{MOMENT, numbers, push, says, serve, told_report};
@@ -14,8 +14,8 @@ use std::process::Abort;
 use std::sync::Wait;
 use std::test::Fail;
 
-// The receives that are quiet, and the receive and the send that fail; how many turns a session takes over a wire with two texts, what
-// comes of it, which texts go out, and how many messages the document has behind the leave. A turn hears one text, and collects before it.
+// The receives that are quiet, and the receive and the send that fail; how many cycles a session takes over a wire with two texts, what
+// comes of it, which texts go out, and how many messages the document has behind the leave. A cycle hears one text, and collects before it.
 type Row = (
     &'static [u64],
     u64,
@@ -38,23 +38,23 @@ const ROWS: [Row; 8] = [
 ];
 
 #[test]
-fn turns_are_a_session(rt: HostRuntime) -> Result<(), Fail> {
+fn cycles_are_a_session(rt: HostRuntime) -> Result<(), Fail> {
     for row in &ROWS {
-        turns(&rt, rt.alloc(), row);
+        cycles(&rt, rt.alloc(), row);
     }
     Ok(())
 }
 
-fn turns<R: Abort + Wait>(rt: &R, alloc: Global, row: &Row) {
+fn cycles<R: Abort + Wait>(rt: &R, alloc: Global, row: &Row) {
     let (quiet, receive, send, count, wanted, texts, messages) = row;
     let service = serve(rt, alloc, Limits::FULL);
     let mut objects = MemoryObjects::new(alloc, Vec::new(alloc));
     let mut wire = quiet_wire(rt, alloc, quiet, *receive, *send);
     let mut hosted = Hosted::new(&service, service.key(), None);
     let mut told = String::new(alloc);
-    for turned in 0..*count {
-        assert!(rt; !hosted.is_over(), "over behind {turned}");
-        turn_once(rt, alloc, &mut hosted, &mut objects, &mut wire, &mut told);
+    for cycled in 0..*count {
+        assert!(rt; !hosted.is_over(), "over behind {cycled}");
+        cycle_once(rt, alloc, &mut hosted, &mut objects, &mut wire, &mut told);
     }
     assert!(rt; told.as_str() == *wanted, "{told}");
     drop(told);
@@ -70,8 +70,8 @@ fn turns<R: Abort + Wait>(rt: &R, alloc: Global, row: &Row) {
     drop(service);
 }
 
-// One turn. What comes of the session is told, where it is over then.
-fn turn_once<R: Abort + Wait>(
+// One cycle. What comes of the session is told, where it is over then.
+fn cycle_once<R: Abort + Wait>(
     rt: &R,
     alloc: Global,
     hosted: &mut Hosted<MemoryShelves>,
@@ -83,7 +83,7 @@ fn turn_once<R: Abort + Wait>(
         return;
     }
     let clock = FixedClock::new(MOMENT);
-    if let Some(report) = hosted.turn(rt, alloc, objects, wire, &clock) {
+    if let Some(report) = hosted.cycle(rt, alloc, objects, wire, &clock) {
         let text = told_report(alloc, &report).expect(rt, "memory");
         told.push_str(text.as_str()).expect(rt, "memory");
         drop(text);

@@ -1,7 +1,7 @@
 use Rattle.std.proofs.Common.{Ok, Err, subst}
 use Rattle.fluid_session.specs.Sending.{SendsAll}
 use Rattle.fluid_session.proofs.Onward.{fails_collecting, fed_well, fed_badly, reached_behind}
-use Rattle.fluid_session.proofs.turning.feed.Goals as goal
+use Rattle.fluid_session.proofs.cycling.feed.Goals as goal
 
 pub returns-in-Err-clause-does : goal.returns-in-Err-clause-does
 returns-in-Err-clause-does g c = λ store tally few. rw c.end_of.ensures (fails_collecting _ _ store tally _ c.in-Err.fault few c.in-Err.ensures.does)

@@ -1,5 +1,5 @@
 use Rattle.fluid_connection.specs.Talked.{talking}
-use Rattle.fluid_hosting.proofs.hosted.turn_once.Goals as goal
+use Rattle.fluid_hosting.proofs.hosted.cycle_once.Goals as goal
 
 pub returns-in-Ok-clause-hears : goal.returns-in-Ok-clause-hears
 returns-in-Ok-clause-hears g c = λ on. (c.in-Ok.ensures.unused, c.in-Ok.ensures.does.runs.by.1.1.0)
@@ -9,8 +9,8 @@ returns-in-Err-clause-service g c = c.conclude.ensures.service _ c.in-Err.ensure
 
 pub returns-in-Err-clause-does : goal.returns-in-Err-clause-does
 returns-in-Err-clause-does g c = record {
-  last = talking c.turn.new.talk;
+  last = talking c.cycle.new.talk;
   end = c.in-Err.end;
-  turns = c.in-Err.ensures.does;
+  cycles = c.in-Err.ensures.does;
   concludes = c.conclude.ensures.does;
 }

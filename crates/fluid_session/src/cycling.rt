@@ -1,4 +1,4 @@
-// One turn of a session.
+// One cycle of a session.
 ghost use Rattle.std.specs.Prelude.{◌≡◌, ◌<◌, ◌≤◌, false, length, OnOk, if◌then◌else◌};
 ghost use Rattle.fluid_types.specs.Forms.{largest};
 ghost use Rattle.fluid_readback.specs.Laws.{longest_text};
@@ -9,7 +9,7 @@ ghost use Rattle.fluid_voice.specs.Replies.{has_front_nack};
 ghost use Rattle.fluid_session.specs.declared.tally.Tally.{Tally as Counts};
 ghost use Rattle.fluid_session.specs.Ends.{end_of, wire_end, behind_text, most_unread};
 ghost use Rattle.fluid_session.specs.Events.{IsReached};
-ghost use Rattle.fluid_session.specs.Running.{FeedsOnce, HearsOnce, TurnsOnce};
+ghost use Rattle.fluid_session.specs.Running.{FeedsOnce, HearsOnce, CyclesOnce};
 
 use crate::report::SessionEnd;
 use crate::sending::{send_all, send_feed};
@@ -26,10 +26,10 @@ use fluid_voice::{VoiceState, has_front_nack, is_connected};
 use std::alloc::Global;
 use std::sync::Wait;
 
-/// One turn of a session: it collects and sends what wasn't delivered, receives once, hears the text that came in and sends the replies.
+/// One cycle of a session: it collects and sends what wasn't delivered, receives once, hears the text that came in and sends the replies.
 /// Where the wire is quiet, nothing more is done. It waits in the wire, for its document, for a shelf and for the store. Behind an Err the session
 /// is concluded.
-pub fn turn<R: Wait, T: Conversation, O: Objects, W: Wire, C: Clock>(
+pub fn cycle<R: Wait, T: Conversation, O: Objects, W: Wire, C: Clock>(
     rt: &R,
     alloc: Global,
     service: &T::Service,
@@ -44,7 +44,7 @@ pub fn turn<R: Wait, T: Conversation, O: Objects, W: Wire, C: Clock>(
     requires few { tally.old.unread < most_unread }
     ensures service { T.belongs talk.new service.now }
     ensures unused { is_used (T.seen talk.new).voice ≡ false }
-    ensures does { TurnsOnce (record { talk = T.seen talk.old; store = O.seen objects.old }) (record { talk = T.seen talk.new; store = O.seen objects.new }) (W.seen wire.old) (W.seen wire.new) tally.old tally.new result }
+    ensures does { CyclesOnce (record { talk = T.seen talk.old; store = O.seen objects.old }) (record { talk = T.seen talk.new; store = O.seen objects.new }) (W.seen wire.old) (W.seen wire.new) tally.old tally.new result }
 {
     match feed(rt, alloc, talk, wire) {
         Ok(()) => {}

@@ -1,5 +1,5 @@
 use Rattle.fluid_session.proofs.Wholly.{concluded}
-use Rattle.fluid_session.proofs.laws.turns_are_sessions.Goals as goal
+use Rattle.fluid_session.proofs.laws.cycles_are_sessions.Goals as goal
 
 pub returns : goal.returns
 returns c = concluded

@@ -1,4 +1,4 @@
--- Turns of a session one behind another.
+-- Cycles of a session one behind another.
 use Rattle.std.proofs.Common.{◌≡◌, ◌<◌, ◌≤◌, Option, Some, None, Ok, refl, arith}
 use Rattle.fluid_store.specs.Storing.{Storing}
 use Rattle.fluid_lines.specs.Wires.{Wiring}
@@ -12,27 +12,27 @@ use Rattle.fluid_session.specs.Running.{Runs}
 use Rattle.fluid_session.specs.Whole.{Serves}
 use Rattle.fluid_session.proofs.Onward.{runs_still, runs_then}
 use Rattle.fluid_session.proofs.Wholly.{concluded}
-use Rattle.fluid_hosting.specs.Hosting.{unconnected, standing, Turns, ComesTo}
+use Rattle.fluid_hosting.specs.Hosting.{unconnected, standing, Cycles, ComesTo}
 use Rattle.fluid_hosting.proofs.Visits.{visits_served}
 
--- before its first turn
+-- before its first cycle
 pub comes_first : (key : AKey) (visit : Option Visiting) (store : Storing) (wire : Wiring)
     → Runs (standing (unconnected key visit) store) (standing (unconnected key visit) store) wire wire nothing nothing (Ok tt)
 comes_first key visit store wire = runs_still _ nothing wire wire (omega arith) refl refl (omega arith) (omega arith)
 
--- behind one turn more
+-- behind one cycle more
 pub comes_further : (key : AKey) (visit : Option Visiting) (before mid now : Storing) (old at new : Wiring) (t u : Talked) (had has : Tally) (result : Option Report)
-    → Runs (standing (unconnected key visit) before) (standing t mid) old at nothing had (Ok tt) → Turns t u mid now at new had has result → ComesTo key visit before now old new u has result
-comes_further key visit before mid now old at new t u had has None come turn = runs_then _ _ _ _ _ _ _ _ _ _ come turn.runs
-comes_further key visit before mid now old at new t u had has (Some report) come turn =
+    → Runs (standing (unconnected key visit) before) (standing t mid) old at nothing had (Ok tt) → Cycles t u mid now at new had has result → ComesTo key visit before now old new u has result
+comes_further key visit before mid now old at new t u had has None come cycle = runs_then _ _ _ _ _ _ _ _ _ _ come cycle.runs
+comes_further key visit before mid now old at new t u had has (Some report) come cycle =
     let serves : Serves (talking (unconnected key visit)) (talking u) before now old new report =
-    concluded _ _ _ _ _ _ _ _ _ _ (runs_then _ _ _ _ _ _ _ _ _ _ come turn.turns.runs) turn.concludes in
-    let lines = serves.lines refl in
+    concluded _ _ _ _ _ _ _ _ _ _ (runs_then _ _ _ _ _ _ _ _ _ _ come cycle.cycles.runs) cycle.concludes in
+    let outcome = serves.outcome refl in
     record {
       left = u;
       serves = serves;
-      lines = lines;
+      outcome = outcome;
       key_is = refl;
       visit_is = refl;
-      served = λ is. visits_served key visit _ u _ report _ lines is;
+      served = λ is. visits_served key visit _ u _ report _ outcome is;
     }
