@@ -47,7 +47,8 @@ use Rattle.fluid_loader.specs.Laws.{replayed, IsHonest, IsHonestVersion}
 use Rattle.fluid_steps.specs.declared.steps.Step.TheVariants as step
 use Rattle.fluid_transcript.specs.World.{World, document, is_open, says, changed}
 use Rattle.fluid_transcript.specs.Sound.{ledger_in}
-use Rattle.fluid_transcript.specs.Documents.{version_object, version_objects, objects_for, is_found, reported as report_of, scribed_by}
+use Rattle.fluid_versions.specs.Versions.{version_tree, is_found}
+use Rattle.fluid_transcript.specs.Documents.{version_objects, objects_for, reported as report_of, scribed_by}
 use Rattle.fluid_transcript.proofs.Fitting.{putting_keeps}
 use Rattle.fluid_workload.specs.Working.{work, behind_step}
 use Rattle.fluid_alike.proofs.Held.{both_hold, id_is, stands}
@@ -142,21 +143,21 @@ module _ (versions : IsHonestVersion) (held : Held) (ms : List Message) (r : ℕ
   texts = blobs ms r
 
   abbrev its_objects : List StoredObject
-  its_objects = objects (protocol texts) ++ object_of (object_bytes (version_object app texts)) ∷ []
+  its_objects = objects (protocol texts) ++ object_of (object_bytes (version_tree app texts)) ∷ []
 
   state_stands : Holds held (objects (protocol texts)) → Stands held (protocol_id texts) (protocol texts)
   state_stands holds =
       let own = state_id (quorum ms r) in
       subst (λ i. Stands held i (protocol texts)) (sym (id_is 32 (protocol texts) (protocol_id texts) own)) (stands held 32 (protocol texts) (protocol_id texts) own holds)
 
-  root_held : (handle : List ℕ) → handle ≡ version app texts → Holds held (object_of (object_bytes (version_object app texts)) ∷ [])
+  root_held : (handle : List ℕ) → handle ≡ version app texts → Holds held (object_of (object_bytes (version_tree app texts)) ∷ [])
       → get held handle ≡ Some (tree_bytes (tree_entry (codes ".app") app ∷ tree_entry (codes ".protocol") (protocol_id texts) ∷ []))
   unfolding version object_bytes
   root_held handle made holds = subst (λ h. get held h ≡ Some (tree_bytes (tree_entry (codes ".app") app ∷ tree_entry (codes ".protocol") (protocol_id texts) ∷ []))) (sym made) holds.0
 
   version_honest : (handle : List ℕ) → handle ≡ version app texts → length app ≡ 20 → Stands held app (app_tree (replayed ms r)) → Holds held its_objects → IsHonest held ms (record { handle = handle; number = r })
   version_honest handle made size app_stands holds =
-      let parts = both_hold held (objects (protocol texts)) (object_of (object_bytes (version_object app texts)) ∷ []) holds in
+      let parts = both_hold held (objects (protocol texts)) (object_of (object_bytes (version_tree app texts)) ∷ []) holds in
       versions held ms (record { handle = handle; number = r }) app (protocol_id texts) size (ap length (id_is 32 (protocol texts) (protocol_id texts) (state_id (quorum ms r))) ∙ id_size (own_bytes (protocol texts)))
       app_stands (state_stands parts.0) (root_held handle made parts.1)
 

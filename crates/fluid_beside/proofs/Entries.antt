@@ -49,7 +49,8 @@ use Rattle.fluid_transcript.specs.World.{Document, Container, Roamer, Name, conn
 use Rattle.fluid_transcript.specs.Connections.{Hearing, found_by, behind_act, hear_act, hear, hearing, acts_for, connects, voice_named, voice_of, sent, sent_to}
 use Rattle.fluid_transcript.specs.Containers.{id_of, channels, visible, Submitted, submission_of, submitting, edited_by, summarized_by, all_scopes, join_for, joining, join_refusal}
 use Rattle.fluid_transcript.specs.Roamers.{roamed_by, laid_over, said_by, and_others, sending, left, rejoined, back_by, came_back}
-use Rattle.fluid_transcript.specs.Documents.{scribed_by, reported, is_found, objects_for, checkpoint_of, swept_by}
+use Rattle.fluid_versions.specs.Versions.{is_found}
+use Rattle.fluid_transcript.specs.Documents.{scribed_by, reported, objects_for, checkpoint_of, swept_by}
 use Rattle.fluid_transcript.specs.Lines.{stored_line, full_line, large_line}
 use Rattle.fluid_transcript.specs.Sound.{client_in, IsSoundContainer, IsSound}
 use Rattle.fluid_transcript.specs.Steps.{container_in, container_of, roamer_in, roamer_of, shown_of, container_document, roamer_document, refusal_to_send, refusal, about, on_container, on_roamer, edit_effect, say_effect, effect}

@@ -22,7 +22,8 @@ use Rattle.fluid_lane.specs.Laws.{first_silent_in}
 use Rattle.fluid_steps.specs.declared.steps.Step.{Step}
 use Rattle.fluid_steps.specs.declared.steps.Step.TheVariants.{Send, Collect, Close, Scribe, Checkpoint, Restart, Reopen, Sweep, Count, Tasks, Load, Pump, Edit, Beat, Summarize, Show, Roam, Say, Lose, Back, Acked}
 use Rattle.fluid_transcript.specs.World.{Document, Container, Roamer, Name, World, ledger_of, with_name, Effect, says}
-use Rattle.fluid_transcript.specs.Documents.{scribed_by, reported, is_found, objects_for, checkpoint_of, swept_by}
+use Rattle.fluid_versions.specs.Versions.{is_found}
+use Rattle.fluid_transcript.specs.Documents.{scribed_by, reported, objects_for, checkpoint_of, swept_by}
 use Rattle.fluid_transcript.specs.Containers.{id_of, channels, visible, joining, join_refusal, edited_by, summarized_by}
 use Rattle.fluid_transcript.specs.Roamers.{roamed_by, laid_over, said_by, left, back_by}
 use Rattle.fluid_transcript.specs.Lines.{stored_line, full_line, large_line}

@@ -15,7 +15,7 @@ ghost use Rattle.fluid_desk.specs.Acting.{IsLeave};
 ghost use Rattle.fluid_callers.specs.Hearing.{EntersLane};
 ghost use Rattle.fluid_callers.specs.Calling.{LeavesDesk, CloseDoes};
 
-use fluid_desk::{Stop, ready, stop_of, told};
+use fluid_desk::{Stop, line_or_stop, ready, stop_of};
 use fluid_json::{NoMemory, Text};
 use fluid_lane::Lane;
 use fluid_lanes::Lanes;
@@ -43,7 +43,7 @@ where
     ensures limits { lanes.new.limits ≡ lanes.old.limits }
 {
     match leave(alloc, lanes, voice.state(), moment) {
-        Ok(()) => told(closed_line(alloc, name)),
+        Ok(()) => line_or_stop(closed_line(alloc, name)),
         Err(stop) => Err(stop),
     }
 }

@@ -15,7 +15,7 @@ ghost use Rattle.fluid_callers.specs.Ending.{LaneReads, RunsReading};
 ghost use Rattle.fluid_callers.specs.Tasking.{line_at, line_behind};
 
 use crate::collecting::messages_from;
-use fluid_desk::{Stop, ready, told, turned_away_line};
+use fluid_desk::{Stop, line_or_stop, ready, turned_away_line};
 use fluid_json::{NoMemory, Text};
 use fluid_lane::Lane;
 use fluid_lanes::Lanes;
@@ -40,7 +40,7 @@ where
 {
     match ready(alloc, lanes, name, moment) {
         Ok(true) => tasks_on(alloc, name, lanes.lent(name)),
-        Ok(false) => told(turned_away_line(alloc, name)),
+        Ok(false) => line_or_stop(turned_away_line(alloc, name)),
         Err(stop) => Err(stop),
     }
 }
@@ -52,7 +52,7 @@ fn tasks_on<K: Keeper>(alloc: Global, name: &DocName, lane: &mut Lane<K>) -> Res
 {
     let behind = lane.seq() + 1;
     let messages = messages_from(alloc, lane, 1, behind)?;
-    told(tasks_line(alloc, name, messages.as_slice()))
+    line_or_stop(tasks_line(alloc, name, messages.as_slice()))
 }
 
 // What is written of the queues and tasks that the first messages of an order make.

@@ -28,7 +28,7 @@ use crate::joining::join;
 use crate::lines::{bad_summary_line, loaded_line, no_summary_line, turned_away_line};
 use crate::stepping::{beyond, shown};
 use crate::stops::stop_for;
-use fluid_desk::{Stop, ready, told};
+use fluid_desk::{Stop, line_or_stop, ready};
 use fluid_door_link::{Begun, Course, DoorLink, Notes, ToldObjects};
 use fluid_holding::containers_load;
 use fluid_json::{NoMemory, Text};
@@ -98,7 +98,7 @@ fn turned_away(alloc: Global, name: &ScriptName) -> Result<(Text, Loaded), Stop>
     ensures { IsTurnedAway name.now result }
 {
     let refusal = ConnectRefusal::TooManyDocuments;
-    let line = told(turned_away_line(alloc, name.as_str(), refusal))?;
+    let line = line_or_stop(turned_away_line(alloc, name.as_str(), refusal))?;
     Ok((line, Loaded::TurnedAway(refusal)))
 }
 
@@ -120,7 +120,7 @@ fn load_on<K: Keeper, O: Objects>(
     ensures fresh { IfOk result (λ made. IsFresh made.1) }
 {
     let loaded = load_lane(alloc, lane, objects, document, pick, moment)?;
-    let line = told(load_line(alloc, name, document, &loaded))?;
+    let line = line_or_stop(load_line(alloc, name, document, &loaded))?;
     Ok((line, loaded))
 }
 
@@ -284,8 +284,8 @@ fn last_line(alloc: Global, document: &DocName, loaded: &Loaded) -> Result<Text,
     let name = document.as_str();
     match loaded {
         Loaded::Held(holder) => shown(alloc, name, &holder.container),
-        Loaded::TurnedAway(refusal) => told(turned_away_line(alloc, name, *refusal)),
-        Loaded::NoSummary => told(no_summary_line(alloc, name)),
-        Loaded::BadSummary(path) => told(bad_summary_line(alloc, name, path.as_str())),
+        Loaded::TurnedAway(refusal) => line_or_stop(turned_away_line(alloc, name, *refusal)),
+        Loaded::NoSummary => line_or_stop(no_summary_line(alloc, name)),
+        Loaded::BadSummary(path) => line_or_stop(bad_summary_line(alloc, name, path.as_str())),
     }
 }

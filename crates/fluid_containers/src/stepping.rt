@@ -30,7 +30,7 @@ use crate::lines::{
     summarized_line, turned_away_line,
 };
 use crate::stops::stop_for;
-use fluid_desk::{Stop, ready, told};
+use fluid_desk::{Stop, line_or_stop, ready};
 use fluid_door_link::{Begun, Course, DoorLink, Notes, ToldObjects};
 use fluid_edits::Edit;
 use fluid_holding::{
@@ -124,7 +124,7 @@ fn pumped(alloc: Global, name: &ScriptName, answer: Result<u64, LoadFault>) -> R
     ensures { SaysPumped name.now answer result }
 {
     match answer {
-        Ok(number) => told(at_line(alloc, name, number)),
+        Ok(number) => line_or_stop(at_line(alloc, name, number)),
         Err(_) => Err(Stop::NoMemory),
     }
 }
@@ -217,9 +217,9 @@ fn edited(alloc: Global, name: &ScriptName, answer: Result<(), LoadFault>) -> Re
     ensures { SaysEdited name.now answer result }
 {
     match answer {
-        Ok(()) => told(edited_line(alloc, name)),
-        Err(LoadFault::Edit(fault)) => told(edit_fault_line(alloc, name, fault)),
-        Err(LoadFault::Refused(nack)) => told(refused_line(alloc, name, &nack.rule)),
+        Ok(()) => line_or_stop(edited_line(alloc, name)),
+        Err(LoadFault::Edit(fault)) => line_or_stop(edit_fault_line(alloc, name, fault)),
+        Err(LoadFault::Refused(nack)) => line_or_stop(refused_line(alloc, name, &nack.rule)),
         Err(_) => Err(Stop::NoMemory),
     }
 }
@@ -305,8 +305,8 @@ fn beaten(
     ensures { SaysBeaten name.now number answer result }
 {
     match answer {
-        Ok(()) => told(beat_line(alloc, name, number)),
-        Err(LoadFault::Refused(nack)) => told(refused_line(alloc, name, &nack.rule)),
+        Ok(()) => line_or_stop(beat_line(alloc, name, number)),
+        Err(LoadFault::Refused(nack)) => line_or_stop(refused_line(alloc, name, &nack.rule)),
         Err(_) => Err(Stop::NoMemory),
     }
 }
@@ -401,7 +401,7 @@ fn proposed(
     ensures { SaysProposed name.now number answer result }
 {
     match answer {
-        Ok(_) => told(summarized_line(alloc, name, number)),
+        Ok(_) => line_or_stop(summarized_line(alloc, name, number)),
         Err(fault) => unproposed(alloc, name, fault),
     }
 }
@@ -410,8 +410,8 @@ fn unproposed(alloc: Global, name: &ScriptName, fault: LoadFault) -> Result<Text
     ensures { (number : ℕ) → SaysProposed name.now number (Err fault) result }
 {
     match fault {
-        LoadFault::Refused(nack) => told(refused_line(alloc, name, &nack.rule)),
-        LoadFault::Clash { id, .. } => told(clash_line(alloc, name, &id)),
+        LoadFault::Refused(nack) => line_or_stop(refused_line(alloc, name, &nack.rule)),
+        LoadFault::Clash { id, .. } => line_or_stop(clash_line(alloc, name, &id)),
         _ => Err(Stop::NoMemory),
     }
 }
@@ -447,7 +447,7 @@ pub(crate) fn shown(alloc: Global, name: &str, container: &Container) -> Result<
     ensures { IsLine (lines.shown_line name.now container.now.number (shown (shown_channels container.now))) result }
 {
     let state = container.state(alloc)?;
-    told(shown_line(alloc, name, container.seq(), &state))
+    line_or_stop(shown_line(alloc, name, container.seq(), &state))
 }
 
 // ---- parts
@@ -456,7 +456,7 @@ pub(crate) fn shown(alloc: Global, name: &str, container: &Container) -> Result<
 pub(crate) fn beyond(alloc: Global, document: &DocName) -> Result<Text, Stop>
     ensures { IsLine (lines.turned_away_line document.now TooManyDocuments) result }
 {
-    told(turned_away_line(alloc, document.as_str(), ConnectRefusal::TooManyDocuments))
+    line_or_stop(turned_away_line(alloc, document.as_str(), ConnectRefusal::TooManyDocuments))
 }
 
 // Its next submission fits a record.

@@ -40,9 +40,10 @@ use Rattle.fluid_lane.specs.Restarts.{IsNotBad}
 use Rattle.fluid_document.specs.Loading.{begun, begun_in, folded_behind, loaded, newest}
 use Rattle.fluid_lane.proofs.Beginning.{ledger-steps}
 use Rattle.fluid_lane.proofs.Says.{opening_leaves}
+use Rattle.fluid_opening.specs.declared.opening.TheConstants.{MOST_DOCUMENTS}
 use Rattle.fluid_opening.specs.declared.fault.DoorFault.{DoorFault}
 use Rattle.fluid_opening.specs.declared.fault.DoorFault.TheVariants as door
-use Rattle.fluid_lanes.specs.Opened.{Opened, most_documents}
+use Rattle.fluid_lanes.specs.Opened.{Opened}
 use Rattle.fluid_lanes.specs.Using.{Uses, UsesBy, OpensNew, IsOneTooMany, EndsLane}
 use Rattle.fluid_voice.specs.Ends.{is_beyond}
 use Rattle.fluid_transcript.specs.World.{Document, World, document, is_open, ledger_of, with_entries, farewells, grown, changed}
@@ -185,15 +186,15 @@ module _ (o n : Opened) (w : World) (name : List ℕ) (moment : ℕ) (desk : Des
   opens_new = subst (DeskStands n) (sym (readied_new w name own.0)) opened_stands
 
   pub new_is_no_more : is_beyond w.opened name ≡ false
-  new_is_no_more = ap (λ b. not b && nat_le 1024 (length w.opened)) own.0 ∙ not_le (nat_le 1024 (length w.opened)) refl
+  new_is_no_more = ap (λ b. not b && nat_le MOST_DOCUMENTS (length w.opened)) own.0 ∙ not_le (nat_le MOST_DOCUMENTS (length w.opened)) refl
     where
-      not_le : (b : Bool) → nat_le 1024 (length w.opened) ≡ b → b ≡ false
+      not_le : (b : Bool) → nat_le MOST_DOCUMENTS (length w.opened) ≡ b → b ≡ false
       not_le false is = refl
-      not_le true is = absurd (omega (arith, leb-true 1024 (length w.opened) is, desk.count, opens.room))
+      not_le true is = absurd (omega (arith, leb-true MOST_DOCUMENTS (length w.opened) is, desk.count, opens.room))
 
 -- a document that is open is no more than may be
 pub open_is_no_more : (w : World) (name : List ℕ) → is_open w name ≡ true → is_beyond w.opened name ≡ false
-open_is_no_more w name is = ap (λ b. not b && nat_le 1024 (length w.opened)) is
+open_is_no_more w name is = ap (λ b. not b && nat_le MOST_DOCUMENTS (length w.opened)) is
 
 -- what a use leaves, for a world: the document is open in both, and none is one too many
 pub record IsUsed (n : Opened) (w : World) (name : List ℕ) : Type 0 where
@@ -215,7 +216,7 @@ pub too_many : (o n : Opened) (w : World) (name : List ℕ) (count : ℕ) → De
 too_many o n w name count desk many =
     let closed = (keeper_there o.limits (keeper_under desk.held name) (is_open w name) (document w name)
     (subst (λ l. IsDocument o.limits l (keeper_under desk.held name) (is_open w name) (document w name)) many.absent (desk.documents name))).0 in (
-      ap (λ b. not b && nat_le 1024 (length w.opened)) closed ∙ le-leb 1024 (length w.opened) (omega (arith, many.counted, many.most, desk.count)),
+      ap (λ b. not b && nat_le MOST_DOCUMENTS (length w.opened)) closed ∙ le-leb MOST_DOCUMENTS (length w.opened) (omega (arith, many.counted, many.most, desk.count)),
       subst (λ k. DeskStands k w) (sym many.same) desk,
     )
 
@@ -323,12 +324,12 @@ module _ (o : Opened) (w : World) (name : List ℕ) (desk : DeskStands o w) (abs
   kept_closed = record { held = desk.held; told = desk.told; content = closed_is.1.content; content_is = closed_is.1.told; kept = closed_is.1.kept }
 
   -- it isn't one too many where there is room
-  room_within : len o.lanes < most_documents → is_beyond w.opened name ≡ false
-  room_within room = ap (λ b. not b && nat_le 1024 (length w.opened)) closed_is.0 ∙ not_le (nat_le 1024 (length w.opened)) refl
+  room_within : len o.lanes < MOST_DOCUMENTS → is_beyond w.opened name ≡ false
+  room_within room = ap (λ b. not b && nat_le MOST_DOCUMENTS (length w.opened)) closed_is.0 ∙ not_le (nat_le MOST_DOCUMENTS (length w.opened)) refl
     where
-      not_le : (b : Bool) → nat_le 1024 (length w.opened) ≡ b → b ≡ false
+      not_le : (b : Bool) → nat_le MOST_DOCUMENTS (length w.opened) ≡ b → b ≡ false
       not_le false is = refl
-      not_le true is = absurd (omega (arith, leb-true 1024 (length w.opened) is, desk.count, room))
+      not_le true is = absurd (omega (arith, leb-true MOST_DOCUMENTS (length w.opened) is, desk.count, room))
 
   document_then : document (readied w name) name ≡ with_entries (farewells w.moment (document w name)) (document w name)
   document_then =
@@ -339,7 +340,7 @@ module _ (o : Opened) (w : World) (name : List ℕ) (desk : DeskStands o w) (abs
   may_ready n stop h =
       (name, honest_more (opened_steps w.moment (document w name)) (steps_in (readied w name) n name) stop (omega (arith, ap (λ (d : Document). length d.raws) document_then)) h)
 
-  pub unready : KeptIsLoaded → CheckpointIsLoaded → (n : Opened) (moment : ℕ) (fault : DoorFault) (stop : Stop) → len o.lanes < most_documents → Uses {A = Unit {0}} name moment o n (Err fault) → Err stop ≡ turned_by fault
+  pub unready : KeptIsLoaded → CheckpointIsLoaded → (n : Opened) (moment : ℕ) (fault : DoorFault) (stop : Stop) → len o.lanes < MOST_DOCUMENTS → Uses {A = Unit {0}} name moment o n (Err fault) → Err stop ≡ turned_by fault
       → IsUnready w name n stop
   unready first law n moment fault stop room uses is = record {
     within = room_within room;

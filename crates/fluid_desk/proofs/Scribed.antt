@@ -34,14 +34,14 @@ use Rattle.fluid_store.specs.Keeping.{with_all, Adds}
 use Rattle.fluid_store.specs.Storing.{Storing}
 use Rattle.fluid_store.specs.declared.fault.StoreFault.{StoreFault}
 use Rattle.fluid_store.specs.declared.fault.StoreFault.TheVariants as store
-use Rattle.fluid_versions.specs.Versions.{PutsTold, PutsVersion}
+use Rattle.fluid_versions.specs.Versions.{PutsTold, PutsVersion, version_tree, is_found}
 use Rattle.fluid_core.specs.Entering.{verdict_in}
 use Rattle.fluid_lane.specs.declared.fault.LaneFault.{LaneFault}
 use Rattle.fluid_lane.specs.Faults.{IsOutside}
 use Rattle.fluid_lane.specs.Steps.{entered_by}
 use Rattle.fluid_lane.specs.Standing.{Standing, Goes}
 use Rattle.fluid_lane.specs.Refusals.{IsGated}
-use Rattle.fluid_transcript.specs.Documents.{version_object, version_objects, is_found, objects_for, reported as reported_as, scribed_by, scribed}
+use Rattle.fluid_transcript.specs.Documents.{version_objects, objects_for, reported as reported_as, scribed_by, scribed}
 use Rattle.fluid_transcript.specs.Lines as lines
 use Rattle.fluid_desk.specs.declared.stop.Stop.{Stop}
 use Rattle.fluid_desk.specs.Stands.{IsLaneOf}
@@ -132,8 +132,8 @@ version_is l j m app is =
     let bs = blobs (order l) (reference_of m) in
     ap (λ (k : Job). versions.version_objects app (versions.blobs_in k.protocol)) is
     ∙ ap (versions.version_objects app) (contents_of bs)
-    ∙ sym (append_assoc (blob_objects bs) (object_of (object_bytes (Tree (map blob_entry bs))) ∷ []) (object_of (object_bytes (version_object app bs)) ∷ []))
-    ∙ ap (λ os. os ++ object_of (object_bytes (version_object app bs)) ∷ []) (sym (objects_are (quorum (order l) (reference_of m))))
+    ∙ sym (append_assoc (blob_objects bs) (object_of (object_bytes (Tree (map blob_entry bs))) ∷ []) (object_of (object_bytes (version_tree app bs)) ∷ []))
+    ∙ ap (λ os. os ++ object_of (object_bytes (version_tree app bs)) ∷ []) (sym (objects_are (quorum (order l) (reference_of m))))
     ∙ ap (λ (k : Job). version_objects l k app) (sym is)
 
 some_job : (a b : Job) → ◌≡◌ {A = Option Job} (Some a) (Some b) → a ≡ b

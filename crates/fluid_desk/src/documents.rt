@@ -11,7 +11,7 @@ ghost use Rattle.fluid_desk.specs.Acting.{DeskDoes};
 ghost use Rattle.fluid_desk.specs.Scribing.{DeskDoesWith, RunsWith};
 
 use crate::first_use::{ready, turned_away};
-use crate::lines::{reopened_line, told, turned_away_line};
+use crate::lines::{line_or_stop, reopened_line, turned_away_line};
 use crate::stop::Stop;
 use crate::{on_lane, scribing};
 use fluid_document::kept_is_loaded;
@@ -38,7 +38,7 @@ where
 {
     match ready(alloc, lanes, name, moment) {
         Ok(true) => on_lane::count(alloc, name, lanes.lent(name)),
-        Ok(false) => told(turned_away_line(alloc, name)),
+        Ok(false) => line_or_stop(turned_away_line(alloc, name)),
         Err(stop) => Err(stop),
     }
 }
@@ -59,7 +59,7 @@ where
 {
     match ready(alloc, lanes, name, moment) {
         Ok(true) => on_lane::checkpoint(alloc, name, lanes.lent(name)),
-        Ok(false) => told(turned_away_line(alloc, name)),
+        Ok(false) => line_or_stop(turned_away_line(alloc, name)),
         Err(stop) => Err(stop),
     }
 }
@@ -81,7 +81,7 @@ where
 {
     match ready(alloc, lanes, name, moment) {
         Ok(true) => on_lane::restart(alloc, name, lanes.lent(name), number),
-        Ok(false) => told(turned_away_line(alloc, name)),
+        Ok(false) => line_or_stop(turned_away_line(alloc, name)),
         Err(stop) => Err(stop),
     }
 }
@@ -103,7 +103,7 @@ where
 {
     match ready(alloc, lanes, name, moment) {
         Ok(true) => on_lane::sweep(alloc, name, lanes.lent(name), moment, silence),
-        Ok(false) => told(turned_away_line(alloc, name)),
+        Ok(false) => line_or_stop(turned_away_line(alloc, name)),
         Err(stop) => Err(stop),
     }
 }
@@ -128,7 +128,7 @@ where
 {
     match ready(alloc, lanes, name, moment) {
         Ok(true) => scribing::scribe(alloc, name, lanes.lent(name), objects, moment),
-        Ok(false) => told(turned_away_line(alloc, name)),
+        Ok(false) => line_or_stop(turned_away_line(alloc, name)),
         Err(stop) => Err(stop),
     }
 }
@@ -149,9 +149,9 @@ where
 {
     kept_is_loaded();
     match lanes.reopen(alloc, name, moment) {
-        Ok(()) => told(reopened_line(alloc, name, on_lane::numbers_of(lanes.lent(name)))),
+        Ok(()) => line_or_stop(reopened_line(alloc, name, on_lane::numbers_of(lanes.lent(name)))),
         Err(fault) => match turned_away(fault) {
-            Ok(()) => told(turned_away_line(alloc, name)),
+            Ok(()) => line_or_stop(turned_away_line(alloc, name)),
             Err(stop) => Err(stop),
         },
     }

@@ -18,5 +18,5 @@ mod stop;
 
 pub use documents::{checkpoint, count, reopen, restart, scribe, sweep};
 pub use first_use::ready;
-pub use lines::{told, turned_away_line};
+pub use lines::{line_or_stop, turned_away_line};
 pub use stop::{Stop, StoredFault, stop_of};

@@ -20,7 +20,7 @@ pub(crate) struct Numbers {
 }
 
 /// A line that was made, or the want of memory for it.
-pub fn told(line: Result<Text, NoMemory>) -> Result<Text, Stop>
+pub fn line_or_stop(line: Result<Text, NoMemory>) -> Result<Text, Stop>
     ensures { (made : List ℕ) → IfOk line (λ text. text ≡ made) → IsLine made result }
 {
     match line {

@@ -9,8 +9,8 @@ ghost use Rattle.fluid_desk.specs.Stopping.{LaneRuns};
 ghost use Rattle.fluid_desk.specs.Acting.{ActDoes, AreNumbers, SaysUnstored, SaysUnrestarted};
 
 use crate::lines::{
-    Numbers, count_line, full_line, large_line, no_checkpoint_line, restarted_line, stored_line,
-    swept_line, told,
+    Numbers, count_line, full_line, large_line, line_or_stop, no_checkpoint_line, restarted_line,
+    stored_line, swept_line,
 };
 use crate::stop::{Stop, stop_of};
 use fluid_json::Text;
@@ -24,7 +24,7 @@ pub(crate) fn count<K: Keeper>(alloc: Global, name: &DocName, lane: &Lane<K>) ->
     ensures does { (limits : ALimits) (w : World) (d : Document) → IsLaneOf limits lane.now d → ActDoes limits (counted_up w d name.now) d lane.now result }
     ensures runs { LaneRuns lane.now lane.now result }
 {
-    told(count_line(alloc, name, numbers_of(lane)))
+    line_or_stop(count_line(alloc, name, numbers_of(lane)))
 }
 
 /// Stores a checkpoint, where there is room for one and its text isn't too large.
@@ -38,7 +38,7 @@ pub(crate) fn checkpoint<K: Keeper>(
 {
     let entries = lane.entered();
     match lane.checkpoint(alloc) {
-        Ok(number) => told(stored_line(alloc, name, number, entries)),
+        Ok(number) => line_or_stop(stored_line(alloc, name, number, entries)),
         Err(fault) => unstored(alloc, name, fault),
     }
 }
@@ -54,7 +54,7 @@ pub(crate) fn restart<K: Keeper>(
     ensures runs { LaneRuns lane.old lane.new result }
 {
     match lane.restart(alloc, number) {
-        Ok(()) => told(restarted_line(alloc, name, number, numbers_of(lane))),
+        Ok(()) => line_or_stop(restarted_line(alloc, name, number, numbers_of(lane))),
         Err(fault) => unrestarted(alloc, name, fault),
     }
 }
@@ -72,7 +72,7 @@ pub(crate) fn sweep<K: Keeper>(
     ensures runs { LaneRuns lane.old lane.new result }
 {
     match lane.sweep(alloc, moment, silence) {
-        Ok(swept) => told(swept_line(alloc, name, &swept)),
+        Ok(swept) => line_or_stop(swept_line(alloc, name, &swept)),
         Err(fault) => Err(stop_of(fault)),
     }
 }
@@ -93,8 +93,8 @@ fn unstored(alloc: Global, name: &DocName, fault: LaneFault) -> Result<Text, Sto
     ensures { SaysUnstored name.now fault result }
 {
     match fault {
-        LaneFault::CheckpointsFull => told(full_line(alloc, name)),
-        LaneFault::TooLarge(bytes) => told(large_line(alloc, name, bytes)),
+        LaneFault::CheckpointsFull => line_or_stop(full_line(alloc, name)),
+        LaneFault::TooLarge(bytes) => line_or_stop(large_line(alloc, name, bytes)),
         other => Err(stop_of(other)),
     }
 }
@@ -105,7 +105,7 @@ fn unrestarted(alloc: Global, name: &DocName, fault: LaneFault) -> Result<Text, 
 {
     match fault {
         LaneFault::NoCheckpoint { asked, stored } => {
-            told(no_checkpoint_line(alloc, name, asked, stored))
+            line_or_stop(no_checkpoint_line(alloc, name, asked, stored))
         }
         other => Err(stop_of(other)),
     }

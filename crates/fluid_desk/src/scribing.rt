@@ -12,7 +12,7 @@ ghost use Rattle.fluid_desk.specs.Stands.{IsLaneOf, StoreStands};
 ghost use Rattle.fluid_desk.specs.Stopping.{LaneRuns};
 ghost use Rattle.fluid_desk.specs.Scribing.{text_of, message_in, IsReplied, SaysUnput, ActDoesWith, LaneRunsWith, Concludes};
 
-use crate::lines::told;
+use crate::lines::line_or_stop;
 use crate::stop::{Stop, StoredFault, stop_of};
 use fluid_json::{Json, NoMemory, Text};
 use fluid_lane::Lane;
@@ -44,7 +44,7 @@ pub(crate) fn scribe<K: Keeper, O: Objects>(
             Ok(found) => conclude(alloc, name, lane, job.summary, found, moment),
             Err(fault) => unput(alloc, name, fault),
         },
-        Ok(None) => told(idle_line(alloc, name)),
+        Ok(None) => line_or_stop(idle_line(alloc, name)),
         Err(NoMemory) => Err(Stop::NoMemory),
     }
 }
@@ -67,7 +67,7 @@ fn conclude<K: Keeper>(
     // (a law, and no work: its clause is for the proof)
     leaves_and_reports_fit();
     match lane.conclude(alloc, summary, found, moment) {
-        Ok(verdict) => told(answer_line(alloc, name, summary, &verdict)),
+        Ok(verdict) => line_or_stop(answer_line(alloc, name, summary, &verdict)),
         Err(fault) => Err(stop_of(fault)),
     }
 }
@@ -77,7 +77,7 @@ fn unput(alloc: Global, name: &DocName, fault: StoreFault) -> Result<Text, Stop>
     ensures { SaysUnput name.now fault result }
 {
     match fault {
-        StoreFault::Clash { id, .. } => told(clash_line(alloc, name, &id)),
+        StoreFault::Clash { id, .. } => line_or_stop(clash_line(alloc, name, &id)),
         StoreFault::StoreFailed(note) => Err(Stop::StoreFault(note)),
         StoreFault::NoMemory => Err(Stop::NoMemory),
         other => Err(Stop::BadStored(StoredFault::Object(other))),

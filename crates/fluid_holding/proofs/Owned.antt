@@ -43,7 +43,8 @@ use Rattle.fluid_voice.specs.declared.refusals.ConnectRefusal.{ConnectRefusal}
 use Rattle.fluid_transcript.specs.World.{Document, Container, Roamer, World, new_document, document, with_entries, farewells, is_open, ledger_of, Effect, says, does}
 use Rattle.fluid_transcript.specs.Lines.{full_line, large_line, stored_line}
 use Rattle.fluid_transcript.specs.Connections.{Hearing, hear, hearing, behind_act, found_by, hear_act, acts_for}
-use Rattle.fluid_transcript.specs.Documents.{version_object, version_objects, objects_for, is_found, reported, scribed_by, stored, checkpointed, checkpoint_of, swept_by}
+use Rattle.fluid_versions.specs.Versions.{version_tree, is_found}
+use Rattle.fluid_transcript.specs.Documents.{version_objects, objects_for, reported, scribed_by, stored, checkpointed, checkpoint_of, swept_by}
 use Rattle.fluid_transcript.specs.Containers.{channels, id_of, visible, joining, join_refusal, pumped, edited_by, beaten, summarized_by, summarized, showing}
 use Rattle.fluid_transcript.specs.Roamers.{roamed_by, laid_over, said_by, lost, left, back_by, came_back, acked}
 use Rattle.fluid_transcript.specs.Steps.{about, container_of, roamer_of, shown_of, on_container, on_roamer, edit_effect, say_effect, effect, beyond}
@@ -169,7 +170,7 @@ roams_own w None f holds each = holds
 roams_own w (Some k) f holds each = each k
 
 version_own : (l : Ledger) (j : Job) (app : List ℕ) → Own (version_objects l j app)
-version_own l j app = each_append IsOwn (objects j.protocol) (object_of (object_bytes (version_object app (blobs (order l) j.reference))) ∷ []) (objects_own j.protocol) (refl, tt)
+version_own l j app = each_append IsOwn (objects j.protocol) (object_of (object_bytes (version_tree app (blobs (order l) j.reference))) ∷ []) (objects_own j.protocol) (refl, tt)
 
 app_own : (l : Ledger) (j : Job) (o : Option (List ℕ)) → Own (option_map_or (version_objects l j) o [])
 app_own l j None = tt

@@ -8,8 +8,9 @@ use Rattle.fluid_table.specs.Keyed.{pairs_of}
 use Rattle.fluid_table.proofs.Places.{byte_order_total, get_inserted, get_removed, get_own, same_values}
 use Rattle.fluid_log.specs.Shelving.{Shelving, AreWhole}
 use Rattle.fluid_lane.specs.Standing.{Standing}
+use Rattle.fluid_opening.specs.declared.opening.TheConstants.{MOST_DOCUMENTS}
 use Rattle.fluid_lanes.specs.Rows.{name_of, value_of}
-use Rattle.fluid_lanes.specs.Opened.{Opened, AreShelved, most_documents}
+use Rattle.fluid_lanes.specs.Opened.{Opened, AreShelved}
 use Rattle.fluid_lanes.specs.Using.{Uses, UsesBy, OpensNew, Ends}
 
 -- nothing is there
@@ -82,24 +83,24 @@ nothing_out lanes shelving none whole = λ q.
 
 -- ---- how many are open
 
-pub none_few : (lanes : Values Standing) → lanes ≡ empty → len lanes ≤ most_documents
+pub none_few : (lanes : Values Standing) → lanes ≡ empty → len lanes ≤ MOST_DOCUMENTS
 none_few lanes none = omega (arith, ap len none ∙ len-empty byte_order Standing)
 
-pub lent_few : (lanes : Values Standing) (name : List ℕ) (lane : Standing) → IsSome (get lanes name) → len lanes ≤ most_documents → len (insert lanes name lane) ≤ most_documents
+pub lent_few : (lanes : Values Standing) (name : List ℕ) (lane : Standing) → IsSome (get lanes name) → len lanes ≤ MOST_DOCUMENTS → len (insert lanes name lane) ≤ MOST_DOCUMENTS
 lent_few lanes name lane there few =
     omega (arith, len-insert byte_order_total lanes name lane ∙ ap (λ b. cond b (len lanes) (len lanes + 1)) there, few)
 
-pub opened_few : (lanes now : Values Standing) (name : List ℕ) (lane : Standing) → now ≡ insert lanes name lane → len lanes < most_documents → len now ≤ most_documents
+pub opened_few : (lanes now : Values Standing) (name : List ℕ) (lane : Standing) → now ≡ insert lanes name lane → len lanes < MOST_DOCUMENTS → len now ≤ MOST_DOCUMENTS
 opened_few lanes now name lane are room = rw are (by (is_some (get lanes name)) (len-insert byte_order_total lanes name lane))
   where
-    by : (b : Bool) → len (insert lanes name lane) ≡ cond b (len lanes) (len lanes + 1) → len (insert lanes name lane) ≤ most_documents
+    by : (b : Bool) → len (insert lanes name lane) ≡ cond b (len lanes) (len lanes + 1) → len (insert lanes name lane) ≤ MOST_DOCUMENTS
     by true is = omega (arith, is, room)
     by false is = omega (arith, is, room)
 
-pub ended_few : (lanes now : Values Standing) (name : List ℕ) → now ≡ remove lanes name → len lanes ≤ most_documents → len now ≤ most_documents
+pub ended_few : (lanes now : Values Standing) (name : List ℕ) → now ≡ remove lanes name → len lanes ≤ MOST_DOCUMENTS → len now ≤ MOST_DOCUMENTS
 ended_few lanes now name are few = rw are (by (is_some (get lanes name)) (len-remove byte_order_total lanes name))
   where
-    by : (b : Bool) → len (remove lanes name) ≡ cond b (len lanes - 1) (len lanes) → len (remove lanes name) ≤ most_documents
+    by : (b : Bool) → len (remove lanes name) ≡ cond b (len lanes - 1) (len lanes) → len (remove lanes name) ≤ MOST_DOCUMENTS
     by true is = omega (arith, is, few)
     by false is = omega (arith, is, few)
 

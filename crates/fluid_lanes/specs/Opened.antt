@@ -10,6 +10,7 @@ use Rattle.fluid_rules.specs.declared.limits.Limits.{Limits}
 use Rattle.fluid_rules.specs.contracts.limits.Limits as limits
 use Rattle.fluid_lane.specs.Codes.{standing_code}
 use Rattle.fluid_lane.specs.Standing.{Standing}
+use Rattle.fluid_opening.specs.declared.opening.TheConstants.{MOST_DOCUMENTS}
 
 pub record Opened : Type 0 where
   pub shelving : Shelving
@@ -35,13 +36,9 @@ with_lane o name lane = record o { lanes = insert o.lanes name lane }
 abbrev pub AreShelved : Values Standing → Shelving → Type 0
 AreShelved lanes shelving = (name : List ℕ) → is_some (get shelving.out name) ≡ is_some (get lanes name)
 
--- the most documents that are open at one time
-abbrev pub most_documents : ℕ
-most_documents = 1024
-
 -- what always holds of them
 pub record AreOut (o : Opened) : Type 0 where
   pub out : AreShelved o.lanes o.shelving
   -- and no more are open than may be
-  pub few : len o.lanes ≤ most_documents
+  pub few : len o.lanes ≤ MOST_DOCUMENTS
   pub small : o.limits.bytes ≤ LONGEST_KEPT

@@ -11,16 +11,17 @@ use Rattle.fluid_lane.specs.Steps.{ledger, steps}
 use Rattle.fluid_lane.specs.Standing.{Standing, LaneStands}
 use Rattle.fluid_lane.specs.Starting.{opening}
 use Rattle.fluid_opening.specs.Opening.{Opens, OpenDoes, IsRisen}
+use Rattle.fluid_opening.specs.declared.opening.TheConstants.{MOST_DOCUMENTS}
 use Rattle.fluid_opening.specs.declared.fault.DoorFault.{DoorFault}
 use Rattle.fluid_opening.specs.declared.fault.DoorFault.TheVariants.{TooManyDocuments}
-use Rattle.fluid_lanes.specs.Opened.{Opened, most_documents, with_lane}
+use Rattle.fluid_lanes.specs.Opened.{Opened, with_lane}
 use Rattle.fluid_lanes.specs.Closing.{IsLeft}
 
 -- ---- the first use
 
 -- it was opened, and wasn't one too many
 pub record OpensNew (name : List ℕ) (moment : ℕ) (old new : Opened) : Type 0 where
-  pub room : len old.lanes < most_documents
+  pub room : len old.lanes < MOST_DOCUMENTS
   pub lane : Standing
   pub opens : Opens old.limits name moment old.shelving new.shelving lane
   pub lanes : new.lanes ≡ insert old.lanes name lane
@@ -36,13 +37,13 @@ UsesBy None name moment old new = OpensNew name moment old new
 pub record IsOneTooMany (name : List ℕ) (old new : Opened) (count : ℕ) : Type 0 where
   pub absent : get old.lanes name ≡ None
   pub counted : count ≡ len old.lanes
-  pub most : count ≡ most_documents
+  pub most : count ≡ MOST_DOCUMENTS
   pub same : new ≡ old
 
 -- or its keeper wasn't given, or its lane not started
 pub record FailsToOpen (name : List ℕ) (moment : ℕ) (old new : Opened) (fault : DoorFault) : Type 0 where
   pub absent : get old.lanes name ≡ None
-  pub room : len old.lanes < most_documents
+  pub room : len old.lanes < MOST_DOCUMENTS
   pub does : OpenDoes old.limits name moment old.shelving new.shelving (Err fault)
   pub cause : IsRisen old.shelving.faults new.shelving.faults fault
   pub lanes : new.lanes ≡ old.lanes

@@ -53,7 +53,8 @@ use Rattle.fluid_voice.specs.Heard.{acts_of, read_acts}
 use Rattle.fluid_voice.specs.States.{document_name, is_used}
 use Rattle.fluid_transcript.specs.World.{Name, connection, container, roamer, used_up, Container, World, Document, document, is_open, ledger_of, farewells, with_entries, Effect, says, grown, changed, does}
 use Rattle.fluid_transcript.specs.Connections.{voice_named, voice_of, connects, hearing, found_by, behind_act, hear}
-use Rattle.fluid_transcript.specs.Documents.{scribed_by, reported, is_found, objects_for, checkpoint_of, checkpointed, stored}
+use Rattle.fluid_versions.specs.Versions.{is_found}
+use Rattle.fluid_transcript.specs.Documents.{scribed_by, reported, objects_for, checkpoint_of, checkpointed, stored}
 use Rattle.fluid_transcript.specs.Lines.{full_line, large_line, stored_line}
 use Rattle.fluid_transcript.specs.Containers.{submitted_as, submitting, channels, visible, app_id, head, joining, join_refusal, join_for, pumped, edited_by, summarized, summarized_by, entry_of}
 use Rattle.fluid_transcript.specs.Steps.{refusal, refusal_as_new, about, effect, beyond, container_in, container_of, on_container, edit_effect}

@@ -32,7 +32,7 @@ use crate::lines::{acked_line, back_line, lost_line, roams_line, said_line};
 use crate::roamer::Roamer;
 use crate::sending::{Sent, send, send_all};
 use fluid_containers::{edit_fault_line, refused_line, shown_line, turned_away_line};
-use fluid_desk::{Stop, ready, told};
+use fluid_desk::{Stop, line_or_stop, ready};
 use fluid_door_link::ToldObjects;
 use fluid_edits::Edit;
 use fluid_holding::{containers_catch_up, containers_load, others_leave_containers};
@@ -114,7 +114,7 @@ fn refused(
 ) -> Result<(Text, Option<Roamer>), Stop>
     ensures { IsRefusedFor name.now refusal result }
 {
-    let line = told(turned_away_line(alloc, name.as_str(), refusal))?;
+    let line = line_or_stop(turned_away_line(alloc, name.as_str(), refusal))?;
     Ok((line, None))
 }
 
@@ -138,7 +138,7 @@ fn roam_as<K: Keeper>(
     let mut roamer = Roamer::new(alloc, place, own);
     hear(alloc, lane, &mut roamer)?;
     roamer.join(alloc, client)?;
-    let line = told(roams_line(alloc, name, document, &roamer.client, roamer.seq()))?;
+    let line = line_or_stop(roams_line(alloc, name, document, &roamer.client, roamer.seq()))?;
     Ok((line, Some(roamer)))
 }
 
@@ -212,10 +212,10 @@ fn unsaid(alloc: Global, name: &ScriptName, fault: EditFault) -> Result<Text, St
     ensures { IsUnsaid name.now fault result }
 {
     match fault {
-        EditFault::NoChannel => told(edit_fault_line(alloc, name, EditFault::NoChannel)),
-        EditFault::WrongKind => told(edit_fault_line(alloc, name, EditFault::WrongKind)),
-        EditFault::OutOfRange => told(edit_fault_line(alloc, name, EditFault::OutOfRange)),
-        EditFault::Exists => told(edit_fault_line(alloc, name, EditFault::Exists)),
+        EditFault::NoChannel => line_or_stop(edit_fault_line(alloc, name, EditFault::NoChannel)),
+        EditFault::WrongKind => line_or_stop(edit_fault_line(alloc, name, EditFault::WrongKind)),
+        EditFault::OutOfRange => line_or_stop(edit_fault_line(alloc, name, EditFault::OutOfRange)),
+        EditFault::Exists => line_or_stop(edit_fault_line(alloc, name, EditFault::Exists)),
         EditFault::NoMemory => Err(Stop::NoMemory),
     }
 }
@@ -240,13 +240,13 @@ fn send_said<K: Keeper, O: Objects>(
     ensures kept { OnOk result (IsSendable roamer.new.outbox) }
 {
     if roamer.is_lost() {
-        return told(said_line(alloc, name, number));
+        return line_or_stop(said_line(alloc, name, number));
     }
     let sent = send(alloc, lane, objects, roamer, moment)?;
     match sent {
-        Sent::Nothing => told(said_line(alloc, name, number)),
-        Sent::Taken => told(said_line(alloc, name, number)),
-        Sent::Refused(rule) => told(refused_line(alloc, name, &rule)),
+        Sent::Nothing => line_or_stop(said_line(alloc, name, number)),
+        Sent::Taken => line_or_stop(said_line(alloc, name, number)),
+        Sent::Refused(rule) => line_or_stop(refused_line(alloc, name, &rule)),
     }
 }
 
@@ -282,7 +282,7 @@ fn lose_now(alloc: Global, roamer: &mut Roamer, name: &ScriptName) -> Result<Tex
     ensures kept { IsSendable roamer.old.outbox → IsSendable roamer.new.outbox }
 {
     roamer.lose();
-    told(lost_line(alloc, name))
+    line_or_stop(lost_line(alloc, name))
 }
 
 // ---- back
@@ -343,7 +343,7 @@ fn back_lane<K: Keeper, O: Objects>(
     let joined = join(alloc, lane, objects, &roamer.document, moment)?;
     match joined {
         Ok(client) => back_as(alloc, lane, objects, roamer, name, client, moment),
-        Err(refusal) => told(turned_away_line(alloc, name.as_str(), refusal)),
+        Err(refusal) => line_or_stop(turned_away_line(alloc, name.as_str(), refusal)),
     }
 }
 
@@ -374,8 +374,8 @@ fn back_as<K: Keeper, O: Objects>(
     let number = roamer.seq();
     let refused = send_all(alloc, lane, objects, roamer, moment)?;
     match refused {
-        None => told(back_line(alloc, name, &roamer.client, number)),
-        Some(rule) => told(refused_line(alloc, name, &rule)),
+        None => line_or_stop(back_line(alloc, name, &roamer.client, number)),
+        Some(rule) => line_or_stop(refused_line(alloc, name, &rule)),
     }
 }
 
@@ -422,7 +422,7 @@ fn acked_lane<K: Keeper>(
 {
     containers_catch_up();
     hear(alloc, lane, roamer)?;
-    told(acked_line(alloc, name, roamer.stood(), roamer.edits))
+    line_or_stop(acked_line(alloc, name, roamer.stood(), roamer.edits))
 }
 
 /// What a roamer shows.
@@ -452,12 +452,12 @@ fn show_now(alloc: Global, roamer: &Roamer, name: &ScriptName) -> Result<Text, S
     ensures { IsLine (lines.shown_line name.now roamer.now.outbox.heard_to (shown (replay_edits roamer.now.app.channels roamer.now.app.pending))) result }
 {
     let state = roamer.state(alloc)?;
-    told(shown_line(alloc, name.as_str(), roamer.seq(), &state))
+    line_or_stop(shown_line(alloc, name.as_str(), roamer.seq(), &state))
 }
 
 // A roamer's document is open: it was opened for it.
 fn beyond(alloc: Global, document: &DocName) -> Result<Text, Stop>
     ensures { IsLine (lines.turned_away_line document.now TooManyDocuments) result }
 {
-    told(turned_away_line(alloc, document.as_str(), ConnectRefusal::TooManyDocuments))
+    line_or_stop(turned_away_line(alloc, document.as_str(), ConnectRefusal::TooManyDocuments))
 }

@@ -39,7 +39,8 @@ use Rattle.fluid_voice.specs.declared.refusals.ConnectRefusal.{ConnectRefusal}
 use Rattle.fluid_voice.specs.States as states
 use Rattle.fluid_transcript.specs.World.{Document, Container, Name, connection, container, roamer, used_up, World, document, ledger_of, with_entries, Effect, says, grown, changed}
 use Rattle.fluid_transcript.specs.Connections.{voice_named, delivered, closed}
-use Rattle.fluid_transcript.specs.Documents.{scribed_by, is_found, objects_for, reported, checkpointed, checkpoint_of, swept_by}
+use Rattle.fluid_versions.specs.Versions.{is_found}
+use Rattle.fluid_transcript.specs.Documents.{scribed_by, objects_for, reported, checkpointed, checkpoint_of, swept_by}
 use Rattle.fluid_transcript.specs.Containers.{channels, Submitted, submitted, submitting, proposed, Loading, join_for, joining, join_refusal, name_for, load_line, begun_with, begun_from, begun_at, loading_by, load, caught_up, pumped, edited_by, edited, beaten, summarized_by, summarized, visible}
 use Rattle.fluid_transcript.specs.Lines.{stored_line, full_line, large_line, edited_line, beat_line, summarized_line}
 use Rattle.fluid_transcript.specs.Steps.{refusal_as_connection, refusal_as_new}

@@ -1,21 +1,18 @@
 -- The steps of a document: `scribe`, `checkpoint`, `restart`, `reopen`, `sweep`, `count` and `tasks`.
-use Rattle.std.specs.Prelude.{ℕ, nat_le, nat_lt, Bool, false, ◌&&◌, List, [], ◌∷◌, ◌++◌, length, codes, Option, Some, None, if◌then◌else◌}
+use Rattle.std.specs.Prelude.{ℕ, nat_le, nat_lt, Bool, List, [], ◌∷◌, ◌++◌, length, Option, Some, None, if◌then◌else◌}
 use Rattle.std.specs.Option.{option_map_or}
 use Rattle.fluid_types.specs.declared.entries.Raw.TheVariants.{Leave, Report}
 use Rattle.fluid_types.specs.Ledger.{Ledger, order}
 use Rattle.fluid_types.specs.Blobs.{blobs}
 use Rattle.fluid_tree.specs.Object.{object_bytes}
-use Rattle.fluid_tree.specs.declared.object.Object.{Object}
-use Rattle.fluid_tree.specs.declared.object.Object.TheVariants.{Tree}
-use Rattle.fluid_rules.specs.Scribe.{answer, tree_entry, protocol_id}
+use Rattle.fluid_rules.specs.Scribe.{answer}
 use Rattle.fluid_rules.specs.declared.limits.Limits.{Limits}
 use Rattle.fluid_scribe.specs.Jobs.{job}
 use Rattle.fluid_scribe.specs.declared.job.Job.{Job}
-use Rattle.fluid_store.specs.Held.{Held}
 use Rattle.fluid_store.specs.Listed.{object_of, objects}
-use Rattle.fluid_store.specs.Complete.{is_complete}
 use Rattle.fluid_store.specs.Putting.{Putting, Clashing, putting}
 use Rattle.fluid_store.specs.declared.listing.StoredObject.{StoredObject}
+use Rattle.fluid_versions.specs.Versions.{version_tree, is_found}
 use Rattle.fluid_document.specs.Entries.{entries_of}
 use Rattle.fluid_document.specs.Kept.{checkpoint_text}
 use Rattle.fluid_lane.specs.Laws.{first_silent_in}
@@ -24,17 +21,9 @@ use Rattle.fluid_transcript.specs.Lines.{idle_line, answer_line, scribe_clash_li
 
 -- ---- scribe
 
--- the tree object of a version: `.app` with this id, and `.protocol` with these blobs
-abbrev pub version_object : List ℕ → List (List ℕ × List ℕ) → Object
-version_object app blobs = Tree (tree_entry (codes ".app") app ∷ tree_entry (codes ".protocol") (protocol_id blobs) ∷ [])
-
 -- the objects that are put for a version, in this order: the four blobs, the tree of `.protocol`, and the version's
 abbrev pub version_objects : Ledger → Job → (app : List ℕ) → List StoredObject
-version_objects l j app = objects j.protocol ++ object_of (object_bytes (version_object app (blobs (order l) j.reference))) ∷ []
-
--- the tree of a summary is found where the answer depends on it and all of it is held
-abbrev pub is_found : Held → Job → Bool
-is_found held j = j.needs_storage && option_map_or (is_complete held 32) j.app false
+version_objects l j app = objects j.protocol ++ object_of (object_bytes (version_tree app (blobs (order l) j.reference))) ∷ []
 
 -- the objects of the version are put where the tree is found
 abbrev pub objects_for : Ledger → Bool → Job → List StoredObject

@@ -40,7 +40,8 @@ use Rattle.fluid_voice.specs.Ends.Outcome.{ends, clashes}
 use Rattle.fluid_voice.proofs.Each.{each}
 use Rattle.fluid_transcript.specs.World.{Container, World, Document, document, is_open, ledger_of, with_entries, raws_added, farewells, says, grown, does}
 use Rattle.fluid_transcript.specs.Connections.{Hearing, voice_of, hearing, found_by, behind_act, hear_act, hear}
-use Rattle.fluid_transcript.specs.Documents.{scribed_by, is_found, objects_for, reported, checkpoint_of, checkpointed, stored}
+use Rattle.fluid_versions.specs.Versions.{is_found}
+use Rattle.fluid_transcript.specs.Documents.{scribed_by, objects_for, reported, checkpoint_of, checkpointed, stored}
 use Rattle.fluid_transcript.specs.Lines.{full_line, large_line, stored_line}
 use Rattle.fluid_transcript.specs.Containers.{joining, join_refusal, join_for, pumped}
 use Rattle.fluid_transcript.specs.Steps.{refusal, about, effect, beyond, container_of, on_container}

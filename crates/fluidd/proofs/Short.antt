@@ -62,7 +62,8 @@ use Rattle.fluid_voice.specs.Ends.{join_of, joined_by, connect_end, put_under, i
 use Rattle.fluid_voice.specs.Ends.Outcome.{ends, clashes}
 use Rattle.fluid_transcript.specs.World.{Document, Container, Roamer, World, new_document, document, is_open, ledger_of, raws_added, with_entries, farewells, Effect, grown, changed, says, does}
 use Rattle.fluid_transcript.specs.Connections.{Hearing, found_by, behind_act, hear_act, hear, hearing, acts_for, voice_of}
-use Rattle.fluid_transcript.specs.Documents.{is_found, objects_for, scribed_by, reported, swept_by}
+use Rattle.fluid_versions.specs.Versions.{is_found}
+use Rattle.fluid_transcript.specs.Documents.{objects_for, scribed_by, reported, swept_by}
 use Rattle.fluid_transcript.specs.Containers.{id_of, Submitted, submitting, joining, channels, entry_of, join_for, join_refusal, joined_for, edited_by, app_id, head, summarized_by}
 use Rattle.fluid_loader.specs.Submitting.{summarize_tree}
 use Rattle.fluid_transcript.specs.Lines.{turned_away_line, full_line, large_line, stored_line}

@@ -21,9 +21,9 @@ returns-in_err-messages-clause-runs g c =
 
 pub returns-clause-does : goal.returns-clause-does
 returns-clause-does g c = λ limits w d of.
-    tells limits w d c.args.name.now c.messages_from.new.lane c.in_ok-messages.messages.items c.told.result (c.in_ok-messages.ensures.does limits d of)
-    (subst (λ ms. IsLine (line_behind c.args.name.now ms) c.told.result) c.as_slice.ensures.value (c.told.ensures _ c.tasks_line.ensures))
+    tells limits w d c.args.name.now c.messages_from.new.lane c.in_ok-messages.messages.items c.line_or_stop.result (c.in_ok-messages.ensures.does limits d of)
+    (subst (λ ms. IsLine (line_behind c.args.name.now ms) c.line_or_stop.result) c.as_slice.ensures.value (c.line_or_stop.ensures _ c.tasks_line.ensures))
 
 pub returns-clause-runs : goal.returns-clause-runs
 returns-clause-runs g c =
-    line_reads c.args.lane.now c.messages_from.new.lane _ c.told.result c.in_ok-messages.ensures.runs.later c.in_ok-messages.ensures.runs.sides (c.told.ensures _ c.tasks_line.ensures)
+    line_reads c.args.lane.now c.messages_from.new.lane _ c.line_or_stop.result c.in_ok-messages.ensures.runs.later c.in_ok-messages.ensures.runs.sides (c.line_or_stop.ensures _ c.tasks_line.ensures)

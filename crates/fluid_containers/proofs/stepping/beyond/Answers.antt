@@ -5,4 +5,4 @@ use Rattle.fluid_desk.specs.Acting.{IsLine}
 use Rattle.fluid_containers.proofs.stepping.beyond.Goals as goal
 
 pub returns : goal.returns
-returns c = subst (λ n. IsLine (turned_away_line n TooManyDocuments) c.told.result) c.as_str.ensures.bytes (c.told.ensures _ c.turned_away_line.ensures)
+returns c = subst (λ n. IsLine (turned_away_line n TooManyDocuments) c.line_or_stop.result) c.as_str.ensures.bytes (c.line_or_stop.ensures _ c.turned_away_line.ensures)

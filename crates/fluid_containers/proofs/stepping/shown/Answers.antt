@@ -5,5 +5,5 @@ use Rattle.fluid_containers.proofs.stepping.shown.Goals as goal
 
 pub returns : goal.returns
 returns c =
-    subst (λ t. IsLine t c.told.result)
-    (ap (λ n. shown_line c.args.name.now n c.in_ok-state.state) c.seq.ensures ∙ ap (shown_line c.args.name.now c.args.container.now.number) c.in_ok-state.ensures) (c.told.ensures _ c.shown_line.ensures)
+    subst (λ t. IsLine t c.line_or_stop.result)
+    (ap (λ n. shown_line c.args.name.now n c.in_ok-state.state) c.seq.ensures ∙ ap (shown_line c.args.name.now c.args.container.now.number) c.in_ok-state.ensures) (c.line_or_stop.ensures _ c.shown_line.ensures)

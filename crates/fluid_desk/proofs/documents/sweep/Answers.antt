@@ -23,10 +23,10 @@ pub returns-in-Ok-false-clause-does : goal.returns-in-Ok-false-clause-does
 returns-in-Ok-false-clause-does g c = λ w desk at.
     let r = c.in-Ok-false in
     let many = many_of c.args.lanes.now c.ready.new.lanes c.args.name.now c.args.moment r.field-0 r.field-0-test r.ensures.readied in
-    steps_away c.args.lanes.now c.ready.new.lanes w c.args.name.now (step.Sweep c.args.name.now c.args.silence) many.0 c.told.result desk refl refl many.1 (c.told.ensures _ c.turned_away_line.ensures)
+    steps_away c.args.lanes.now c.ready.new.lanes w c.args.name.now (step.Sweep c.args.name.now c.args.silence) many.0 c.line_or_stop.result desk refl refl many.1 (c.line_or_stop.ensures _ c.turned_away_line.ensures)
 
 pub returns-in-Ok-false-clause-runs : goal.returns-in-Ok-false-clause-runs
-returns-in-Ok-false-clause-runs g c = λ before steps run. line_runs before (steps + 1) c.ready.new.lanes _ c.told.result (run_more before steps c.ready.new.lanes (c.in-Ok-false.ensures.runs before steps run)) (c.told.ensures _ c.turned_away_line.ensures)
+returns-in-Ok-false-clause-runs g c = λ before steps run. line_runs before (steps + 1) c.ready.new.lanes _ c.line_or_stop.result (run_more before steps c.ready.new.lanes (c.in-Ok-false.ensures.runs before steps run)) (c.line_or_stop.ensures _ c.turned_away_line.ensures)
 
 pub returns-in-Err-clause-does : goal.returns-in-Err-clause-does
 returns-in-Err-clause-does g c = λ w desk at.

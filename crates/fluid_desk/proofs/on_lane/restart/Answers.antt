@@ -7,11 +7,11 @@ pub returns-in-Ok-clause-does : goal.returns-in-Ok-clause-does
 returns-in-Ok-clause-does g c = λ limits w d of.
     let e = c.in-Ok.ensures in
     restarts limits _ _ w d c.args.name.now c.args.number of tt _ e.goes e.gate e.restarts
-    (c.told.ensures _ (c.restarted_line.ensures _ (c.numbers_of.ensures limits d (stays limits _ _ w d c.args.name.now c.args.number of tt e.goes e.restarts))))
+    (c.line_or_stop.ensures _ (c.restarted_line.ensures _ (c.numbers_of.ensures limits d (stays limits _ _ w d c.args.name.now c.args.number of tt e.goes e.restarts))))
 
 pub returns-in-Ok-clause-runs : goal.returns-in-Ok-clause-runs
 returns-in-Ok-clause-runs g c =
-    record { later = c.in-Ok.ensures.goes.later; sides = omega (arith, c.in-Ok.ensures.goes.sides); ends = told_ends c.args.lane.now c.restart.new.self _ _ (c.told.ensures) }
+    record { later = c.in-Ok.ensures.goes.later; sides = omega (arith, c.in-Ok.ensures.goes.sides); ends = told_ends c.args.lane.now c.restart.new.self _ _ (c.line_or_stop.ensures) }
 
 pub returns-in-Err-clause-does : goal.returns-in-Err-clause-does
 returns-in-Err-clause-does g c = λ limits w d of.

@@ -21,13 +21,13 @@ returns-in-Ok-Some-clause-does g c = λ limits w d of held at.
 pub returns-in-Ok-None-clause-does : goal.returns-in-Ok-None-clause-does
 returns-in-Ok-None-clause-does g c = λ limits w d of held at.
     let j = c.in-Ok-None in
-    idles limits w d c.args.name.now (g.O.Objects.seen c.args.objects.now) (g.O.Objects.seen c.args.objects.now) held c.job.new.self c.told.result (subst (λ s. IsLaneOf limits s d) (sym j.ensures.same) of)
-    (sym (says limits c.args.lane.now d of).job ∙ sym j.ensures.job ∙ j.field-0-is) refl (c.told.ensures _ c.idle_line.ensures)
+    idles limits w d c.args.name.now (g.O.Objects.seen c.args.objects.now) (g.O.Objects.seen c.args.objects.now) held c.job.new.self c.line_or_stop.result (subst (λ s. IsLaneOf limits s d) (sym j.ensures.same) of)
+    (sym (says limits c.args.lane.now d of).job ∙ sym j.ensures.job ∙ j.field-0-is) refl (c.line_or_stop.ensures _ c.idle_line.ensures)
 
 pub returns-in-Ok-None-clause-runs : goal.returns-in-Ok-None-clause-runs
 returns-in-Ok-None-clause-runs g c = record {
   later = omega (arith, ap (λ s. s.keeping.faults) c.in-Ok-None.ensures.same);
   sides = omega (arith, ap (λ s. s.sides) c.in-Ok-None.ensures.same);
   counts = omega arith;
-  ends = told_ends_with c.args.lane.now c.job.new.self _ _ _ c.told.result c.told.ensures;
+  ends = told_ends_with c.args.lane.now c.job.new.self _ _ _ c.line_or_stop.result c.line_or_stop.ensures;
 }

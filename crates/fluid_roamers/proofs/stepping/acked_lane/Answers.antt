@@ -21,11 +21,11 @@ returns-in_err-hear-clause-runs g c =
 
 pub returns-clause-does : goal.returns-clause-does
 returns-clause-does g c = λ limits w d k of stands is.
-    acked_steps c.containers_catch_up.ensures limits w d c.args.name.now k c.args.roamer.now c.hear.new.roamer is stands c.hear.new.lane (c.in_ok-hear.ensures.does limits d is.past of is.outbox) c.told.result
-    (subst (λ n. IsLine (acked_line c.args.name.now n c.hear.new.roamer.edits) c.told.result) c.stood.ensures (c.told.ensures _ c.acked_line.ensures))
+    acked_steps c.containers_catch_up.ensures limits w d c.args.name.now k c.args.roamer.now c.hear.new.roamer is stands c.hear.new.lane (c.in_ok-hear.ensures.does limits d is.past of is.outbox) c.line_or_stop.result
+    (subst (λ n. IsLine (acked_line c.args.name.now n c.hear.new.roamer.edits) c.line_or_stop.result) c.stood.ensures (c.line_or_stop.ensures _ c.acked_line.ensures))
 
 pub returns-clause-runs : goal.returns-clause-runs
-returns-clause-runs g c = reads_line c.args.lane.now c.hear.new.lane _ _ c.told.result c.in_ok-hear.ensures.runs (c.told.ensures _ c.acked_line.ensures)
+returns-clause-runs g c = reads_line c.args.lane.now c.hear.new.lane _ _ c.line_or_stop.result c.in_ok-hear.ensures.runs (c.line_or_stop.ensures _ c.acked_line.ensures)
 
 pub returns-clause-kept : goal.returns-clause-kept
-returns-clause-kept g c = always (IsSendable c.hear.new.roamer.outbox) c.told.result c.in_ok-hear.ensures.kept
+returns-clause-kept g c = always (IsSendable c.hear.new.roamer.outbox) c.line_or_stop.result c.in_ok-hear.ensures.kept

@@ -43,30 +43,30 @@ pub returns-in-None-clause-does : goal.returns-in-None-clause-does
 returns-in-None-clause-does g c = λ limits w d k joined of at left.
     let again = as_client (heard_all (behind_join w d) k) (length d.raws) in
     back_told c.others_leave_containers.ensures c.containers_catch_up.ensures c.containers_load.ensures limits w d c.args.roamer.now k left c.args.client joined c.hear.new.lane c.hear.new.roamer c.join.new.self
-    (λ past stands. c.in_ok-hear.ensures.does limits (joined_to limits w d) past of stands) c.in_ok-join.ensures.does c.args.name.now c.send_all.new.lane c.send_all.new.roamer c.seq-number.result c.told.result
+    (λ past stands. c.in_ok-hear.ensures.does limits (joined_to limits w d) past of stands) c.in_ok-join.ensures.does c.args.name.now c.send_all.new.lane c.send_all.new.roamer c.seq-number.result c.line_or_stop.result
     (λ lane stands roams. rw c.in-None.is at (c.in_ok-refused.ensures.does limits w (with_join w d) again again.client.pending lane at stands refl roams)) c.seq-number.ensures
-    (c.told.ensures _ c.back_line.ensures)
+    (c.line_or_stop.ensures _ c.back_line.ensures)
 
 pub returns-in-None-clause-runs : goal.returns-in-None-clause-runs
 returns-in-None-clause-runs g c =
-    reads_line c.args.lane.now c.send_all.new.lane c.in_ok-refused.refused (back_line c.args.name.now c.send_all.new.roamer.client c.seq-number.result) c.told.result
-    (reads_both c.args.lane.now c.hear.new.lane c.send_all.new.lane _ (Ok c.in_ok-refused.refused) c.in_ok-hear.ensures.runs c.in_ok-refused.ensures.runs) (c.told.ensures _ c.back_line.ensures)
+    reads_line c.args.lane.now c.send_all.new.lane c.in_ok-refused.refused (back_line c.args.name.now c.send_all.new.roamer.client c.seq-number.result) c.line_or_stop.result
+    (reads_both c.args.lane.now c.hear.new.lane c.send_all.new.lane _ (Ok c.in_ok-refused.refused) c.in_ok-hear.ensures.runs c.in_ok-refused.ensures.runs) (c.line_or_stop.ensures _ c.back_line.ensures)
 
 pub returns-in-None-clause-kept : goal.returns-in-None-clause-kept
-returns-in-None-clause-kept g c = always (IsSendable c.send_all.new.roamer.outbox) c.told.result c.in_ok-refused.ensures.kept
+returns-in-None-clause-kept g c = always (IsSendable c.send_all.new.roamer.outbox) c.line_or_stop.result c.in_ok-refused.ensures.kept
 
 pub returns-in-Some-clause-does : goal.returns-in-Some-clause-does
 returns-in-Some-clause-does g c = λ limits w d k joined of at left.
     let again = as_client (heard_all (behind_join w d) k) (length d.raws) in
     back_nacked c.others_leave_containers.ensures c.containers_catch_up.ensures c.containers_load.ensures limits w d c.args.roamer.now k left c.args.client joined c.hear.new.lane c.hear.new.roamer c.join.new.self
-    (λ past stands. c.in_ok-hear.ensures.does limits (joined_to limits w d) past of stands) c.in_ok-join.ensures.does c.args.name.now c.send_all.new.lane c.send_all.new.roamer c.in-Some.rule c.told-in-Some.result
+    (λ past stands. c.in_ok-hear.ensures.does limits (joined_to limits w d) past of stands) c.in_ok-join.ensures.does c.args.name.now c.send_all.new.lane c.send_all.new.roamer c.in-Some.rule c.line_or_stop-in-Some.result
     (λ lane stands roams. rw c.in-Some.is at (c.in_ok-refused.ensures.does limits w (with_join w d) again again.client.pending lane at stands refl roams))
-    (c.told-in-Some.ensures _ c.refused_line.ensures)
+    (c.line_or_stop-in-Some.ensures _ c.refused_line.ensures)
 
 pub returns-in-Some-clause-runs : goal.returns-in-Some-clause-runs
 returns-in-Some-clause-runs g c =
-    reads_line c.args.lane.now c.send_all.new.lane c.in_ok-refused.refused (refused_line c.args.name.now c.in-Some.rule) c.told-in-Some.result
-    (reads_both c.args.lane.now c.hear.new.lane c.send_all.new.lane _ (Ok c.in_ok-refused.refused) c.in_ok-hear.ensures.runs c.in_ok-refused.ensures.runs) (c.told-in-Some.ensures _ c.refused_line.ensures)
+    reads_line c.args.lane.now c.send_all.new.lane c.in_ok-refused.refused (refused_line c.args.name.now c.in-Some.rule) c.line_or_stop-in-Some.result
+    (reads_both c.args.lane.now c.hear.new.lane c.send_all.new.lane _ (Ok c.in_ok-refused.refused) c.in_ok-hear.ensures.runs c.in_ok-refused.ensures.runs) (c.line_or_stop-in-Some.ensures _ c.refused_line.ensures)
 
 pub returns-in-Some-clause-kept : goal.returns-in-Some-clause-kept
-returns-in-Some-clause-kept g c = always (IsSendable c.send_all.new.roamer.outbox) c.told-in-Some.result c.in_ok-refused.ensures.kept
+returns-in-Some-clause-kept g c = always (IsSendable c.send_all.new.roamer.outbox) c.line_or_stop-in-Some.result c.in_ok-refused.ensures.kept

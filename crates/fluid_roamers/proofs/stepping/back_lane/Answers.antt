@@ -46,8 +46,8 @@ pub returns-in-Err-clause-does : goal.returns-in-Err-clause-does
 returns-in-Err-clause-does g c = λ limits w d k of at stands away is.
     let lane = leave_lane limits w d k c.enter.new.lane c.in_ok-id.id c.args.moment _ (c.in_ok-id.ensures ∙ is.container.client_is) at (c.in_ok-enter.ensures.does limits d of) in
     let joined = c.in_ok-joined.ensures.does limits w (left w d k) lane at in
-    back_refused c.others_leave_containers.ensures limits w d c.args.name.now k c.args.roamer.now is stands c.in-Err.refusal c.join.new.lane c.told.result (subst (JoinsAs limits w (left w d k)) c.in-Err.is joined.joins) joined.stands
-    (subst (λ n. IsLine (turned_away_line n c.in-Err.refusal) c.told.result) c.as_str.ensures.bytes (c.told.ensures _ c.turned_away_line.ensures))
+    back_refused c.others_leave_containers.ensures limits w d c.args.name.now k c.args.roamer.now is stands c.in-Err.refusal c.join.new.lane c.line_or_stop.result (subst (JoinsAs limits w (left w d k)) c.in-Err.is joined.joins) joined.stands
+    (subst (λ n. IsLine (turned_away_line n c.in-Err.refusal) c.line_or_stop.result) c.as_str.ensures.bytes (c.line_or_stop.ensures _ c.turned_away_line.ensures))
 
 pub returns-in_err-enter-clause-runs : goal.returns-in_err-enter-clause-runs
 returns-in_err-enter-clause-runs g c =
@@ -65,8 +65,8 @@ returns-in-Ok-clause-runs g c =
 
 pub returns-in-Err-clause-runs : goal.returns-in-Err-clause-runs
 returns-in-Err-clause-runs g c =
-    reads_line c.args.lane.now c.join.new.lane c.in_ok-joined.joined (turned_away_line c.as_str.result.now c.in-Err.refusal) c.told.result
-    (reads_both c.args.lane.now c.enter.new.lane c.join.new.lane _ (Ok c.in_ok-joined.joined) c.in_ok-enter.ensures.runs c.in_ok-joined.ensures.runs) (c.told.ensures _ c.turned_away_line.ensures)
+    reads_line c.args.lane.now c.join.new.lane c.in_ok-joined.joined (turned_away_line c.as_str.result.now c.in-Err.refusal) c.line_or_stop.result
+    (reads_both c.args.lane.now c.enter.new.lane c.join.new.lane _ (Ok c.in_ok-joined.joined) c.in_ok-enter.ensures.runs c.in_ok-joined.ensures.runs) (c.line_or_stop.ensures _ c.turned_away_line.ensures)
 
 pub returns-in-Err-clause-kept : goal.returns-in-Err-clause-kept
-returns-in-Err-clause-kept g c = always (IsSendable c.args.roamer.now.outbox) c.told.result c.requires.kept
+returns-in-Err-clause-kept g c = always (IsSendable c.args.roamer.now.outbox) c.line_or_stop.result c.requires.kept

@@ -15,11 +15,11 @@ use Rattle.fluid_roamers.proofs.stepping.send_said.Goals as goal
 pub returns-then-is_lost-clause-does : goal.returns-then-is_lost-clause-does
 returns-then-is_lost-clause-does g c = λ limits w d k edit of at stands is number.
     let gone = sym (lost_known (ledger_of d) c.args.roamer.now (steps.with_edit k edit) (edit ∷ []) is c.is_lost.result (c.is_lost.ensures.answer is.past is.outbox)) ∙ c.if-is_lost.true in
-    waits limits w d c.args.name.now k edit c.args.lane.now c.args.roamer.now gone of is c.told.result
-    (subst (λ n. IsLine (said_line c.args.name.now n) c.told.result) number (c.told.ensures _ c.said_line.ensures))
+    waits limits w d c.args.name.now k edit c.args.lane.now c.args.roamer.now gone of is c.line_or_stop.result
+    (subst (λ n. IsLine (said_line c.args.name.now n) c.line_or_stop.result) number (c.line_or_stop.ensures _ c.said_line.ensures))
 
 pub returns-then-is_lost-clause-runs : goal.returns-then-is_lost-clause-runs
-returns-then-is_lost-clause-runs g c = reads_alone c.args.lane.now _ c.told.result (c.told.ensures _ c.said_line.ensures)
+returns-then-is_lost-clause-runs g c = reads_alone c.args.lane.now _ c.line_or_stop.result (c.line_or_stop.ensures _ c.said_line.ensures)
 
 pub returns-in_err-sent-clause-does : goal.returns-in_err-sent-clause-does
 returns-in_err-sent-clause-does g c = λ limits w d k edit of at stands is number.
@@ -37,21 +37,21 @@ pub returns-in-Taken-clause-does : goal.returns-in-Taken-clause-does
 returns-in-Taken-clause-does g c = λ limits w d k edit of at stands is number.
     let going = sym (lost_known (ledger_of d) c.args.roamer.now (steps.with_edit k edit) (edit ∷ []) is c.is_lost.result (c.is_lost.ensures.answer is.past is.outbox)) ∙ c.if-is_lost.false in
     sent_so limits w d c.args.name.now k edit c.send.new.lane c.send.new.roamer going None
-    (rw c.in-Taken.is at (c.in_ok-sent.ensures.does limits w d (steps.with_edit k edit) (edit ∷ []) of at (stands_with (ledger_of d) k edit stands) going is)) c.told-in-Taken.result
-    (subst (λ n. IsLine (said_line c.args.name.now n) c.told-in-Taken.result) number (c.told-in-Taken.ensures _ c.said_line-in-Taken.ensures))
+    (rw c.in-Taken.is at (c.in_ok-sent.ensures.does limits w d (steps.with_edit k edit) (edit ∷ []) of at (stands_with (ledger_of d) k edit stands) going is)) c.line_or_stop-in-Taken.result
+    (subst (λ n. IsLine (said_line c.args.name.now n) c.line_or_stop-in-Taken.result) number (c.line_or_stop-in-Taken.ensures _ c.said_line-in-Taken.ensures))
 
 pub returns-in-Taken-clause-runs : goal.returns-in-Taken-clause-runs
-returns-in-Taken-clause-runs g c = reads_line c.args.lane.now c.send.new.lane _ _ c.told-in-Taken.result c.in_ok-sent.ensures.runs (c.told-in-Taken.ensures _ c.said_line-in-Taken.ensures)
+returns-in-Taken-clause-runs g c = reads_line c.args.lane.now c.send.new.lane _ _ c.line_or_stop-in-Taken.result c.in_ok-sent.ensures.runs (c.line_or_stop-in-Taken.ensures _ c.said_line-in-Taken.ensures)
 
 pub returns-in-Refused-clause-does : goal.returns-in-Refused-clause-does
 returns-in-Refused-clause-does g c = λ limits w d k edit of at stands is number.
     let going = sym (lost_known (ledger_of d) c.args.roamer.now (steps.with_edit k edit) (edit ∷ []) is c.is_lost.result (c.is_lost.ensures.answer is.past is.outbox)) ∙ c.if-is_lost.false in
     sent_so limits w d c.args.name.now k edit c.send.new.lane c.send.new.roamer going (Some c.in-Refused.rule)
-    (rw c.in-Refused.is at (c.in_ok-sent.ensures.does limits w d (steps.with_edit k edit) (edit ∷ []) of at (stands_with (ledger_of d) k edit stands) going is)) c.told-in-Refused.result
-    (c.told-in-Refused.ensures _ c.refused_line.ensures)
+    (rw c.in-Refused.is at (c.in_ok-sent.ensures.does limits w d (steps.with_edit k edit) (edit ∷ []) of at (stands_with (ledger_of d) k edit stands) going is)) c.line_or_stop-in-Refused.result
+    (c.line_or_stop-in-Refused.ensures _ c.refused_line.ensures)
 
 pub returns-in-Refused-clause-runs : goal.returns-in-Refused-clause-runs
-returns-in-Refused-clause-runs g c = reads_line c.args.lane.now c.send.new.lane _ _ c.told-in-Refused.result c.in_ok-sent.ensures.runs (c.told-in-Refused.ensures _ c.refused_line.ensures)
+returns-in-Refused-clause-runs g c = reads_line c.args.lane.now c.send.new.lane _ _ c.line_or_stop-in-Refused.result c.in_ok-sent.ensures.runs (c.line_or_stop-in-Refused.ensures _ c.refused_line.ensures)
 
 pub returns-in-Nothing-clause-does : goal.returns-in-Nothing-clause-does
 returns-in-Nothing-clause-does g c = λ limits w d k edit of at stands is number.
@@ -59,16 +59,16 @@ returns-in-Nothing-clause-does g c = λ limits w d k edit of at stands is number
     absurd (one_waits edit (rw c.in-Nothing.is at (c.in_ok-sent.ensures.does limits w d (steps.with_edit k edit) (edit ∷ []) of at (stands_with (ledger_of d) k edit stands) going is)).0)
 
 pub returns-in-Nothing-clause-runs : goal.returns-in-Nothing-clause-runs
-returns-in-Nothing-clause-runs g c = reads_line c.args.lane.now c.send.new.lane _ _ c.told-in-Nothing.result c.in_ok-sent.ensures.runs (c.told-in-Nothing.ensures _ c.said_line-in-Nothing.ensures)
+returns-in-Nothing-clause-runs g c = reads_line c.args.lane.now c.send.new.lane _ _ c.line_or_stop-in-Nothing.result c.in_ok-sent.ensures.runs (c.line_or_stop-in-Nothing.ensures _ c.said_line-in-Nothing.ensures)
 
 pub returns-then-is_lost-clause-kept : goal.returns-then-is_lost-clause-kept
-returns-then-is_lost-clause-kept g c = always (IsSendable c.args.roamer.now.outbox) c.told.result c.requires.kept
+returns-then-is_lost-clause-kept g c = always (IsSendable c.args.roamer.now.outbox) c.line_or_stop.result c.requires.kept
 
 pub returns-in-Nothing-clause-kept : goal.returns-in-Nothing-clause-kept
-returns-in-Nothing-clause-kept g c = always (IsSendable c.send.new.roamer.outbox) c.told-in-Nothing.result c.in_ok-sent.ensures.kept
+returns-in-Nothing-clause-kept g c = always (IsSendable c.send.new.roamer.outbox) c.line_or_stop-in-Nothing.result c.in_ok-sent.ensures.kept
 
 pub returns-in-Taken-clause-kept : goal.returns-in-Taken-clause-kept
-returns-in-Taken-clause-kept g c = always (IsSendable c.send.new.roamer.outbox) c.told-in-Taken.result c.in_ok-sent.ensures.kept
+returns-in-Taken-clause-kept g c = always (IsSendable c.send.new.roamer.outbox) c.line_or_stop-in-Taken.result c.in_ok-sent.ensures.kept
 
 pub returns-in-Refused-clause-kept : goal.returns-in-Refused-clause-kept
-returns-in-Refused-clause-kept g c = always (IsSendable c.send.new.roamer.outbox) c.told-in-Refused.result c.in_ok-sent.ensures.kept
+returns-in-Refused-clause-kept g c = always (IsSendable c.send.new.roamer.outbox) c.line_or_stop-in-Refused.result c.in_ok-sent.ensures.kept
