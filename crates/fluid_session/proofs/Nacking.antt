@@ -51,8 +51,8 @@ of-append : (a b : List Step) → nacks_of (a ++ b) ≡ nacks_of a ++ nacks_of b
 of-append [] b = refl
 of-append (x ∷ a) b = ap (λ l. nacks_given x ++ l) (of-append a b) ∙ sym (append_assoc (nacks_given x) (nacks_of a) (nacks_of b))
 
-in_front : (a b : List Reply) → IsPrefix a b → IsPrefix (nacks_in a) (nacks_in b)
-in_front a b (rest, is) = (nacks_in rest, ap nacks_in is ∙ in-append a rest)
+in_prefix : (a b : List Reply) → IsPrefix a b → IsPrefix (nacks_in a) (nacks_in b)
+in_prefix a b (rest, is) = (nacks_in rest, ap nacks_in is ∙ in-append a rest)
 
 -- ---- what one that is connected is told at once is no nack of an entry, and it isn't connected again
 
@@ -239,7 +239,7 @@ replied_prefix (Some NoMemory) all replies is = is
 round_prefix : (r : Round) → is_connected r.from.voice ≡ true → IsRound r → IsPrefix (nacks_in r.sent) (nacks_of (steps_of_round r))
 round_prefix r joined is =
     subst (λ l. IsPrefix (nacks_in r.sent) l) (round_nacks r joined is)
-    (in_front r.sent (replies_behind r.from.voice (ended r.done))
+    (in_prefix r.sent (replies_behind r.from.voice (ended r.done))
     (prefix_trans r.sent r.heard.replies (replies_behind r.from.voice (ended r.done)) (sent_prefix r.sending r.sent r.heard.replies is.is_sent) (replied_prefix r.heard.fault _ r.heard.replies is.hears_it.replies)))
 
 round_whole : (r : Round) → is_connected r.from.voice ≡ true → IsRound r → r.sending ≡ Ok tt → r.heard.fault ≡ None → nacks_in r.sent ≡ nacks_of (steps_of_round r)

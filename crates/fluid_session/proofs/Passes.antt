@@ -152,10 +152,10 @@ slice-none o n = let none : n - n ≡ 0 = omega arith in ap (λ k. take k (drop 
 
 pub slice-grows : (o more : List Message) (from to : ℕ) → 0 < from → from ≤ to → to ≤ length o + 1 → slice (o ++ more) from to ≡ slice o from to
 slice-grows o more from to first ordered last =
-    let prefix : from - 1 ≤ length o = omega arith in
+    let reached : from - 1 ≤ length o = omega arith in
     let long : length (drop (from - 1) o) ≡ length o - (from - 1) = length-drop (from - 1) o in
     let short : to - from ≤ length (drop (from - 1) o) = omega arith in
-    ap (λ l. take (to - from) l) (drop-append-le (from - 1) o more prefix) ∙ take-append-le (to - from) (drop (from - 1) o) more short
+    ap (λ l. take (to - from) l) (drop-append-le (from - 1) o more reached) ∙ take-append-le (to - from) (drop (from - 1) o) more short
 
 slice-joins : (o : List Message) (a b c : ℕ) → 0 < a → a ≤ b → b ≤ c → slice o a b ++ slice o b c ≡ slice o a c
 slice-joins o a b c first ab bc =

@@ -51,19 +51,19 @@ feed_prefix (brings c ∷ e ∷ es) s t (begins, (is, more)) (well, rest) =
     (prefix_behind (fed c.given) (fed_in (e ∷ es)) (collected_in (e ∷ es)) (feed_prefix (e ∷ es) (behind (brings c) s) t more rest))
 feed_prefix (hears r ∷ e ∷ es) s t (begins, (is, more)) (well, rest) = feed_prefix (e ∷ es) (behind (hears r) s) t more rest
 
-answers_front : (es : List Event) (s t : Stand) → AreEvents s es t → MayBreakLast es → IsPrefix (answered_in es) (owed_in es)
-answers_front [] s t same may = prefix_refl []
-answers_front (brings c ∷ []) s t (begins, (is, more)) may = prefix_refl []
-answers_front (hears r ∷ []) s t (begins, (is, more)) may = prefix_last r.sent r.heard.replies (sent_prefix r.sending r.sent r.heard.replies is.is_sent)
-answers_front (brings c ∷ e ∷ es) s t (begins, (is, more)) (well, rest) = answers_front (e ∷ es) (behind (brings c) s) t more rest
-answers_front (hears r ∷ e ∷ es) s t (begins, (is, more)) (well, rest) =
+answers_prefix : (es : List Event) (s t : Stand) → AreEvents s es t → MayBreakLast es → IsPrefix (answered_in es) (owed_in es)
+answers_prefix [] s t same may = prefix_refl []
+answers_prefix (brings c ∷ []) s t (begins, (is, more)) may = prefix_refl []
+answers_prefix (hears r ∷ []) s t (begins, (is, more)) may = prefix_last r.sent r.heard.replies (sent_prefix r.sending r.sent r.heard.replies is.is_sent)
+answers_prefix (brings c ∷ e ∷ es) s t (begins, (is, more)) (well, rest) = answers_prefix (e ∷ es) (behind (brings c) s) t more rest
+answers_prefix (hears r ∷ e ∷ es) s t (begins, (is, more)) (well, rest) =
     subst (λ l. IsPrefix (l ++ answered_in (e ∷ es)) (owed_in (hears r ∷ e ∷ es))) (sym (sent_whole r.sending r.sent r.heard.replies well.0 is.is_sent))
-    (prefix_behind r.heard.replies (answered_in (e ∷ es)) (owed_in (e ∷ es)) (answers_front (e ∷ es) (behind (hears r) s) t more rest))
+    (prefix_behind r.heard.replies (answered_in (e ∷ es)) (owed_in (e ∷ es)) (answers_prefix (e ∷ es) (behind (hears r) s) t more rest))
 
 pub sends_in_order : (es : List Event) (s t : Stand) → AreEvents s es t → MayBreakLast es → SendsInOrder es
 sends_in_order es s t are may = record {
   feed = feed_prefix es s t are may;
-  answers = answers_front es s t are may;
+  answers = answers_prefix es s t are may;
   all_fed = all_fed es s t are;
   all_answered = all_answered es s t are;
 }

@@ -12,7 +12,7 @@ use std::sync::atomic::{AtomicBool, AtomicU64, Ordering};
 use std::sync::{Arc, Mutex, Wait};
 
 // How many wires of a room are awake at once because of calls: of a small room so many, and of a large one one of so many members,
-// so that who only listens has its share of the cycles beside those who are awake by texts of their own.
+// so that who only listens has its share of the turns beside those who are awake by texts of their own.
 const LEAST_WIDTH: usize = 4;
 
 const MEMBERS_FOR_EACH: usize = 16;

@@ -10,5 +10,5 @@ returns g c = λ l stands.
     let opened = opened_is c.args.self.now l stands in
     let len = c.len.ensures in
     let few = c.if-number-ge-LARGEST.false in
-    let room = c.if-len-ge-LARGEST_DOCUMENTS.false in
+    let room = c.if-len-ge-MOST_DOCUMENTS.false in
     sym (refusal-none l (omega (arith, number, few)) (omega (arith, visits, opened, len, room)))
